@@ -1,0 +1,24 @@
+-- `sparse::put_at` meets its contract: the touch, then the store. Assumes nothing.
+use mathlib.Core.Path.{ap}
+use Rattle.sparse.specs.Scattered.{svOf, putAt}
+use borrow.Author.Needs.{needs}
+use Rattle.sparse.proofs.put_at.Statement.{statement}
+use Rattle.sparse.proofs.put_at.Tie as tie
+
+touch-requires : tie.Need-touch-requires
+touch-requires c κs = search needs
+
+mul-values : tie.Need-mul-values
+mul-values c = search needs
+
+element-write-values : tie.Need-element-write-values
+element-write-values c = search needs
+
+returns : tie.Need-returns
+unfolding putAt
+returns c =
+    let d : tie.After-touch = search in
+    ap (svOf _) (d .touch .ensures)
+
+pub put-at-spec : {M : Type 1} → statement M
+put-at-spec = tie.close (tie.spec touch-requires mul-values element-write-values returns)

@@ -1,0 +1,2 @@
+-- The scattered vector as a definition.
+pub mod Scattered
