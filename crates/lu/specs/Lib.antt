@@ -1,0 +1,2 @@
+-- The public triangle solves, as definitions.
+pub mod Result

@@ -1,0 +1,2 @@
+-- Laws of the tests, for the proofs of all crates.
+pub mod Laws

@@ -1,0 +1,2 @@
+-- What a triangle solve refuses, as tests.
+pub mod Gate

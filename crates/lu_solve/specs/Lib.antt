@@ -1,0 +1,2 @@
+-- Solves of a triangle, sparse and dense, as definitions.
+pub mod Solve

@@ -1,0 +1,314 @@
+-- What the walk's order means. 01: "columns are walked from each listed place. The walk finishes every child of a place before the place itself; children come
+-- in stored order, visited places once". `walk-order`, at the end, says so of the finished places, and that they are exactly what can be reached from the listed
+-- ones. Assumes nothing.
+use mathlib.Core.Path.{_≡_, refl, sym, ap, _∙_, subst}
+use mathlib.Core.List.{List}
+use mathlib.Core.Bool.{Bool, true, false}
+use mathlib.Core.Logic.{_⊎_, inl, inr, ⊎-elim}
+use Prim.Native.Nat.{ℕ, zero, suc, _+_, _<_, _≤_}
+use native.Mathlib.Nat.{le-refl}
+use native.Mathlib.Omega.{arith}
+use lib.ListN.{length, getD, set, length-set, replicate, length-replicate}
+use lib.Seq.{getD-set-same, getD-set-other}
+use Rattle.doubles.specs.Limits.{maxRows}
+use Rattle.doubles.specs.Loop.{run}
+use Rattle.doubles.specs.Lists.{_#_}
+use Rattle.doubles.proofs.Bools.{truth, same?, last?}
+use Rattle.doubles.proofs.Loops.{keeps}
+use Rattle.sparse.specs.Scattered.{trues}
+use Rattle.sparse.proofs.Laws.{trues-set, trues-le, falses, none-set, no-both}
+use Rattle.lu_walk.specs.Walk.{Shape, State, fresh, many, kid, mark, finish, walk, reached, left, Columns, Listed}
+use Rattle.lu_walk.proofs.Laws.{left-pos, left-le, walk-old}
+
+-- q can be reached from p: it is p, or can be reached from a child of p
+pub data Reach (t : Shape) : ℕ → ℕ → Type 0 where
+  here : {p : ℕ} → Reach t p p
+  down : {p q : ℕ} (i : ℕ) → i < many t p → Reach t (kid t p i) q → Reach t p q
+
+-- the place q is finished in s
+pub record Has (s : State) (q : ℕ) : Type 0 where
+  pub at : ℕ
+  pub below : at < s .count
+  pub is : s .done # at ≡ q
+
+-- what was finished stays where it was, and what was marked stays marked
+record Kept (s u : State) : Type 0 where
+  grows : s .count ≤ u .count
+  same : (i : ℕ) → i < s .count → u .done # i ≡ s .done # i
+  stays : (q : ℕ) → getD (s .marks) q false ≡ true → getD (u .marks) q false ≡ true
+
+kept-refl : (s : State) → Kept s s
+kept-refl s = record { grows = omega arith; same = λ i h. refl; stays = λ q h. h }
+
+kept-trans : {s u v : State} → Kept s u → Kept u v → Kept s v
+kept-trans p q =
+    record {
+      grows = omega (arith, p .grows, q .grows);
+      same = λ i h. q .same i (omega (arith, p .grows, h)) ∙ p .same i h;
+      stays = λ r h. q .stays r (p .stays r h);
+    }
+
+has-kept : {s u : State} {q : ℕ} → Kept s u → Has s q → Has u q
+has-kept k h = record { at = h .at; below = omega (arith, k .grows, h .below); is = k .same (h .at) (h .below) ∙ h .is }
+
+mark-stays : (m : List Bool) (p q : ℕ) → p < length m → getD m q false ≡ true → getD (set m p true) q false ≡ true
+mark-stays m p q lt h =
+    ⊎-elim (λ e. ap (λ (x : ℕ). getD (set m p true) x false) e ∙ getD-set-same m p true false lt) (λ f. getD-set-other m p q true false f ∙ h) (same? q p)
+
+module _ (t : Shape) where
+  -- s in the midst of a walk: e places, those of U, are marked and not finished
+  record Inv (e : ℕ) (U : ℕ → Type 0) (s : State) : Type 0 where
+    long : length (s .marks) ≡ maxRows
+    room : length (s .done) ≡ maxRows
+    counted : s .count + e ≤ trues (s .marks)
+    marked : (i : ℕ) → i < s .count → getD (s .marks) (s .done # i) false ≡ true
+    either : (q : ℕ) → getD (s .marks) q false ≡ true → Has s q ⊎ U q
+    apart : (q : ℕ) → U q → Has s q → ⊥
+    once : (i j : ℕ) → i < s .count → j < s .count → s .done # i ≡ s .done # j → i ≡ j
+    order : (i j : ℕ) → i < s .count → j < many t (s .done # i) → (b : ℕ) × (b < i) × (s .done # b ≡ kid t (s .done # i) j)
+
+  -- the open places with p
+  abbrev With : (ℕ → Type 0) → ℕ → ℕ → Type 0
+  With U p q = U q ⊎ (q ≡ p)
+
+  unmarked : {e : ℕ} {U : ℕ → Type 0} {s : State} {p : ℕ} → Inv e U s → getD (s .marks) p false ≡ false → Has s p → ⊥
+  unmarked {e} {U} {s} {p} v new h = no-both (getD (s .marks) p false) (ap (λ (q : ℕ). getD (s .marks) q false) (sym (h .is)) ∙ v .marked (h .at) (h .below)) new
+
+  mark-inv : {e : ℕ} {U : ℕ → Type 0} {s : State} (p : ℕ) → Inv e U s → p < maxRows → getD (s .marks) p false ≡ false → Inv (suc e) (With U p) (mark p s)
+  mark-inv {e} {U} {s} p v lt new =
+      let inside : p < length (s .marks) = omega (arith, v .long) in
+      record {
+        long = length-set (s .marks) p true ∙ v .long;
+        room = v .room;
+        counted = omega (arith, trues-set (s .marks) p inside new, v .counted);
+        marked = λ i h. mark-stays (s .marks) p (s .done # i) inside (v .marked i h);
+        either = λ q h. ⊎-elim
+            (λ w. inr (inr w))
+            (λ w. ⊎-elim (λ g. inl (record { at = g .at; below = g .below; is = g .is })) (λ u. inr (inl u)) (v .either q (sym (getD-set-other (s .marks) p q true false w) ∙ h)))
+            (same? q p);
+        apart = λ q u h.
+            let g : Has s q = record { at = h .at; below = h .below; is = h .is } in
+            ⊎-elim (λ w. v .apart q w g) (λ w. unmarked v (ap (λ (x : ℕ). getD (s .marks) x false) w ∙ new) g) u;
+        once = v .once;
+        order = v .order;
+      }
+
+  -- p, the last of the open places, is finished, where all its children are
+  module _ {e : ℕ} {U : ℕ → Type 0} {s : State} (p : ℕ) (v : Inv (suc e) (With U p) s) (open-p : getD (s .marks) p false ≡ true) (not-U : U p → ⊥)
+      (kids : (j : ℕ) → j < many t p → Has s (kid t p j)) where
+    free : s .count < length (s .done)
+    free = omega (arith, v .counted, trues-le (s .marks), v .long, v .room)
+
+    at-end : set (s .done) (s .count) p # (s .count) ≡ p
+    at-end = getD-set-same (s .done) (s .count) p 0 free
+
+    there : (i : ℕ) → i < s .count → set (s .done) (s .count) p # i ≡ s .done # i
+    there i h = getD-set-other (s .done) (s .count) i p 0 (λ e. omega arith)
+
+    finish-kept : Kept s (finish p s)
+    finish-kept = record { grows = omega arith; same = there; stays = λ q h. h }
+
+    finish-has : Has (finish p s) p
+    finish-has = record { at = s .count; below = omega arith; is = at-end }
+
+    -- p itself was not finished before
+    not-yet : (i : ℕ) → i < s .count → s .done # i ≡ p → ⊥
+    not-yet i h e = v .apart p (inr refl) (record { at = i; below = h; is = e })
+
+    finish-inv : Inv e U (finish p s)
+    finish-inv =
+        record {
+          long = v .long;
+          room = length-set (s .done) (s .count) p ∙ v .room;
+          counted = omega (arith, v .counted);
+          marked = λ i h. ⊎-elim
+              (λ lt. ap (λ (x : ℕ). getD (s .marks) x false) (there i lt) ∙ v .marked i lt)
+              (λ e. ap (λ (x : ℕ). getD (s .marks) (set (s .done) (s .count) p # x) false) e ∙ ap (λ (x : ℕ). getD (s .marks) x false) at-end ∙ open-p)
+              (last? i (s .count) h);
+          either = λ q h. ⊎-elim (λ g. inl (has-kept finish-kept g)) (λ u. ⊎-elim (λ w. inr w) (λ w. inl (rw w finish-has)) u) (v .either q h);
+          apart = λ q u g. ⊎-elim
+              (λ lt. v .apart q (inl u) (record { at = g .at; below = lt; is = sym (there (g .at) lt) ∙ g .is }))
+              (λ e. not-U (rw (sym (g .is) ∙ ap (λ (x : ℕ). set (s .done) (s .count) p # x) e ∙ at-end) at u))
+              (last? (g .at) (s .count) (g .below));
+          once = λ i j hi hj e. once-of i j (last? i (s .count) hi) (last? j (s .count) hj) e;
+          order = λ i j h g. order-of i j (last? i (s .count) h) g;
+        }
+      where
+        once-of : (i j : ℕ) → (i < s .count) ⊎ (i ≡ s .count) → (j < s .count) ⊎ (j ≡ s .count) → finish p s .done # i ≡ finish p s .done # j → i ≡ j
+        once-of i j (inl a) (inl b) e = v .once i j a b (sym (there i a) ∙ e ∙ there j b)
+        once-of i j (inl a) (inr b) e = absurd (not-yet i a (sym (there i a) ∙ e ∙ ap (λ (x : ℕ). set (s .done) (s .count) p # x) b ∙ at-end))
+        once-of i j (inr a) (inl b) e = absurd (not-yet j b (sym (there j b) ∙ sym e ∙ ap (λ (x : ℕ). set (s .done) (s .count) p # x) a ∙ at-end))
+        once-of i j (inr a) (inr b) e = a ∙ sym b
+
+        order-of : (i j : ℕ) → (i < s .count) ⊎ (i ≡ s .count) → j < many t (finish p s .done # i) → (b : ℕ) × (b < i) × (finish p s .done # b ≡ kid t (finish p s .done # i) j)
+        order-of i j (inl a) g =
+            let o = v .order i j a (subst (λ (x : ℕ). j < many t x) (there i a) g) in
+            (o .0, o .1, there (o .0) (omega (arith, o .1, a)) ∙ o .2 ∙ ap (λ (x : ℕ). kid t x j) (sym (there i a)))
+        order-of i j (inr a) g =
+            let at-p : finish p s .done # i ≡ p = ap (λ (x : ℕ). set (s .done) (s .count) p # x) a ∙ at-end in
+            let k = kids j (subst (λ (x : ℕ). j < many t x) at-p g) in
+            (k .at, omega (arith, k .below, a), there (k .at) (k .below) ∙ k .is ∙ ap (λ (x : ℕ). kid t x j) (sym at-p))
+
+  -- what a walk of p from s to u does, in the midst of the open places of U
+  record Done (e : ℕ) (U : ℕ → Type 0) (p : ℕ) (s u : State) : Type 0 where
+    inv : Inv e U u
+    kept : Kept s u
+    has : Has u p
+    reach : (q : ℕ) → getD (u .marks) q false ≡ true → (getD (s .marks) q false ≡ true) ⊎ Reach t p q
+
+  -- every open place lies above p
+  abbrev Above : (ℕ → Type 0) → ℕ → Type 0
+  Above U p = (q : ℕ) → U q → left t p < left t q
+
+  -- f walks the places that are less than d deep
+  abbrev Walks : (ℕ → State → State) → ℕ → Type 1
+  Walks f d = (e : ℕ) (U : ℕ → Type 0) (p : ℕ) (s : State) → Inv e U s → p < t .size → Above U p → left t p < d → Done e U p s (f p s)
+
+  -- the first m of the places g are walked
+  record All (e : ℕ) (U : ℕ → Type 0) (g : ℕ → ℕ) (s : State) (m : ℕ) (u : State) : Type 0 where
+    inv : Inv e U u
+    kept : Kept s u
+    has : (j : ℕ) → j < m → Has u (g j)
+    reach : (q : ℕ) → getD (u .marks) q false ≡ true → (getD (s .marks) q false ≡ true) ⊎ ((j : ℕ) × (j < m) × Reach t (g j) q)
+
+  -- one more of them
+  all-turn : (f : ℕ → State → State) (e : ℕ) (U : ℕ → Type 0) (g : ℕ → ℕ) (s : State) (m : ℕ) (u : State) → All e U g s m u → Done e U (g m) u (f (g m) u) → All e U g s (m + 1) (f (g m) u)
+  all-turn f e U g s m u a d =
+      record {
+        inv = d .inv;
+        kept = kept-trans (a .kept) (d .kept);
+        has = λ j h. ⊎-elim (λ l. has-kept (d .kept) (a .has j l)) (λ q. rw q (d .has)) (last? j m h);
+        reach = λ q h. ⊎-elim
+            (λ old. ⊎-elim (λ w. inl w) (λ w. inr (w .0, omega (arith, w .1), w .2)) (a .reach q old))
+            (λ new. inr (m, omega arith, new))
+            (d .reach q h);
+      }
+
+  run-walks : (f : ℕ → State → State) (d : ℕ) → Walks f d → (e : ℕ) (U : ℕ → Type 0) (g : ℕ → ℕ) (n : ℕ) (s : State) → Inv e U s
+      → ((j : ℕ) → j < n → g j < t .size) → ((j : ℕ) → j < n → Above U (g j)) → ((j : ℕ) → j < n → left t (g j) < d) → All e U g s n (run (λ i. f (g i)) n s)
+  run-walks f d w e U g n s v inside above small =
+      keeps (λ i. f (g i)) s (All e U g s) n (λ j u h a. all-turn f e U g s j u a (w e U (g j) u (a .inv) (inside j h) (above j h) (small j h)))
+      (record { inv = v; kept = kept-refl s; has = λ j h. absurd (omega arith); reach = λ q h. inl h }) n (le-refl n)
+
+  module _ (c : Columns t) where
+    -- one place: where a walk k deep is known of the places below it
+    module _ (k : ℕ) (ih : Walks (walk k t) (suc k)) (e : ℕ) (U : ℕ → Type 0) (p : ℕ) (s : State) (v : Inv e U s) (lt : p < t .size) (above : Above U p)
+        (small : left t p < suc (suc k)) where
+      old : getD (s .marks) p false ≡ true → Done e U p s (walk (suc k) t p s)
+      old m = rw (walk-old (suc k) t p s m) (record {
+        inv = v;
+        kept = kept-refl s;
+        has = ⊎-elim (λ h. h) (λ u. absurd (omega (arith, above p u))) (v .either p m);
+        reach = λ q h. inl h;
+      })
+
+      inside : p < length (s .marks)
+      inside = omega (arith, v .long, lt, c .small)
+
+      mark-kept : Kept s (mark p s)
+      mark-kept = record { grows = omega arith; same = λ i h. refl; stays = λ q h. mark-stays (s .marks) p q inside h }
+
+      not-U : U p → ⊥
+      not-U u = omega (arith, above p u)
+
+      abbrev end : State
+      end = run (λ i. walk k t (kid t p i)) (many t p) (mark p s)
+
+      module _ (m : getD (s .marks) p false ≡ false) where
+        all : All (suc e) (With U p) (kid t p) (mark p s) (many t p) end
+        all = run-walks (walk k t) (suc k) ih (suc e) (With U p) (kid t p) (many t p) (mark p s) (mark-inv p v (omega (arith, lt, c .small)) m)
+            (λ j h. c .inside p j lt h)
+            (λ j h q u. ⊎-elim (λ w. omega (arith, c .falls p j lt h, above q w)) (λ w. rw w (c .falls p j lt h)) u)
+            (λ j h. omega (arith, c .falls p j lt h, small))
+
+        still : getD (end .marks) p false ≡ true
+        still = all .kept .stays p (getD-set-same (s .marks) p true false inside)
+
+        found : (q : ℕ) → getD (end .marks) q false ≡ true → (getD (s .marks) q false ≡ true) ⊎ Reach t p q
+        found q h = ⊎-elim
+            (λ w. ⊎-elim (λ x. inr (rw x here)) (λ x. inl (sym (getD-set-other (s .marks) p q true false x) ∙ w)) (same? q p))
+            (λ w. inr (down (w .0) (w .1) (w .2)))
+            (all .reach q h)
+
+        abbrev finished : State
+        finished = finish p end
+
+        fresh-done : Done e U p s finished
+        fresh-done = record {
+          inv = finish-inv p (all .inv) still not-U (all .has);
+          kept = kept-trans mark-kept (kept-trans (all .kept) (finish-kept p (all .inv) still not-U (all .has)));
+          has = finish-has p (all .inv) still not-U (all .has);
+          reach = found;
+        }
+
+        unfolded : walk (suc k) t p s ≡ finished
+        unfolding walk
+        unfolded = rw m refl
+
+        new : Done e U p s (walk (suc k) t p s)
+        new = subst (Done e U p s) (sym unfolded) fresh-done
+
+      step : Done e U p s (walk (suc k) t p s)
+      step = ⊎-elim old new (truth (getD (s .marks) p false))
+
+    walk-walks : (k : ℕ) → Walks (walk k t) (suc k)
+    walk-walks zero e U p s v lt above small = absurd (omega (arith, left-pos t p lt))
+    walk-walks (suc k) e U p s v lt above small = step k (walk-walks k) e U p s v lt above small
+
+    -- nothing is marked and nothing finished: where a walk begins
+    abbrev None : ℕ → Type 0
+    None q = ⊥
+
+    off : (q : ℕ) → getD (fresh .marks) q false ≡ false
+    off q = none-set (replicate maxRows false) (falses maxRows) q
+
+    begins : Inv 0 None fresh
+    begins = record {
+      long = length-replicate maxRows false;
+      room = length-replicate {A = ℕ} maxRows 0;
+      counted = omega arith;
+      marked = λ i h. absurd (omega arith);
+      either = λ q h. absurd (no-both (getD (fresh .marks) q false) h (off q));
+      apart = λ q u h. absurd u;
+      once = λ i j h g e. absurd (omega arith);
+      order = λ i j h g. absurd (omega arith);
+    }
+
+    all-listed : (l : List ℕ) (n : ℕ) → Listed t l n → All 0 None (λ i. l # i) fresh n (reached t l n fresh)
+    unfolding reached
+    all-listed l n r =
+        run-walks (walk (t .size) t) (suc (t .size)) (walk-walks (t .size)) 0 None (λ i. l # i) n fresh begins (r .places) (λ j h q u. absurd u)
+        (λ j h. omega (arith, left-le t (l # j) (r .places j h)))
+
+-- The finished places of a walk from the first n places of l.
+pub record Ordered (t : Shape) (l : List ℕ) (n : ℕ) (s : State) : Type 0 where
+  -- "The walk finishes every child of a place before the place itself": the j-th child of the i-th finished place stands at an earlier b
+  pub children-first : (i j : ℕ) → i < s .count → j < many t (s .done # i) → (b : ℕ) × (b < i) × (s .done # b ≡ kid t (s .done # i) j)
+  -- "visited places once"
+  pub none-twice : (i j : ℕ) → i < s .count → j < s .count → s .done # i ≡ s .done # j → i ≡ j
+  -- "columns are walked from each listed place": only what a listed place reaches, and all of it
+  pub only-reached : (i : ℕ) → i < s .count → (j : ℕ) × (j < n) × Reach t (l # j) (s .done # i)
+  pub all-reached : (j q : ℕ) → j < n → Reach t (l # j) q → Has s q
+
+module _ (t : Shape) (l : List ℕ) (n : ℕ) (c : Columns t) (r : Listed t l n) where
+  abbrev ended : State
+  ended = reached t l n fresh
+
+  onward : {p q : ℕ} → Has ended p → Reach t p q → Has ended q
+  onward h here = h
+  onward {p} {q} h (down i g w) = onward child w
+    where
+      child : Has ended (kid t p i)
+      child =
+          let o = all-listed t c l n r .inv .order (h .at) i (h .below) (subst (λ (x : ℕ). i < many t x) (sym (h .is)) g) in
+          record { at = o .0; below = omega (arith, o .1, h .below); is = o .2 ∙ ap (λ (x : ℕ). kid t x i) (h .is) }
+
+  pub walk-order : Ordered t l n ended
+  walk-order =
+      let a = all-listed t c l n r in
+      record {
+        children-first = a .inv .order;
+        none-twice = a .inv .once;
+        only-reached = λ i h. ⊎-elim (λ w. absurd (no-both (getD (fresh .marks) (ended .done # i) false) w (off t c (ended .done # i)))) (λ w. w) (a .reach (ended .done # i) (a .inv .marked i h));
+        all-reached = λ j q h w. onward (a .has j h) w;
+      }
