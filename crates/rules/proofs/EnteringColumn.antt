@@ -1,0 +1,164 @@
+-- What the choice of the entering column means, said apart from its loop. Assumes nothing.
+use mathlib.Core.Path.{_≡_, refl, sym, ap, _∙_, subst}
+use mathlib.Core.Bool.{Bool, true, false, not, _&&_, _||_}
+use mathlib.Core.Logic.{_↔_}
+use Prim.Native.Nat.{ℕ, _<_}
+use native.Mathlib.Omega.{arith}
+use borrow.Author.Tests.{lt-ltb, le-ltb, not-true}
+use lib.Dec.{ltb}
+use lib.Ieee.{Float, nan, inf, fin, mul, div, lt, le, neg, isNan, ofBits}
+use Rattle.doubles.specs.Num.{_⊖_, _⊗_, _⊘_, eps, -inf, size}
+use Rattle.doubles.specs.Lists.{_!_, _#_}
+use Rattle.doubles.proofs.Tests.{not-both, false-by}
+use Rattle.doubles.proofs.Order.{lt-number, lt-le-trans, le-total, le-not-lt}
+use Rattle.doubles.proofs.Largest.{Best, kept, took, best, above, atLeast, by-above, FirstLargest, only-one}
+use Rattle.rules.specs.Plan.{Problem, Workspace, nOf, flagsOf}
+use Rattle.rules.specs.Choose.{mayEnter, scoreOf, passesFilter, scoreAt, Best as Column, bestOf, betterTurn, bestColumn, otherVal, enteringOf, choose}
+use Rattle.rules.specs.declared.NonBasicVarState.{NonBasicVarState}
+use Rattle.rules.specs.declared.Entering.{Entering}
+use Rattle.rules.specs.declared.Choice.{Choice}
+use Rattle.rules.specs.declared.Choice.the-variants.{Enters, Nothing}
+
+-- ---- the filter. 01: "Filter as shown": at its lower bound a column enters only with a price of at most -EPS, at its upper bound only with one of at least EPS
+pub record MayEnter (f : NonBasicVarState) (price : Float) : Type 0 where
+  pub lower : f .«at_min» ≡ true → le price (neg eps) ≡ true
+  pub upper : f .«at_max» ≡ true → le eps price ≡ true
+
+neither : (a x b y : Bool) → not ((a && x) || (b && y)) ≡ true ↔ ((a ≡ true → x ≡ false) × (b ≡ true → y ≡ false))
+neither false x false y = (λ h. (λ p. cc, λ p. cc), λ h. refl)
+neither false x true y = (λ h. (λ p. cc, λ p. not-true y h), λ h. rw (h .1 refl))
+neither true false false y = (λ h. (λ p. refl, λ p. cc), λ h. refl)
+neither true false true y = (λ h. (λ p. refl, λ p. not-true y h), λ h. rw (h .1 refl))
+neither true true b y = (λ h. absurd (not-both h refl), λ h. absurd (not-both refl (h .0 refl)))
+
+eps-number : isNan eps ≡ false
+unfolding isNan ofBits
+eps-number = refl
+
+minus-eps-number : isNan (neg eps) ≡ false
+unfolding isNan neg ofBits
+minus-eps-number = refl
+
+pub filter-means : (f : NonBasicVarState) (price : Float) → isNan price ≡ false → mayEnter f price ≡ true ↔ MayEnter f price
+unfolding mayEnter
+filter-means f price p =
+    let n = neither (f .«at_min») (lt (neg eps) price) (f .«at_max») (lt price eps) in (
+      λ h.
+          let b = n .0 h in
+          record { lower = λ q. le-total (neg eps) price minus-eps-number p (b .0 q); upper = λ q. le-total price eps p eps-number (b .1 q) },
+      λ m. n .1 (λ q. le-not-lt price (neg eps) (m .lower q), λ q. le-not-lt eps price (m .upper q)),
+    )
+
+-- a column at both bounds, as a fixed one is, never enters
+pub fixed-never : (f : NonBasicVarState) (price : Float) → isNan price ≡ false → f .«at_min» ≡ true → f .«at_max» ≡ true → mayEnter f price ≡ false
+fixed-never f price p a b =
+    false-by
+    (λ h.
+    let m = filter-means f price p .0 h in
+    not-both (lt-le-trans (neg eps) eps price signs (m .upper b)) (le-not-lt price (neg eps) (m .lower a)))
+  where
+    signs : lt (neg eps) eps ≡ true
+    signs = unfold lt neg ofBits in refl
+
+-- a column at neither bound always may
+pub free-always : (f : NonBasicVarState) (price : Float) → f .«at_min» ≡ false → f .«at_max» ≡ false → mayEnter f price ≡ true
+unfolding mayEnter
+free-always f price a b = rw (a, b)
+
+-- "A price of exactly -EPS at the lower bound enters"
+pub at-eps-enters : mayEnter (record { «at_min» = true; «at_max» = false }) (neg eps) ≡ true
+unfolding mayEnter lt neg ofBits
+at-eps-enters = refl
+
+-- ---- the choice
+-- 01: "The entering column travels with its price, score and distance"; "score is price * price / norm"; "strictly largest wins, first on a tie":
+-- it passes the filter, no column that passes has a larger score, and none before it an equal one
+pub record IsEntering (P : Problem) (w : Workspace) (e : Entering) : Type 0 where
+  pub wins : FirstLargest (passesFilter w) (scoreAt w) (nOf P) (e .col)
+  pub scores : lt -inf (scoreAt w (e .col)) ≡ true
+  pub price-is : e .price ≡ w .nbVarObjCoeffs ! e .col
+  pub score-is : e .score ≡ w .nbVarObjCoeffs ! e .col ⊗ w .nbVarObjCoeffs ! e .col ⊘ w .primalEdgeSqNorms ! e .col
+  pub distance-is : e .distance ≡ size (otherVal P w (e .col) ⊖ w .nbVarVals ! e .col)
+
+-- a NaN scores NaN, which isn't above -inf
+price-number : (price norm : Float) → lt -inf (scoreOf price norm) ≡ true → isNan price ≡ false
+unfolding scoreOf mul div lt isNan
+price-number nan norm h = cc
+price-number (inf s) norm h = refl
+price-number (fin s m e) norm h = refl
+
+-- so the filter's words hold of the entering column, whatever the prices are
+pub entering-allowed : (P : Problem) (w : Workspace) (e : Entering) → IsEntering P w e → MayEnter (flagsOf (w .nbVarStates # e .col)) (e .price)
+entering-allowed P w e a =
+    rw (a .price-is) (filter-means (flagsOf (w .nbVarStates # e .col)) (w .nbVarObjCoeffs ! e .col) (price-number _ _ (a .scores)) .0 (a .wins .passes))
+
+-- no column that passes the filter scores above -inf
+abbrev pub NoneEnters : Problem → Workspace → Type 0
+NoneEnters P w = (c : ℕ) → c < nOf P → passesFilter w c ≡ true → lt -inf (scoreAt w c) ≡ false
+
+module _ (P : Problem) (w : Workspace) where
+  -- its column settles it, and no other column is one
+  abbrev standing : ℕ → Entering
+  standing c = record { col = c; price = w .nbVarObjCoeffs ! c; score = scoreAt w c; distance = size (otherVal P w c ⊖ w .nbVarVals ! c) }
+
+  settled : (e : Entering) → IsEntering P w e → e ≡ standing (e .col)
+  unfolding scoreOf
+  settled e a =
+      let whole : _≡_ {A = Entering} (record { col = e .col; price = e .price; score = e .score; distance = e .distance }) (standing (e .col)) =
+      cc (a .price-is, a .score-is, a .distance-is) in
+      whole
+
+  same : (e f : Entering) → IsEntering P w e → IsEntering P w f → e ≡ f
+  same e f a b =
+      let c : e .col ≡ f .col = only-one (a .wins) (b .wins) (lt-number _ _ (a .scores)) (lt-number _ _ (b .scores)) in
+      settled e a ∙ ap standing c ∙ sym (settled f b)
+
+  not-none : (e : Entering) → IsEntering P w e → NoneEnters P w → ⊥
+  not-none e a h = not-both (a .scores) (h (e .col) (a .wins .inside) (a .wins .passes))
+
+  -- one of the two holds of what `choose` gives
+  data Chosen : Choice → Type 0 where
+    enters : (e : Entering) → IsEntering P w e → Chosen (Enters e)
+    none : NoneEnters P w → Chosen Nothing
+
+  abbrev Kept : Column → Type 0
+  Kept b = Best above atLeast (passesFilter w) (scoreAt w) (λ c. bestOf c (scoreAt w c)) -inf (bestOf (nOf P) -inf) (nOf P) b
+
+  found : Kept (bestColumn (nOf P) w)
+  unfolding betterTurn bestColumn
+  found = best by-above (passesFilter w) (scoreAt w) (λ b. b .score) (λ c. bestOf c (scoreAt w c)) (λ c. refl) (betterTurn w) (λ c b. refl) (bestOf (nOf P) -inf) (nOf P)
+
+  chosen : Chosen (choose P w)
+  unfolding choose enteringOf scoreOf
+  chosen = go (bestColumn (nOf P) w) found
+    where
+      go : (b : Column) → Kept b → Chosen (elim (ltb (b .col) (nOf P)) [ true ↦ Enters (enteringOf P w b) | false ↦ Nothing ])
+      go _ (kept h) = rw (le-ltb (nOf P) (nOf P) (omega arith)) (none h)
+      go _ (took c l t a h f) =
+          rw (lt-ltb c (nOf P) l)
+          (enters (enteringOf P w (bestOf c (scoreAt w c)))
+          (record { wins = record { inside = l; passes = t; largest = h; first = f }; scores = a; price-is = refl; score-is = refl; distance-is = refl }))
+
+  by-enters : {x : Choice} → Chosen x → (e : Entering) → x ≡ Enters e → IsEntering P w e
+  by-enters (enters f a) e q = let z : f ≡ e = cc in subst (IsEntering P w) z a
+  by-enters (none h) e q = absurd (let z : _≡_ {A = ℕ} 0 1 = cc in omega arith)
+
+  by-nothing : {x : Choice} → Chosen x → x ≡ Nothing → NoneEnters P w
+  by-nothing (enters f a) q = absurd (let z : _≡_ {A = ℕ} 0 1 = cc in omega arith)
+  by-nothing (none h) q = h
+
+  gives-enters : {x : Choice} → Chosen x → (e : Entering) → IsEntering P w e → x ≡ Enters e
+  gives-enters (enters f a) e b = ap Enters (same f e a b)
+  gives-enters (none h) e b = absurd (not-none e b h)
+
+  gives-nothing : {x : Choice} → Chosen x → NoneEnters P w → x ≡ Nothing
+  gives-nothing (enters f a) h = absurd (not-none f a h)
+  gives-nothing (none g) h = refl
+
+  -- 01: "strictly largest wins, first on a tie"
+  pub enters-exactly : (e : Entering) → choose P w ≡ Enters e ↔ IsEntering P w e
+  enters-exactly e = (by-enters chosen e, gives-enters chosen e)
+
+  -- 01: "entering column (none: final check)": none enters exactly when no column that passes the filter scores above -inf
+  pub nothing-exactly : choose P w ≡ Nothing ↔ NoneEnters P w
+  nothing-exactly = (by-nothing chosen, gives-nothing chosen)

@@ -1,0 +1,232 @@
+-- A step keeps the invariants. Assumes nothing.
+use mathlib.Core.Path.{_≡_, refl, _∙_}
+use mathlib.Core.Bool.{true}
+use mathlib.Core.List.{List}
+use mathlib.Core.Logic.{⊎-elim}
+use Prim.Native.Nat.{ℕ, _+_, _<_, _≤_}
+use native.Mathlib.Nat.{le-refl}
+use native.Mathlib.Numerals.{add-one}
+use native.Mathlib.Omega.{arith}
+use lib.ListN.{length, set, length-set}
+use lib.Ieee.{Float, nan}
+use borrow.Author.Tests.{ltb-true, leb-true}
+use Rattle.doubles.specs.Num.{finite}
+use Rattle.doubles.specs.Limits.{etaColumns, etaEntries}
+use Rattle.doubles.specs.Lists.{_!_, _#_}
+use Rattle.doubles.proofs.Loops.{keeps, both-true, all-at}
+use Rattle.sparse.specs.Scattered.{Sv, listed}
+use Rattle.rules.specs.Plan.{Problem, State, Workspace, nOf, mOf, varCell}
+use Rattle.rules.specs.Choose.{choose}
+use Rattle.rules.specs.Basis.{etaUsed, etaFits, etaEntryAt, rowCoeffsOf, helperOf}
+use Rattle.rules.specs.Pivot.{storeTurn, stored, storesFinite, movedVal, newVal, newPrice, newNorm, etaFinite, flipFinite, flipped, exchangeFinite, exchanged}
+use Rattle.rules.specs.Step.{step, moved}
+use Rattle.rules.specs.declared.Entering.{Entering}
+use Rattle.rules.specs.declared.Choice.the-variants.{Enters}
+use Rattle.rules.specs.declared.PivotInfo.{PivotInfo}
+use Rattle.rules.specs.Invariant.{ProblemFits, Lengths, Maps, Numbers, Fits, Sound, Vector}
+use Rattle.rules.proofs.Lists.{set-either, spliced-long, spliced-all}
+use Rattle.rules.proofs.Vectors.{column-vector}
+use Rattle.rules.proofs.Maps.{exchange-maps}
+use Rattle.rules.proofs.Store.{afterPush, pushed, pushed-store, starts-last}
+use Rattle.rules.proofs.Moved.{enters-below, stepColumn, Flips, Exchanges, moves}
+
+-- ---- storing at the listed places
+module _ (c : Sv) (f : ℕ → Float) (l : List Float) where
+  pub stored-long : length (stored c f l) ≡ length l
+  unfolding stored
+  stored-long =
+      keeps (storeTurn c f) l (λ _ t. length t ≡ length l) (c .pat .count) (λ k t _ e. length-set t (listed c k) (f (listed c k)) ∙ e) refl (c .pat .count)
+      (le-refl (c .pat .count))
+
+  stored-finite : storesFinite c f ≡ true → (j : ℕ) → finite (l ! j) ≡ true → finite (stored c f l ! j) ≡ true
+  unfolding stored storesFinite
+  stored-finite p j q =
+      keeps (storeTurn c f) l (λ _ t. finite (t ! j) ≡ true) (c .pat .count)
+      (λ k t h e. set-either (λ x. finite x ≡ true) t (listed c k) (f (listed c k)) nan j (all-at (λ k. finite (f (listed c k))) (c .pat .count) p k h) e) q
+      (c .pat .count) (le-refl (c .pat .count))
+
+set-finite : (l : List Float) (i : ℕ) (x : Float) (j : ℕ) → finite x ≡ true → finite (l ! j) ≡ true → finite (set l i x ! j) ≡ true
+set-finite l i x j a b = set-either (λ y. finite y ≡ true) l i x nan j a b
+
+-- ---- a flip
+module _ (P : Problem) (s : State) (e : Entering) (c : Sv) (value diff : Float) where
+  flip-lengths : Lengths P (s .ws) → Lengths P (flipped P s e c value diff .ws)
+  unfolding flipped
+  flip-lengths l =
+      record {
+        basicVars-long = l .basicVars-long;
+        basicVarVals-long = simp stored-long (l .basicVarVals-long);
+        nbVars-long = l .nbVars-long;
+        nbVarVals-long = simp length-set (l .nbVarVals-long);
+        nbVarObjCoeffs-long = l .nbVarObjCoeffs-long;
+        primalEdgeSqNorms-long = l .primalEdgeSqNorms-long;
+        nbVarStates-long = simp length-set (l .nbVarStates-long);
+        varStates-long = l .varStates-long;
+        leaving-long = l .leaving-long;
+        starts-long = l .starts-long;
+        rows-long = l .rows-long;
+        coeffs-long = l .coeffs-long;
+      }
+
+  flip-maps : Maps P (s .ws) → Maps P (flipped P s e c value diff .ws)
+  unfolding flipped
+  flip-maps g =
+      record {
+        place = λ k h. let p = g .place k h in record { var = p .var; back = p .back };
+        row = λ r h. let p = g .row r h in record { var = p .var; back = p .back };
+        variable = λ v h. let p = g .variable v h in record { cell = p .cell; non-basic = p .non-basic; basic = p .basic };
+      }
+
+  flip-fits : Fits P s → Fits P (flipped P s e c value diff)
+  unfolding flipped
+  flip-fits f = record { lengths = flip-lengths (f .lengths); maps = flip-maps (f .maps); store = f .store }
+
+  flip-numbers : flipFinite P s e c value diff ≡ true → Numbers P s → Numbers P (flipped P s e c value diff)
+  unfolding flipped flipFinite
+  flip-numbers p f =
+      let b = both-true _ _ p in
+      let a = both-true _ _ (b .0) in
+      record {
+        objective = a .0;
+        basicVal = λ r h. stored-finite c (movedVal (s .ws) c diff) (s .ws .basicVarVals) (b .1) r (f .basicVal r h);
+        nbVal = λ k h. set-finite (s .ws .nbVarVals) (e .col) value k (a .1) (f .nbVal k h);
+        price = f .price;
+        norm = f .norm;
+        eta = f .eta;
+      }
+
+-- ---- an exchange
+module _ (P : Problem) (s : State) (f : Fits P s) (e : Entering) (c rowSv helper : Sv) (value diff : Float) (row : ℕ) (coeff leaving : Float) (hc : e .col < nOf P)
+    (hr : row < mOf P) (v : Vector (mOf P) c) (room : etaFits s (c .pat .count) ≡ true) where
+  abbrev t : State
+  t = exchanged P s e c rowSv helper value diff row coeff leaving
+
+  -- there is room for the column
+  pub record Room : Type 0 where
+    pub columns-left : s .etaCount < etaColumns
+    pub entries-left : etaUsed s + c .pat .count ≤ etaEntries
+
+  pub has-room : Room
+  unfolding etaFits
+  has-room = let a = both-true _ _ room in record { columns-left = ltb-true _ _ (a .0); entries-left = leb-true _ _ (a .1) }
+
+  abbrev w : Workspace
+  w = s .ws
+
+  abbrev used : ℕ
+  used = etaUsed s
+
+  abbrev more : ℕ
+  more = c .pat .count
+
+  pub etas-after : t .ws .etas ≡ afterPush c row coeff (s .etaCount) (w .etas)
+  unfolding exchanged
+  etas-after = pushed P (w .etas) (s .etaCount) (f .store) (f .lengths .rows-long) (f .lengths .coeffs-long) c row coeff (has-room .entries-left)
+
+  exchange-lengths : Lengths P (t .ws)
+  unfolding exchanged
+  exchange-lengths =
+      let l = f .lengths in
+      let q = has-room .entries-left in
+      record {
+        basicVars-long = simp length-set (l .basicVars-long);
+        basicVarVals-long = simp stored-long (l .basicVarVals-long);
+        nbVars-long = simp length-set (l .nbVars-long);
+        nbVarVals-long = simp length-set (l .nbVarVals-long);
+        nbVarObjCoeffs-long = simp stored-long (l .nbVarObjCoeffs-long);
+        primalEdgeSqNorms-long = simp stored-long (l .primalEdgeSqNorms-long);
+        nbVarStates-long = simp length-set (l .nbVarStates-long);
+        varStates-long = simp length-set (l .varStates-long);
+        leaving-long = rw etas-after (simp length-set (l .leaving-long));
+        starts-long = rw etas-after (simp length-set (l .starts-long));
+        rows-long = rw etas-after (omega (arith, spliced-long used more (listed c) (w .etas .rows) (omega arith)));
+        coeffs-long = rw etas-after (omega (arith, spliced-long used more (etaEntryAt c row coeff) (w .etas .coeffs) (omega arith)));
+      }
+
+  pub exchange-fits : Fits P t
+  unfolding exchanged varCell
+  exchange-fits =
+      let l = f .lengths in
+      let q = has-room in
+      record {
+        lengths = exchange-lengths;
+        maps = exchange-maps P w l (f .maps) (e .col) row hc hr (t .ws) refl refl refl;
+        store = rw etas-after
+            (pushed-store P (w .etas) (s .etaCount) (f .store) (l .rows-long) (l .coeffs-long) c row coeff (q .entries-left) (omega arith) (omega arith) v hr (q .columns-left));
+      }
+
+  -- the entries in use
+  pub used-after : etaUsed t ≡ used + more
+  unfolding exchanged
+  used-after =
+      let l = f .lengths in
+      let q = has-room in
+      rw (etas-after, ← add-one (s .etaCount))
+      (starts-last P (w .etas) (s .etaCount) (f .store) (l .rows-long) (l .coeffs-long) c row coeff (q .entries-left) (omega arith))
+
+  etas-finite : etaFinite c row coeff ≡ true → ((i : ℕ) → i < used → finite (w .etas .coeffs ! i) ≡ true) → (i : ℕ) → i < etaUsed t → finite (t .ws .etas .coeffs ! i) ≡ true
+  unfolding etaFinite
+  etas-finite p g i h =
+      let q = has-room in
+      let l = f .lengths in
+      rw etas-after
+      (spliced-all used more (etaEntryAt c row coeff) (w .etas .coeffs) (omega arith) (λ x. finite x ≡ true) nan g (all-at (λ k. finite (etaEntryAt c row coeff k)) more p) i
+      (omega (arith, used-after)))
+
+  exchange-numbers : exchangeFinite P s e c rowSv helper value diff row coeff leaving ≡ true → Numbers P s → Numbers P t
+  unfolding exchanged exchangeFinite
+  exchange-numbers p g =
+      let b5 = both-true _ _ p in
+      let b4 = both-true _ _ (b5 .0) in
+      let b3 = both-true _ _ (b4 .0) in
+      let b2 = both-true _ _ (b3 .0) in
+      let b1 = both-true _ _ (b2 .0) in
+      record {
+        objective = b1 .0;
+        basicVal = λ r h. stored-finite c (newVal w c value diff row) (w .basicVarVals) (b1 .1) r (g .basicVal r h);
+        nbVal = λ k h. set-finite (w .nbVarVals) (e .col) leaving k (b2 .1) (g .nbVal k h);
+        price = λ k h. stored-finite rowSv (newPrice w e coeff rowSv) (w .nbVarObjCoeffs) (b3 .1) k (g .price k h);
+        norm = λ k h. stored-finite rowSv (newNorm w e c coeff rowSv helper) (w .primalEdgeSqNorms) (b4 .1) k (g .norm k h);
+        eta = etas-finite (b5 .1) (g .eta);
+      }
+
+-- ---- any step
+module _ (P : Problem) (p : ProblemFits P) (s : State) (f : Fits P s) (e : Entering) (enters : choose P (s .ws) ≡ Enters e) where
+  col-below : e .col < nOf P
+  col-below = enters-below P (s .ws) e enters
+
+  -- the column solve of the step is in order
+  pub step-vector : Vector (mOf P) (stepColumn P s e)
+  step-vector = column-vector P p s f (s .ws .nbVars # e .col) (f .maps .place (e .col) col-below .var)
+
+  -- the leaving row is a row
+  pub row-below : {t : State} (x : Exchanges P s e t) → x .row < mOf P
+  row-below x = rw (x .leaves .row-there) (step-vector .places-below .below (x .leaves .place) (x .leaves .listed-place))
+
+  module _ (i : PivotInfo) (t : State) (steps : step P s e ≡ moved i t) where
+    -- 01: "the two maps between variables and places are each other's inverse .. after every step"
+    pub step-fits : Fits P t
+    step-fits =
+        ⊎-elim
+        (λ (x : Flips P s e t). rw (x .after) (flip-fits P s e (stepColumn P s e) (x .value) (x .diff) f))
+        (λ (x : Exchanges P s e t).
+        rw (x .after)
+        (exchange-fits P s f e (stepColumn P s e) (rowCoeffsOf P s (x .row)) (helperOf P s (stepColumn P s e)) (x .value) (x .diff) (x .row) (x .coeff) (x .leaving) col-below (row-below x)
+        step-vector (x .fits)))
+        (moves P s e i t steps)
+
+    -- 01: "every stored number is finite .. after every step"
+    pub step-numbers : Numbers P s → Numbers P t
+    step-numbers g =
+        ⊎-elim
+        (λ (x : Flips P s e t). rw (x .after) (flip-numbers P s e (stepColumn P s e) (x .value) (x .diff) (x .passes) g))
+        (λ (x : Exchanges P s e t).
+        rw (x .after)
+        (exchange-numbers P s f e (stepColumn P s e) (rowCoeffsOf P s (x .row)) (helperOf P s (stepColumn P s e)) (x .value) (x .diff) (x .row) (x .coeff) (x .leaving) col-below (row-below x)
+        step-vector (x .fits) (x .passes) g))
+        (moves P s e i t steps)
+
+pub step-sound : (P : Problem) (p : ProblemFits P) (s : State) → Sound P s → (e : Entering) → choose P (s .ws) ≡ Enters e → (i : PivotInfo) (t : State) → step P s e ≡ moved i t
+    → Sound P t
+step-sound P p s g e enters i t q =
+    record { fits = step-fits P p s (g .fits) e enters i t q; numbers = step-numbers P p s (g .fits) e enters i t q (g .numbers) }

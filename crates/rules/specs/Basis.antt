@@ -1,0 +1,126 @@
+-- The column solve and the row solve: the factor, then the etas, or the other way round. From minilp 0.2.2, src/solver.rs, BasisSolver, Apache-2.0, changed. Assumes nothing.
+use mathlib.Core.Bool.{Bool, true, false, _&&_}
+use mathlib.Core.List.{List, [], _∷_, _++_}
+use Prim.Native.Nat.{ℕ, _+_}
+use lib.Dec.{ltb, leb, eqb}
+use lib.ListN.{length, set, take, drop}
+use lib.Ieee.{Float}
+use Rattle.doubles.specs.Num.{_⊖_, _⊗_, _⊘_, f1, finite}
+use Rattle.doubles.specs.Limits.{etaColumns, etaEntries}
+use Rattle.doubles.specs.Loop.{run, down, all, each}
+use Rattle.doubles.specs.Lists.{_!_, _#_, part}
+use Rattle.sparse.specs.Scattered.{Sv, blank, putAt, addAt, subAt, listed, listedVal}
+use Rattle.rules.specs.Plan.{Problem, State, Etas, Entry, nOf, rowCols, rowCoeffs, dot, column, varStateOf}
+use Rattle.rules.specs.declared.VarState.the-variants.{Basic, NonBasic}
+
+-- "The first factor is the identity"
+unfoldable pub factorSolve : Sv → Sv
+factorSolve s = s
+
+unfoldable pub factorSolveTransp : Sv → Sv
+factorSolveTransp s = s
+
+abbrev pub etaRowsOf : Etas → ℕ → List ℕ
+etaRowsOf h k = part (h .starts # k) (h .starts # (k + 1)) (h .rows)
+
+abbrev pub etaCoeffsOf : Etas → ℕ → List Float
+etaCoeffsOf h k = part (h .starts # k) (h .starts # (k + 1)) (h .coeffs)
+
+-- ---- solve: x times a column taken off, in its order; a place is touched even where x is 0.0
+abbrev pub takeTurn : Float → List ℕ → List Float → ℕ → Sv → Sv
+takeTurn x rows coeffs k s = subAt s (rows # k) (x ⊗ coeffs ! k)
+
+unfoldable pub takeOff : Float → List ℕ → List Float → Sv → Sv
+takeOff x rows coeffs s = run (takeTurn x rows coeffs) (length rows) s
+
+unfoldable pub etaTurn : Etas → ℕ → Sv → Sv
+etaTurn h k s = takeOff (s .vals ! (h .leaving # k)) (etaRowsOf h k) (etaCoeffsOf h k) s
+
+unfoldable pub solveEtas : Etas → ℕ → Sv → Sv
+solveEtas h n s = run (etaTurn h) n s
+
+unfoldable pub solve : Etas → ℕ → Sv → Sv
+solve h n s = solveEtas h n (factorSolve s)
+
+-- ---- solve_transp: the etas in reverse, then the factor
+unfoldable pub etaTurnTransp : Etas → ℕ → Sv → Sv
+etaTurnTransp h k s = subAt s (h .leaving # k) (dot (etaRowsOf h k) (etaCoeffsOf h k) (s .vals))
+
+unfoldable pub solveEtasTransp : Etas → ℕ → Sv → Sv
+solveEtasTransp h n s = down (etaTurnTransp h) n s
+
+unfoldable pub solveTransp : Etas → ℕ → Sv → Sv
+solveTransp h n s = factorSolveTransp (solveEtasTransp h n s)
+
+-- ---- calc_col_coeffs: the entering variable's column
+unfoldable pub colCoeffs : Problem → State → ℕ → Sv
+colCoeffs P s v = solve (s .ws .etas) (s .etaCount) (each (column P v) (λ e t. putAt t (e .at) (e .val)) blank)
+
+-- ---- calc_row_coeffs: rows combined at the non-basic places, with the maps before the exchange; "a row's stored order with the slack's 1.0 last"
+unfoldable pub addEntry : ℕ → List ℕ → ℕ → Float → Sv → Sv
+addEntry n varStates v x s = elim (varStateOf n (varStates # v)) [ NonBasic c ↦ addAt s c x | Basic r ↦ s ]
+
+abbrev pub addTurn : ℕ → List ℕ → List ℕ → List Float → Float → ℕ → Sv → Sv
+addTurn n varStates cols coeffs y k s = addEntry n varStates (cols # k) (coeffs ! k ⊗ y) s
+
+unfoldable pub addRow : Problem → List ℕ → ℕ → Float → Sv → Sv
+addRow P varStates r y s =
+    let cols = rowCols (P .plan) (P .kept # r) in
+    addEntry (nOf P) varStates (nOf P + r) (f1 ⊗ y) (run (addTurn (nOf P) varStates cols (rowCoeffs (P .plan) (P .kept # r)) y) (length cols) s)
+
+unfoldable pub combine : Problem → List ℕ → Sv → Sv
+combine P varStates y = run (λ k s. addRow P varStates (listed y k) (listedVal y k) s) (y .pat .count) blank
+
+unfoldable pub rowCoeffsOf : Problem → State → ℕ → Sv
+rowCoeffsOf P s r = combine P (s .ws .varStates) (solveTransp (s .ws .etas) (s .etaCount) (putAt blank r f1))
+
+-- sq_norms_update_helper. "An untouched place of sq_norms_update_helper counts as 0.0"
+unfoldable pub relisted : Sv → Sv
+relisted c = run (λ k t. putAt t (listed c k) (listedVal c k)) (c .pat .count) blank
+
+unfoldable pub helperOf : Problem → State → Sv → Sv
+helperOf P s c = combine P (s .ws .varStates) (solveTransp (s .ws .etas) (s .etaCount) (relisted c))
+
+-- every listed entry is finite
+unfoldable pub listedFinite : Sv → Bool
+listedFinite s = all (s .pat .count) (λ k. finite (listedVal s k))
+
+-- ---- push_eta_matrix. "Eta entry (ours): 1 - 1/pivot at the leaving row, else coefficient/pivot, in the column's listed order"
+unfoldable pub etaEntry : ℕ → Float → ℕ → Float → Float
+etaEntry row pivot r x = elim (eqb r row) [ true ↦ f1 ⊖ f1 ⊘ pivot | false ↦ x ⊘ pivot ]
+
+abbrev pub etaEntryAt : Sv → ℕ → Float → ℕ → Float
+etaEntryAt c row pivot k = etaEntry row pivot (listed c k) (listedVal c k)
+
+-- how many entries are in use
+abbrev pub etaUsed : State → ℕ
+etaUsed s = s .ws .etas .starts # s .etaCount
+
+-- 22: "the next eta column doesn't fit the room left"
+unfoldable pub etaFits : State → ℕ → Bool
+etaFits s k = ltb (s .etaCount) etaColumns && leb (etaUsed s + k) etaEntries
+
+-- "The new column goes into the unused tail of the store"
+pub record Tail : Type 0 where
+  pub rows : List ℕ
+  pub coeffs : List Float
+
+abbrev pub tail : List ℕ → List Float → Tail
+tail r c = record { rows = r; coeffs = c }
+
+abbrev pub writeTurn : Sv → ℕ → Float → ℕ → Tail → Tail
+writeTurn c row pivot k t = tail (set (t .rows) k (listed c k)) (set (t .coeffs) k (etaEntryAt c row pivot k))
+
+unfoldable pub writeColumn : Sv → ℕ → Float → Tail → Tail
+writeColumn c row pivot t = run (writeTurn c row pivot) (c .pat .count) t
+
+unfoldable pub pushEta : Sv → ℕ → Float → ℕ → Etas → Etas
+pushEta c row pivot n h =
+    let used = h .starts # n in
+    let t = writeColumn c row pivot (tail (drop used (h .rows)) (drop used (h .coeffs))) in
+    record {
+      leaving = set (h .leaving) n row;
+      starts = set (h .starts) (n + 1) (used + c .pat .count);
+      rows = take used (h .rows) ++ t .rows;
+      coeffs = take used (h .coeffs) ++ t .coeffs;
+    }

@@ -1,0 +1,341 @@
+-- 01's conditions as statements, apart from the tests that pick: what each answer of the table says. proofs/ shows that each is given exactly then. Assumes nothing.
+use mathlib.Core.Path.{_≡_}
+use mathlib.Core.Bool.{Bool, true, false}
+use mathlib.Core.Logic.{_⊎_}
+use mathlib.Core.List.{List}
+use Prim.Native.Nat.{ℕ, zero, suc, _+_, _-_, _<_, _≤_}
+use lib.ListN.{length}
+use lib.Ieee.{Float, lt, le, isNan}
+use Rattle.doubles.specs.Num.{f0, f1, eps, +inf, -inf, finite, infinite, size, _⊕_, _⊖_, _⊘_}
+use Rattle.doubles.specs.Limits.{maxColumns, maxRows, maxEntries, maxBudget, etaColumns, etaEntries, countCells}
+use Rattle.doubles.specs.Lists.{_!_, _#_}
+use Rattle.rules.specs.Plan.{Plan, Memory, Workspace, State, Problem, problemOf, nOf, mOf, rowCols, rowSum, slackMin, slackMax, varMin, varMax}
+use Rattle.rules.specs.Refusals.{zeroHolds}
+use Rattle.sparse.specs.Scattered.{Sv, listed, listedVal}
+use Rattle.rules.specs.Start.{startVals, startSlack, startObjective, startNorm, dualFeasible}
+use Rattle.rules.specs.Choose.{choose, otherVal}
+use Rattle.rules.specs.Basis.{colCoeffs, rowCoeffsOf, helperOf, etaUsed, etaEntryAt}
+use Rattle.rules.specs.Ratio.{rises, ahead, limit, passOne, ratio}
+use Rattle.rules.specs.Pivot.{newObjective, movedVal, newVal, newPrice, newNorm}
+use Rattle.rules.specs.FinalCheck.{valuesOf}
+use Rattle.rules.specs.Answers.{Row as Told, row, Place, nowhere, entryAt, columnAt, rowAt, valueAt, keptRowAt, asRow}
+use Rattle.rules.specs.Solve.{Solved, endOf}
+use Rattle.rules.specs.declared.Entering.{Entering}
+use Rattle.rules.specs.declared.Choice.the-variants.{Enters, Nothing}
+use Rattle.rules.specs.declared.PivotInfo.{PivotInfo}
+use Rattle.rules.specs.declared.PivotInfo.the-variants.{Flip, Exchange}
+use Rattle.rules.specs.declared.Ratio.the-variants.{Pivot}
+use Rattle.rules.specs.declared.Stop.{Stop}
+use Rattle.rules.specs.declared.Stop.the-variants.{Finished, Spent as Stop·Spent, Unbounded as Stop·Unbounded, StoreFull as Stop·StoreFull, NotFinite as Stop·NotFinite}
+use Rattle.rules.specs.declared.Checked.{Checked}
+use Rattle.rules.specs.declared.Checked.the-variants.{Passed, Value, Row}
+
+-- ---- some index below n, every one, and the first with or without a property
+abbrev pub Some : ℕ → (ℕ → Type 0) → Type 0
+Some n Q = (k : ℕ) × (k < n) × Q k
+
+abbrev pub Every : ℕ → (ℕ → Type 0) → Type 0
+Every n Q = (k : ℕ) → k < n → Q k
+
+abbrev pub FirstWith : ℕ → (ℕ → Type 0) → ℕ → Type 0
+FirstWith n Q k = (k < n) × Q k × ((j : ℕ) → j < k → ¬ Q j)
+
+abbrev pub FirstWithout : ℕ → (ℕ → Type 0) → ℕ → Type 0
+FirstWithout n Q k = (k < n) × (¬ Q k) × ((j : ℕ) → j < k → Q j)
+
+-- ---- 1: "a size or the budget passes its limit"
+unfoldable pub SizeOver : Plan → Type 0
+SizeOver p = (maxColumns < p .columns) ⊎ (maxRows < p .rows) ⊎ (maxEntries < p .entries) ⊎ (maxBudget < p .budget)
+
+-- "a lent array is too short": of the plan, and of what is written, "the full stated store" included
+abbrev pub Short : {A : Type 0} → List A → ℕ → Type 0
+Short l n = length l < n
+
+unfoldable pub PlanShort : Plan → Type 0
+PlanShort p =
+    Short (p .costs) (p .columns)
+    ⊎ Short (p .lowers) (p .columns)
+    ⊎ Short (p .uppers) (p .columns)
+    ⊎ Short (p .starts) (p .rows + 1)
+    ⊎ Short (p .cols) (p .entries)
+    ⊎ Short (p .coeffs) (p .entries)
+    ⊎ Short (p .ops) (p .rows)
+    ⊎ Short (p .rhs) (p .rows)
+
+unfoldable pub WorkspaceShort : ℕ → ℕ → Workspace → Type 0
+WorkspaceShort n m w =
+    Short (w .basicVars) m
+    ⊎ Short (w .basicVarVals) m
+    ⊎ Short (w .nbVars) n
+    ⊎ Short (w .nbVarVals) n
+    ⊎ Short (w .nbVarObjCoeffs) n
+    ⊎ Short (w .primalEdgeSqNorms) n
+    ⊎ Short (w .nbVarStates) n
+    ⊎ Short (w .varStates) (n + m)
+    ⊎ Short (w .etas .leaving) etaColumns
+    ⊎ Short (w .etas .starts) (etaColumns + 1)
+    ⊎ Short (w .etas .rows) etaEntries
+    ⊎ Short (w .etas .coeffs) etaEntries
+
+unfoldable pub MemoryShort : Plan → Memory → Type 0
+MemoryShort p m =
+    Short (m .values) (p .columns + p .rows)
+    ⊎ Short (m .kept) (p .rows)
+    ⊎ WorkspaceShort (p .columns) (p .rows) (m .ws)
+    ⊎ Short (m .counts) countCells
+    ⊎ Short (m .objective) 1
+
+-- "the row starts don't begin at 0, fall, or don't end at the entry count"
+unfoldable pub StartsBad : Plan → Type 0
+StartsBad p = (¬ (p .starts # 0 ≡ 0)) ⊎ Some (p .rows) (λ r. p .starts # (r + 1) < p .starts # r) ⊎ (¬ (p .starts # p .rows ≡ p .entries))
+
+unfoldable pub Gives1 : Plan → Memory → Type 0
+Gives1 p m = SizeOver p ⊎ PlanShort p ⊎ MemoryShort p m ⊎ StartsBad p
+
+-- ---- 2: "NaN anywhere in the plan; an infinite cost, coefficient or right side; lower bound +inf, upper -inf; tolerance outside 0 to 1; a comparison above 2"
+abbrev pub NanOrInfinite : Float → Type 0
+NanOrInfinite x = (isNan x ≡ true) ⊎ (infinite x ≡ true)
+
+unfoldable pub Gives2 : Plan → Type 0
+Gives2 p =
+    Some (p .columns) (λ j. NanOrInfinite (p .costs ! j))
+    ⊎ Some (p .columns) (λ j. (isNan (p .lowers ! j) ≡ true) ⊎ (p .lowers ! j ≡ +inf))
+    ⊎ Some (p .columns) (λ j. (isNan (p .uppers ! j) ≡ true) ⊎ (p .uppers ! j ≡ -inf))
+    ⊎ Some (p .entries) (λ k. NanOrInfinite (p .coeffs ! k))
+    ⊎ Some (p .rows) (λ i. 2 < p .ops # i)
+    ⊎ Some (p .rows) (λ i. NanOrInfinite (p .rhs ! i))
+    ⊎ (le f0 (p .tolerance) ≡ false)
+    ⊎ (le (p .tolerance) f1 ≡ false)
+
+-- ---- 3: "a column number is too large or doesn't rise": at place k of row i, counted within the row
+unfoldable pub Bad : Plan → ℕ → ℕ → Type 0
+Bad p i k = (p .columns ≤ rowCols p i # k) ⊎ ((0 < k) × (rowCols p i # k ≤ rowCols p i # (k - 1)))
+
+abbrev pub BadRow : Plan → ℕ → Type 0
+BadRow p i = Some (length (rowCols p i)) (Bad p i)
+
+-- ---- 4: "lower > upper"
+unfoldable pub Crossed : Plan → ℕ → Type 0
+Crossed p j = lt (p .uppers ! j) (p .lowers ! j) ≡ true
+
+-- ---- 5: "an empty row whose 0 op rhs is false"
+unfoldable pub EmptyFalse : Plan → ℕ → Type 0
+EmptyFalse p i = (p .starts # i ≡ p .starts # (i + 1)) × (zeroHolds (p .ops # i) (p .rhs ! i) ≡ false)
+
+-- ---- 6: "a start value, objective sum or start norm isn't finite"
+abbrev pub NotFinite : Float → Type 0
+NotFinite x = finite x ≡ false
+
+unfoldable pub Gives6 : Problem → Type 0
+Gives6 P =
+    Some (nOf P) (λ j. NotFinite (startVals (P .plan) ! j))
+    ⊎ Some (mOf P) (λ r. NotFinite (startSlack P (startVals (P .plan)) r))
+    ⊎ NotFinite (startObjective (P .plan) (startVals (P .plan)))
+    ⊎ Some (nOf P) (λ j. NotFinite (startNorm P j))
+
+-- ---- 7: "a slack starts outside its bounds, no tolerance": it isn't at least the lower, or isn't at most the upper
+unfoldable pub Outside : Problem → ℕ → Type 0
+Outside P r =
+    (le (slackMin (P .plan .ops # (P .kept # r))) (startSlack P (startVals (P .plan)) r) ≡ false)
+    ⊎ (le (startSlack P (startVals (P .plan)) r) (slackMax (P .plan .ops # (P .kept # r))) ≡ false)
+
+-- ---- the table: when refusal k is called for
+unfoldable pub Gives : ℕ → Plan → Memory → Type 0
+Gives zero p m = ⊥
+Gives (suc zero) p m = Gives1 p m
+Gives (suc (suc zero)) p m = Gives2 p
+Gives (suc (suc (suc zero))) p m = Some (p .rows) (BadRow p)
+Gives (suc (suc (suc (suc zero)))) p m = Some (p .columns) (Crossed p)
+Gives (suc (suc (suc (suc (suc zero))))) p m = Some (p .rows) (EmptyFalse p)
+Gives (suc (suc (suc (suc (suc (suc zero)))))) p m = Gives6 (problemOf p)
+Gives (suc (suc (suc (suc (suc (suc (suc zero))))))) p m = Some (mOf (problemOf p)) (Outside (problemOf p))
+Gives (suc (suc (suc (suc (suc (suc (suc (suc k)))))))) p m = ⊥
+
+-- no refusal below k is called for
+abbrev pub NoneBelow : ℕ → Plan → Memory → Type 0
+NoneBelow k p m = (j : ℕ) → j < k → ¬ Gives j p m
+
+-- "the first bad entry, row by row": no earlier row has one, and no earlier place of its row is one
+abbrev pub FirstBad : Plan → ℕ → ℕ → Type 0
+FirstBad p i k = FirstWith (p .rows) (BadRow p) i × FirstWith (length (rowCols p i)) (Bad p i) k
+
+-- the place that refusal k names: "the first bad entry, by row and place", "the first such column", "the first such row", and none for the others
+unfoldable pub Names : ℕ → Plan → Place → Type 0
+Names zero p l = l ≡ nowhere
+Names (suc zero) p l = l ≡ nowhere
+Names (suc (suc zero)) p l = l ≡ nowhere
+Names (suc (suc (suc zero))) p l = (i k : ℕ) × (l ≡ entryAt i k) × FirstBad p i k
+Names (suc (suc (suc (suc zero)))) p l = (j : ℕ) × (l ≡ columnAt j) × FirstWith (p .columns) (Crossed p) j
+Names (suc (suc (suc (suc (suc zero))))) p l = (i : ℕ) × (l ≡ rowAt i) × FirstWith (p .rows) (EmptyFalse p) i
+Names (suc (suc (suc (suc (suc (suc k)))))) p l = l ≡ nowhere
+
+-- "1 to 7 are refusals: all lent memory stays, objective 0.0, 0 steps"
+pub record Refusal (k : ℕ) (p : Plan) (m : Memory) (r : Solved) : Type 0 where
+  pub number : asRow (r .answer) .number ≡ k
+  pub objective : asRow (r .answer) .objective ≡ f0
+  pub steps : asRow (r .answer) .steps ≡ 0
+  pub place : Names k p (asRow (r .answer) .place)
+  pub memory : r .memory ≡ m
+
+-- ---- the final check: "every value finite, at least lower - tol and at most upper + tol, columns before slacks"
+pub record ValueSound (P : Problem) (xs : List Float) (v : ℕ) : Type 0 where
+  pub is-finite : finite (xs ! v) ≡ true
+  pub at-least : le (varMin P v ⊖ P .plan .tolerance) (xs ! v) ≡ true
+  pub at-most : le (xs ! v) (varMax P v ⊕ P .plan .tolerance) ≡ true
+
+-- "then, row by row, the size of rhs - (row sum + slack) at most tol"
+pub record RowSound (P : Problem) (xs : List Float) (r : ℕ) : Type 0 where
+  pub within : le (size (P .plan .rhs ! (P .kept # r) ⊖ (rowSum (P .plan) (P .kept # r) xs ⊕ xs ! (nOf P + r)))) (P .plan .tolerance) ≡ true
+
+-- it passes, or names "its first rejected place": a value, or a row where no value is rejected
+unfoldable pub Checks : Problem → List Float → Checked → Type 0
+Checks P xs Passed = Every (nOf P + mOf P) (ValueSound P xs) × Every (mOf P) (RowSound P xs)
+Checks P xs (Value v) = FirstWithout (nOf P + mOf P) (ValueSound P xs) v
+Checks P xs (Row r) = Every (nOf P + mOf P) (ValueSound P xs) × FirstWithout (mOf P) (RowSound P xs) r
+
+-- ---- why a step isn't taken, said of the state and the entering column
+
+-- the k-th listed row: the size of its coefficient, the bound ahead, and the room left before it
+abbrev pub sizeAt : Sv → ℕ → Float
+sizeAt c k = size (listedVal c k)
+
+abbrev pub aheadAt : Problem → Workspace → Bool → Sv → ℕ → Float
+aheadAt P w up c k = ahead P w up (listed c k) (listedVal c k)
+
+abbrev pub limitAt : Problem → Workspace → Bool → Sv → ℕ → Float
+limitAt P w up c k = limit P w up (listed c k) (listedVal c k)
+
+-- "Pass one uses (limit + EPS) / size", pass two limit / size
+abbrev pub quotientOne : Problem → Workspace → Bool → Sv → ℕ → Float
+quotientOne P w up c k = (limitAt P w up c k ⊕ eps) ⊘ sizeAt c k
+
+abbrev pub quotientTwo : Problem → Workspace → Bool → Sv → ℕ → Float
+quotientTwo P w up c k = limitAt P w up c k ⊘ sizeAt c k
+
+-- "coefficients under EPS in size are skipped"; "a row with an infinite bound ahead is no candidate"
+pub record Examined (P : Problem) (w : Workspace) (up : Bool) (c : Sv) (k : ℕ) : Type 0 where
+  pub not-small : lt (sizeAt c k) eps ≡ false
+  pub bounded : infinite (aheadAt P w up c k) ≡ false
+
+-- "Pass two takes step <= max_step"
+pub record Candidate (P : Problem) (w : Workspace) (up : Bool) (c : Sv) (maxStep : Float) (k : ℕ) : Type 0 where
+  pub looked-at : Examined P w up c k
+  pub near : le (quotientTwo P w up c k) maxStep ≡ true
+
+abbrev pub NoCandidate : Problem → Workspace → Bool → Sv → Float → Type 0
+NoCandidate P w up c maxStep = Every (c .pat .count) (λ k. ¬ Candidate P w up c maxStep k)
+
+module _ (P : Problem) (w : Workspace) (e : Entering) (c : Sv) where
+  -- "A finite bound whose limit or quotient isn't finite gives 23, as does a finite other bound whose distance isn't finite, both in the ratio"
+  pub data Unsound : Type 0 where
+    bad-distance : infinite (otherVal P w (e .col)) ≡ false → NotFinite (e .distance) → Unsound
+    bad-limit : (k : ℕ) → k < c .pat .count → Examined P w (rises e) c k → NotFinite (limitAt P w (rises e) c k) → Unsound
+    bad-quotient : (k : ℕ) → k < c .pat .count → Examined P w (rises e) c k → NotFinite (quotientOne P w (rises e) c k) → Unsound
+    bad-step : (k : ℕ) → k < c .pat .count → Examined P w (rises e) c k → NotFinite (quotientTwo P w (rises e) c k) → Unsound
+
+  pub record Sound : Type 0 where
+    pub distances : infinite (otherVal P w (e .col)) ≡ false → finite (e .distance) ≡ true
+    pub limits : (k : ℕ) → k < c .pat .count → Examined P w (rises e) c k → finite (limitAt P w (rises e) c k) ≡ true
+    pub quotients : (k : ℕ) → k < c .pat .count → Examined P w (rises e) c k → finite (quotientOne P w (rises e) c k) ≡ true
+    pub steps : (k : ℕ) → k < c .pat .count → Examined P w (rises e) c k → finite (quotientTwo P w (rises e) c k) ≡ true
+
+-- a listed entry isn't finite
+abbrev pub EntryBroken : Sv → Type 0
+EntryBroken c = Some (c .pat .count) (λ k. NotFinite (listedVal c k))
+
+-- a number that f gives for a listed place isn't finite
+abbrev pub StoreBroken : Sv → (ℕ → Float) → Type 0
+StoreBroken c f = Some (c .pat .count) (λ k. NotFinite (f (listed c k)))
+
+-- an eta column of k entries doesn't fit
+unfoldable pub NoRoom : State → ℕ → Type 0
+NoRoom s k = (etaColumns ≤ s .etaCount) ⊎ (etaEntries < etaUsed s + k)
+
+module _ (P : Problem) (s : State) (e : Entering) (c : Sv) where
+  -- "Unbounded is given exactly when no row is a candidate and the entering column's other bound is infinite"; no 23 came first
+  abbrev pub NoBound : Type 0
+  NoBound =
+      Sound P (s .ws) e c
+      × NoCandidate P (s .ws) (rises e) c (passOne P (s .ws) (rises e) c (e .distance))
+      × (infinite (otherVal P (s .ws) (e .col)) ≡ true)
+
+  -- every number that a flip stores
+  unfoldable pub FlipBroken : Float → Float → Type 0
+  FlipBroken value diff = NotFinite (newObjective s e diff) ⊎ NotFinite value ⊎ StoreBroken c (movedVal (s .ws) c diff)
+
+  -- row and helper entries, and every number that an exchange stores
+  unfoldable pub ExchangeBroken : Float → Float → ℕ → Float → Float → Type 0
+  ExchangeBroken value diff row pivot leaving =
+      let r = rowCoeffsOf P s row in
+      let h = helperOf P s c in
+      EntryBroken r
+      ⊎ EntryBroken h
+      ⊎ NotFinite (newObjective s e diff)
+      ⊎ StoreBroken c (newVal (s .ws) c value diff row)
+      ⊎ NotFinite leaving
+      ⊎ StoreBroken r (newPrice (s .ws) e pivot r)
+      ⊎ StoreBroken r (newNorm (s .ws) e c pivot r h)
+      ⊎ Some (c .pat .count) (λ k. NotFinite (etaEntryAt c row pivot k))
+
+  -- "the next eta column doesn't fit the room left": an exchange alone has one
+  unfoldable pub StoreFull : PivotInfo → Type 0
+  StoreFull (Flip value diff) = ⊥
+  StoreFull (Exchange value diff row pivot leaving) = NoRoom s (c .pat .count)
+
+  -- "row and helper entries and every number to be stored must be finite"; an exchange comes so far where its column fits
+  unfoldable pub StepBroken : PivotInfo → Type 0
+  StepBroken (Flip value diff) = FlipBroken value diff
+  StepBroken (Exchange value diff row pivot leaving) = (¬ NoRoom s (c .pat .count)) × ExchangeBroken value diff row pivot leaving
+
+  -- the ratio gives a step of which X holds
+  abbrev pub Chosen : (PivotInfo → Type 0) → Type 0
+  Chosen X = (i : PivotInfo) × (ratio P (s .ws) e c ≡ Pivot i) × X i
+
+  -- 20, 22 and 23, in 01's order: "column solve; ratio; Unbounded; eta room; row solve; all new numbers"
+  unfoldable pub StopsWith : Stop → Type 0
+  StopsWith Finished = ⊥
+  StopsWith Stop·Spent = ⊥
+  StopsWith Stop·Unbounded = (¬ EntryBroken c) × NoBound
+  StopsWith Stop·StoreFull = (¬ EntryBroken c) × Chosen StoreFull
+  StopsWith Stop·NotFinite = EntryBroken c ⊎ Unsound P (s .ws) e c ⊎ Chosen StepBroken
+
+-- with the column that the step solves for
+abbrev pub Stops : Problem → State → Entering → Stop → Type 0
+Stops P s e w = StopsWith P s e (colCoeffs P s (s .ws .nbVars # e .col)) w
+
+-- ---- why a run ends, said of the state that was reached
+abbrev pub reached : Plan → Memory → State
+reached p m = endOf (problemOf p) m .state
+
+-- a column enters, and the plan wasn't dual feasible at the start
+abbrev pub Goes : Problem → State → Entering → Type 0
+Goes P s e = (dualFeasible (P .plan) ≡ false) × (choose P (s .ws) ≡ Enters e)
+
+-- a column enters, a step is left in the budget, and the step stops
+abbrev pub Halts : Problem → State → Stop → Type 0
+Halts P s w = (e : Entering) × Goes P s e × (s .steps < P .plan .budget) × Stops P s e w
+
+unfoldable pub Ends : Problem → State → Stop → Type 0
+-- "If dual feasible, Optimal is reached at once"; "entering column (none: final check)"
+Ends P s Finished = (dualFeasible (P .plan) ≡ true) ⊎ (choose P (s .ws) ≡ Nothing)
+-- "budget spent and a column would enter"
+Ends P s Stop·Spent = (e : Entering) × Goes P s e × (s .steps ≡ P .plan .budget)
+Ends P s Stop·Unbounded = Halts P s Stop·Unbounded
+Ends P s Stop·StoreFull = Halts P s Stop·StoreFull
+Ends P s Stop·NotFinite = Halts P s Stop·NotFinite
+
+-- ---- the table's lines for 0 and 20 to 24. "Answers 0 and 20 to 24 carry the objective and step count of that state"
+pub data Line (P : Problem) (s : State) : Told → Type 0 where
+  -- "Status 0 is Optimal"
+  optimal : Ends P s Finished → Checks P (valuesOf P (s .ws)) Passed → Line P s (row 0 (s .objective) (s .steps) nowhere)
+  -- "Unbounded"
+  unbounded : Ends P s Stop·Unbounded → Line P s (row 20 (s .objective) (s .steps) nowhere)
+  -- "budget spent and a column would enter"
+  spent : Ends P s Stop·Spent → Line P s (row 21 (s .objective) (s .steps) nowhere)
+  -- "the next eta column doesn't fit the room left"
+  store-full : Ends P s Stop·StoreFull → Line P s (row 22 (s .objective) (s .steps) nowhere)
+  -- "a named number of the step isn't finite"
+  not-finite : Ends P s Stop·NotFinite → Line P s (row 23 (s .objective) (s .steps) nowhere)
+  -- "the final check rejects, with its first rejected place"
+  value-rejected : (v : ℕ) → Ends P s Finished → Checks P (valuesOf P (s .ws)) (Value v) → Line P s (row 24 (s .objective) (s .steps) (valueAt v))
+  row-rejected : (r : ℕ) → Ends P s Finished → Checks P (valuesOf P (s .ws)) (Row r) → Line P s (row 24 (s .objective) (s .steps) (keptRowAt r))

@@ -1,0 +1,122 @@
+-- 01, "One step": all new numbers, and the store. From minilp 0.2.2, src/solver.rs, pivot and update_primal_sq_norms, Apache-2.0, changed. Assumes nothing.
+use mathlib.Core.Bool.{Bool, true, false, _&&_}
+use mathlib.Core.List.{List}
+use Prim.Native.Nat.{ℕ, suc, _+_}
+use lib.Dec.{eqb}
+use lib.ListN.{set}
+use lib.Ieee.{Float, eq, neg}
+use Rattle.doubles.specs.Num.{_⊕_, _⊖_, _⊗_, _⊘_, f1, f2, finite}
+use Rattle.doubles.specs.Loop.{run, all}
+use Rattle.doubles.specs.Lists.{_!_, _#_}
+use Rattle.sparse.specs.Scattered.{Sv, listed, listedVal, sqNorm}
+use Rattle.rules.specs.Plan.{Problem, Workspace, State, nOf, varMin, varMax, flagsCell, varCell}
+use Rattle.rules.specs.Basis.{listedFinite, etaEntryAt, pushEta}
+use Rattle.rules.specs.declared.Entering.{Entering}
+use Rattle.rules.specs.declared.VarState.the-variants.{Basic, NonBasic}
+
+-- what a loop over a vector's list leaves that stores f at each listed place
+abbrev pub storeTurn : Sv → (ℕ → Float) → ℕ → List Float → List Float
+storeTurn c f k l = set l (listed c k) (f (listed c k))
+
+unfoldable pub stored : Sv → (ℕ → Float) → List Float → List Float
+stored c f l = run (storeTurn c f) (c .pat .count) l
+
+-- what f gives at each listed place is finite
+unfoldable pub storesFinite : Sv → (ℕ → Float) → Bool
+storesFinite c f = all (c .pat .count) (λ k. finite (f (listed c k)))
+
+-- the flags of a variable that stands at x
+unfoldable pub flagsAt : Problem → ℕ → Float → ℕ
+flagsAt P v x = flagsCell (record { «at_min» = eq x (varMin P v); «at_max» = eq x (varMax P v) })
+
+-- ---- the new numbers of both kinds of step
+
+unfoldable pub newObjective : State → Entering → Float → Float
+newObjective s e diff = s .objective ⊕ e .price ⊗ diff
+
+unfoldable pub movedVal : Workspace → Sv → Float → ℕ → Float
+movedVal w c diff r = w .basicVarVals ! r ⊖ diff ⊗ c .vals ! r
+
+-- ---- a flip: "its new value and difference"
+module _ (P : Problem) (s : State) (e : Entering) (c : Sv) (value diff : Float) where
+  unfoldable pub flipFinite : Bool
+  flipFinite = finite (newObjective s e diff) && finite value && storesFinite c (movedVal (s .ws) c diff)
+
+  unfoldable pub flipped : State
+  flipped =
+      let w = s .ws in
+      record {
+        ws = record {
+          basicVars = w .basicVars;
+          basicVarVals = stored c (movedVal w c diff) (w .basicVarVals);
+          nbVars = w .nbVars;
+          nbVarVals = set (w .nbVarVals) (e .col) value;
+          nbVarObjCoeffs = w .nbVarObjCoeffs;
+          primalEdgeSqNorms = w .primalEdgeSqNorms;
+          nbVarStates = set (w .nbVarStates) (e .col) (flagsAt P (w .nbVars # e .col) value);
+          varStates = w .varStates;
+          etas = w .etas;
+        };
+        etaCount = s .etaCount;
+        objective = newObjective s e diff;
+        steps = suc (s .steps);
+      }
+
+-- ---- an exchange: "which adds row, pivot and leaving value"; row and helper are those before the exchange
+unfoldable pub newVal : Workspace → Sv → Float → Float → ℕ → ℕ → Float
+newVal w c value diff row r = elim (eqb r row) [ true ↦ value | false ↦ movedVal w c diff r ]
+
+unfoldable pub newPrice : Workspace → Entering → Float → Sv → ℕ → Float
+newPrice w e pivot row j =
+    let pivotObj = e .price ⊘ pivot in
+    elim (eqb j (e .col)) [ true ↦ neg pivotObj | false ↦ w .nbVarObjCoeffs ! j ⊖ pivotObj ⊗ row .vals ! j ]
+
+-- "A norm moves by ((-2.0 * r) * h / pivot + (sq * r) * r / pivot_sq)"
+unfoldable pub newNorm : Workspace → Entering → Sv → Float → Sv → Sv → ℕ → Float
+newNorm w e c pivot row helper j =
+    let sq = sqNorm c ⊕ f1 in
+    let pivotSq = pivot ⊗ pivot in
+    let r = row .vals ! j in
+    elim (eqb j (e .col)) [
+      | true ↦ sq ⊘ pivotSq
+      | false ↦ w .primalEdgeSqNorms ! j ⊕ (neg f2 ⊗ r ⊗ helper .vals ! j ⊘ pivot ⊕ sq ⊗ r ⊗ r ⊘ pivotSq)
+    ]
+
+unfoldable pub etaFinite : Sv → ℕ → Float → Bool
+etaFinite c row pivot = all (c .pat .count) (λ k. finite (etaEntryAt c row pivot k))
+
+module _ (P : Problem) (s : State) (e : Entering) (c rowSv helper : Sv) (value diff : Float) (row : ℕ) (pivot leaving : Float) where
+  -- "every number to be stored must be finite"
+  unfoldable pub exchangeFinite : Bool
+  exchangeFinite =
+      let w = s .ws in
+      finite (newObjective s e diff)
+      && storesFinite c (newVal w c value diff row)
+      && finite leaving
+      && storesFinite rowSv (newPrice w e pivot rowSv)
+      && storesFinite rowSv (newNorm w e c pivot rowSv helper)
+      && etaFinite c row pivot
+
+  -- the two maps: the entering variable is basic in the row, the leaving one stands at the entering place
+  unfoldable pub exchanged : State
+  exchanged =
+      let w = s .ws in
+      let col = e .col in
+      let enters = w .nbVars # col in
+      let leaves = w .basicVars # row in
+      record {
+        ws = record {
+          basicVars = set (w .basicVars) row enters;
+          basicVarVals = stored c (newVal w c value diff row) (w .basicVarVals);
+          nbVars = set (w .nbVars) col leaves;
+          nbVarVals = set (w .nbVarVals) col leaving;
+          nbVarObjCoeffs = stored rowSv (newPrice w e pivot rowSv) (w .nbVarObjCoeffs);
+          primalEdgeSqNorms = stored rowSv (newNorm w e c pivot rowSv helper) (w .primalEdgeSqNorms);
+          nbVarStates = set (w .nbVarStates) col (flagsAt P leaves leaving);
+          varStates = set (set (w .varStates) enters (varCell (nOf P) (Basic row))) leaves (varCell (nOf P) (NonBasic col));
+          etas = pushEta c row pivot (s .etaCount) (w .etas);
+        };
+        etaCount = suc (s .etaCount);
+        objective = newObjective s e diff;
+        steps = suc (s .steps);
+      }

@@ -1,0 +1,86 @@
+-- The whole: from lent arrays to the answer and what is lent afterwards. Assumes nothing.
+use mathlib.Core.Bool.{Bool, true, false}
+use mathlib.Core.List.{List, [], _∷_}
+use Prim.Native.Nat.{ℕ, _+_}
+use lib.Dec.{eqb, ltb}
+use lib.ListN.{length}
+use lib.Ieee.{Float}
+use Rattle.doubles.specs.Lists.{_#_, over}
+use Rattle.rules.specs.Plan.{Plan, Problem, Memory, State, problemOf, keptRows, mOf}
+use Rattle.rules.specs.Refusals.{passes1, passes2, firstBadRow, firstBadIn, firstCrossed, firstFalse}
+use Rattle.rules.specs.Start.{startState, passes6, passes7, dualFeasible}
+use Rattle.rules.specs.Basis.{etaUsed}
+use Rattle.rules.specs.Step.{Ended, ended, runOf}
+use Rattle.rules.specs.FinalCheck.{valuesOf, finalCheck}
+use Rattle.rules.specs.Answers.{numberOf}
+use Rattle.rules.specs.declared.Stop.the-variants.{Finished, Spent as Stop·Spent, StoreFull as Stop·StoreFull, Unbounded as Stop·Unbounded, NotFinite as Stop·NotFinite}
+use Rattle.rules.specs.declared.Checked.{Checked}
+use Rattle.rules.specs.declared.Checked.the-variants.{Passed, Value, Row}
+use Rattle.rules.specs.declared.Answer.{Answer}
+use Rattle.rules.specs.declared.Answer.the-variants.{Optimal, BadSize, BadNumber, BadEntry, BadBounds, FalseRow, StartNotFinite, SlackOutside, Unbounded, Spent, StoreFull, NotFinite, ValueRejected, RowRejected}
+
+pub record Solved : Type 0 where
+  pub answer : Answer
+  pub memory : Memory
+
+abbrev pub solved : Answer → Memory → Solved
+solved a m = record { answer = a; memory = m }
+
+-- ---- the end of a run
+
+-- "after the final check", at one place for the dual feasible start and the end of a run
+unfoldable pub checkedAnswer : State → Checked → Answer
+checkedAnswer s Passed = Optimal (s .objective) (s .steps)
+checkedAnswer s (Value v) = ValueRejected (s .objective) (s .steps) v
+checkedAnswer s (Row r) = RowRejected (s .objective) (s .steps) r
+
+unfoldable pub answerOf : Problem → Ended → Answer
+answerOf P e =
+    let s = e .state in
+    elim (e .why) [
+      | Finished ↦ checkedAnswer s (finalCheck P (valuesOf P (s .ws)))
+      | Stop·Spent ↦ Spent (s .objective) (s .steps)
+      | Stop·Unbounded ↦ Unbounded (s .objective) (s .steps)
+      | Stop·StoreFull ↦ StoreFull (s .objective) (s .steps)
+      | Stop·NotFinite ↦ NotFinite (s .objective) (s .steps)
+    ]
+
+-- "Status 0 is Optimal and writes values, slacks last. 20 to 24 leave the values array alone"
+unfoldable pub valuesAfter : Problem → State → Answer → List Float → List Float
+valuesAfter P s a l = elim (eqb (numberOf a) 0) [ true ↦ over (valuesOf P (s .ws)) l | false ↦ l ]
+
+-- "the workspace then holds the state after the last whole step"; "cells past what is written never change"
+unfoldable pub memoryAfter : Problem → State → Answer → Memory → Memory
+memoryAfter P s a m =
+    record {
+      values = valuesAfter P s a (m .values);
+      kept = over (P .kept) (m .kept);
+      ws = s .ws;
+      counts = over (mOf P ∷ s .etaCount ∷ etaUsed s ∷ s .steps ∷ numberOf a ∷ []) (m .counts);
+      objective = over (s .objective ∷ []) (m .objective);
+    }
+
+unfoldable pub close : Problem → Memory → Ended → Solved
+close P m e = let a = answerOf P e in solved a (memoryAfter P (e .state) a m)
+
+-- "If dual feasible, Optimal is reached at once with 0 steps (ours), after the final check"
+unfoldable pub endOf : Problem → Memory → Ended
+endOf P m =
+    let s = startState P (m .ws) in
+    elim (dualFeasible (P .plan)) [ true ↦ ended Finished s | false ↦ runOf P (P .plan .budget) s ]
+
+-- ---- "The lowest number that applies is given"; "1 to 7 are refusals: all lent memory stays"
+abbrev pub unless : Bool → Answer → Memory → Solved → Solved
+unless b a m r = elim b [ true ↦ r | false ↦ solved a m ]
+
+unfoldable pub solvePlan : Plan → Memory → Solved
+solvePlan p m =
+    let P = problemOf p in
+    unless (passes1 p m) BadSize m
+    (unless (passes2 p) BadNumber m
+    (unless (eqb (firstBadRow p) (p .rows)) (BadEntry (firstBadRow p) (firstBadIn p (firstBadRow p))) m
+    (unless (eqb (firstCrossed p) (p .columns)) (BadBounds (firstCrossed p)) m
+    (unless (eqb (firstFalse p) (p .rows)) (FalseRow (firstFalse p)) m
+    (unless (passes6 P) StartNotFinite m
+    (unless (passes7 P) SlackOutside m
+    (close P m (endOf P m))))))))
