@@ -1,0 +1,2 @@
+-- What the bounds of variables are read from.
+pub mod Bounds

@@ -1,0 +1,69 @@
+-- The parts of a problem that a function is lent, the others empty, and what the functions ask of them. Assumes nothing.
+use mathlib.Core.List.{List, []}
+use Prim.Native.Nat.{ℕ, _+_, _<_, _≤_}
+use lib.ListN.{length}
+use lib.Ieee.{Float}
+use Rattle.doubles.specs.Num.{f0}
+use Rattle.doubles.specs.Limits.{maxColumns, maxRows}
+use Rattle.doubles.specs.Lists.{_#_}
+use Rattle.sparse.specs.Scattered.{Within}
+use Rattle.rules.specs.Plan.{Plan, Problem, Workspace, nOf, mOf, rowCols}
+use Rattle.rules.specs.Parts.{planOf, problem, rowed}
+
+-- costs and bounds by columns
+abbrev pub costed : ℕ → List Float → List Float → List Float → Plan
+costed n costs lowers uppers = planOf n 0 0 0 f0 costs lowers uppers [] [] [] [] []
+
+-- rows with their right sides
+abbrev pub sided : List ℕ → List ℕ → List Float → List Float → List ℕ → Problem
+sided starts cols coeffs rhs kept = problem (planOf 0 0 0 0 f0 [] [] [] starts cols coeffs [] rhs) kept
+
+-- all but comparisons
+abbrev pub unruled : ℕ → List Float → List Float → List Float → List ℕ → List ℕ → List Float → List Float → List ℕ → Problem
+unruled n costs lowers uppers starts cols coeffs rhs kept = problem (planOf n 0 0 0 f0 costs lowers uppers starts cols coeffs [] rhs) kept
+
+-- rows alone
+abbrev pub bare : Problem → Problem
+bare P = rowed 0 (P .plan .starts) (P .plan .cols) (P .plan .coeffs) (P .kept)
+
+pub record Columns (n : ℕ) (costs lowers uppers : List Float) : Type 0 where
+  pub costs-long : n ≤ length costs
+  pub lowers-long : n ≤ length lowers
+  pub uppers-long : n ≤ length uppers
+
+-- kept row r is a part of the entries, and its columns are below w. Contracts say it of the bare problem.
+pub record RowReads (P : Problem) (w r : ℕ) : Type 0 where
+  pub has : P .kept # r + 1 < length (P .plan .starts)
+  pub rises : P .plan .starts # (P .kept # r) ≤ P .plan .starts # (P .kept # r + 1)
+  pub cols-end : P .plan .starts # (P .kept # r + 1) ≤ length (P .plan .cols)
+  pub coeffs-end : P .plan .starts # (P .kept # r + 1) ≤ length (P .plan .coeffs)
+  pub col : (k : ℕ) → k < length (rowCols (P .plan) (P .kept # r)) → rowCols (P .plan) (P .kept # r) # k < w
+
+pub record RowsRead (P : Problem) (w : ℕ) : Type 0 where
+  pub row : (r : ℕ) → r < mOf P → RowReads P w r
+
+-- what the start's numbers are reckoned from
+pub record Reckonable (P : Problem) : Type 0 where
+  pub columns-most : nOf P ≤ maxColumns
+  pub rows-most : mOf P ≤ maxRows
+  pub columns : Columns (nOf P) (P .plan .costs) (P .plan .lowers) (P .plan .uppers)
+  pub rows : RowsRead (bare P) (nOf P)
+  pub sides : Within (length (P .plan .rhs)) (mOf P) (P .kept)
+
+-- the scratch has a cell for each column and each kept row
+pub record Scratch (n m : ℕ) (xs slacks norms : List Float) : Type 0 where
+  pub vals-long : n ≤ length xs
+  pub slacks-long : m ≤ length slacks
+  pub norms-long : n ≤ length norms
+
+-- and so has what is written
+pub record Room (n m : ℕ) (w : Workspace) : Type 0 where
+  pub basicVars-long : m ≤ length (w .basicVars)
+  pub basicVarVals-long : m ≤ length (w .basicVarVals)
+  pub nbVars-long : n ≤ length (w .nbVars)
+  pub nbVarVals-long : n ≤ length (w .nbVarVals)
+  pub nbVarObjCoeffs-long : n ≤ length (w .nbVarObjCoeffs)
+  pub primalEdgeSqNorms-long : n ≤ length (w .primalEdgeSqNorms)
+  pub nbVarStates-long : n ≤ length (w .nbVarStates)
+  pub varStates-long : n + m ≤ length (w .varStates)
+  pub starts-long : 0 < length (w .etas .starts)

@@ -1,0 +1,373 @@
+// 01, "Start": the first state, and refusals 6 and 7. Its numbers are reckoned in scratch and tested there, and only
+// then copied.
+// From minilp 0.2.2, src/solver.rs, try_new, Apache-2.0, changed: 01's rules, slack-feasible starts only, lent arrays.
+ghost use mathlib.Core.Path.{_≡_};
+ghost use mathlib.Core.Bool.{_&&_};
+ghost use mathlib.Core.List.{[]};
+ghost use Prim.Native.Nat.{_<_, _≤_, _+_, _^_};
+ghost use lib.ListN.{length};
+ghost use Rattle.doubles.specs.Num.{infinite, f0, f1, _⊕_};
+ghost use Rattle.doubles.specs.Limits.{maxColumns, maxRows};
+ghost use Rattle.doubles.specs.Loop.{table};
+ghost use Rattle.doubles.specs.Lists.{_!_, over};
+ghost use Rattle.sparse.specs.Scattered.{Within};
+ghost use Rattle.rules.specs.Plan.{slackMin, slackMax};
+ghost use Rattle.rules.specs.Parts.{rowed, workspaceOf, etasOf};
+ghost use Rattle.rules.specs.Start.{lowerFirst, upperFirst, startVal, startDual, startVals, dualFeasible, startObjective, startSlack, startNorm, startFlags, inBounds};
+ghost use Rattle.start.specs.Lent.{costed, sided, unruled, Columns, RowReads, RowsRead, Reckonable, Scratch, Room};
+ghost use Rattle.start.specs.Reckoned.{addSquares, squares, numbers, reckoned, allFinite, slacksInside, written};
+
+// "Free: 0.0"
+fn is_free(lower: f64, upper: f64) -> bool
+    ensures { λ r. ⌜ r ≡ infinite lower && infinite upper ⌝ }
+{
+    doubles::is_infinite(lower) & doubles::is_infinite(upper)
+}
+
+fn lower_first(lower: f64, upper: f64) -> f64
+    ensures { λ r. ⌜ r ≡ lowerFirst lower upper ⌝ }
+{
+    if doubles::is_finite(lower) {
+        return lower;
+    }
+    upper
+}
+
+fn upper_first(lower: f64, upper: f64) -> f64
+    ensures { λ r. ⌜ r ≡ upperFirst lower upper ⌝ }
+{
+    if doubles::is_finite(upper) {
+        return upper;
+    }
+    lower
+}
+
+// 01: "Fixed: that value. Free: 0.0. Positive cost: lower if finite, else upper. Negative: upper if finite, else lower.
+// Zero cost: lower if finite, else upper."
+pub fn start_val(cost: f64, lower: f64, upper: f64) -> f64
+    ensures { λ r. ⌜ r ≡ startVal cost lower upper ⌝ }
+{
+    if lower == upper {
+        return lower;
+    }
+    if is_free(lower, upper) {
+        return 0.0;
+    }
+    if cost < 0.0 {
+        return upper_first(lower, upper);
+    }
+    lower_first(lower, upper)
+}
+
+// is_dual_feasible of try_new, for one column
+pub fn start_dual(cost: f64, lower: f64, upper: f64) -> bool
+    ensures { λ r. ⌜ r ≡ startDual cost lower upper ⌝ }
+{
+    if lower == upper {
+        return true;
+    }
+    if is_free(lower, upper) {
+        return cost == 0.0;
+    }
+    if 0.0 < cost {
+        return doubles::is_finite(lower);
+    }
+    if cost < 0.0 {
+        return doubles::is_finite(upper);
+    }
+    true
+}
+
+// The start values of the columns, over the front of the scratch.
+pub fn start_vals(
+    costs: &[f64],
+    lowers: &[f64],
+    uppers: &[f64],
+    n: usize,
+    xs: &mut [f64; doubles::MAX_COLUMNS],
+)
+    requires { ⌜ (n ≤ maxColumns) × (n ≤ length (now xs)) × Columns n (now costs) (now lowers) (now uppers) ⌝ }
+    ensures { λ _. ⌜ now (xs .exit) ≡ over (startVals (costed n (now (costs .entry)) (now (lowers .entry)) (now (uppers .entry)))) (now (xs .entry)) ⌝ }
+{
+    for j in 0..n {
+        xs[j] = start_val(costs[j], lowers[j], uppers[j]);
+    }
+}
+
+pub fn dual_feasible(costs: &[f64], lowers: &[f64], uppers: &[f64], n: usize) -> bool
+    requires { ⌜ Columns n (now costs) (now lowers) (now uppers) ⌝ }
+    ensures { λ r. ⌜ r ≡ dualFeasible (costed n (now (costs .entry)) (now (lowers .entry)) (now (uppers .entry))) ⌝ }
+{
+    let mut j = 0;
+    while j < n {
+        if !start_dual(costs[j], lowers[j], uppers[j]) {
+            return false;
+        }
+        j += 1;
+    }
+    true
+}
+
+// 01: "Sums start at 0.0 and follow entry or listed order".
+pub fn start_objective(costs: &[f64], n: usize, xs: &[f64; doubles::MAX_COLUMNS]) -> f64
+    requires { ⌜ (n ≤ maxColumns) × (n ≤ length (now costs)) ⌝ }
+    ensures { λ r. ⌜ r ≡ startObjective (costed n (now (costs .entry)) [] []) (now (xs .entry)) ⌝ }
+{
+    let mut sum = 0.0;
+    for j in 0..n {
+        sum = sum + xs[j] * costs[j];
+    }
+    sum
+}
+
+// The value of kept row r's slack.
+fn start_slack(
+    starts: &[usize],
+    cols: &[usize],
+    coeffs: &[f64],
+    rhs: &[f64],
+    kept: &[usize],
+    xs: &[f64; doubles::MAX_COLUMNS],
+    r: usize,
+) -> f64
+    requires { ⌜ (r < length (now kept)) × Within (length (now rhs)) (length (now kept)) (now kept) ⌝ }
+    requires { ⌜ RowReads (rowed 0 (now starts) (now cols) (now coeffs) (now kept)) (length (now xs)) r ⌝ }
+    ensures { λ x. ⌜ x ≡ startSlack (sided (now (starts .entry)) (now (cols .entry)) (now (coeffs .entry)) (now (rhs .entry)) (now (kept .entry))) (now (xs .entry)) r ⌝ }
+{
+    let i = kept[r];
+    let row_cols = plan::row_cols(starts, cols, i);
+    let row_coeffs = plan::row_coeffs(starts, coeffs, i);
+    rhs[i] - eta::dot(row_cols, row_coeffs, xs)
+}
+
+// The slacks of the kept rows, over the front of the scratch.
+pub fn start_slacks(
+    starts: &[usize],
+    cols: &[usize],
+    coeffs: &[f64],
+    rhs: &[f64],
+    kept: &[usize],
+    xs: &[f64; doubles::MAX_COLUMNS],
+    slacks: &mut [f64; doubles::MAX_ROWS],
+)
+    requires { ⌜ (length (now kept) ≤ maxRows) × (length (now kept) ≤ length (now slacks)) × Within (length (now rhs)) (length (now kept)) (now kept) ⌝ }
+    requires { ⌜ RowsRead (rowed 0 (now starts) (now cols) (now coeffs) (now kept)) (length (now xs)) ⌝ }
+    ensures { λ _. ⌜ now (slacks .exit) ≡ over (table (length (now (kept .entry)))
+        (startSlack (sided (now (starts .entry)) (now (cols .entry)) (now (coeffs .entry)) (now (rhs .entry)) (now (kept .entry))) (now (xs .entry)))) (now (slacks .entry)) ⌝ }
+{
+    let mut r = 0;
+    while r < kept.len() {
+        slacks[r] = start_slack(starts, cols, coeffs, rhs, kept, xs, r);
+        r += 1;
+    }
+}
+
+fn clear_norms(n: usize, norms: &mut [f64; doubles::MAX_COLUMNS])
+    requires { ⌜ (n ≤ maxColumns) × (n ≤ length (now norms)) ⌝ }
+    ensures { λ _. ⌜ now (norms .exit) ≡ over (table n (λ _. f0)) (now (norms .entry)) ⌝ }
+{
+    for j in 0..n {
+        norms[j] = 0.0;
+    }
+}
+
+// A row's squares, each added at its column.
+fn add_squares(cols: &[usize], coeffs: &[f64], norms: &mut [f64; doubles::MAX_COLUMNS])
+    requires { ⌜ (length (now cols) ≤ length (now coeffs)) × Within maxColumns (length (now cols)) (now cols) ⌝ }
+    ensures { λ _. ⌜ now (norms .exit) ≡ addSquares (now (cols .entry)) (now (coeffs .entry)) (now (norms .entry)) ⌝ }
+{
+    let mut k = 0;
+    while k < cols.len() {
+        let j = cols[k];
+        norms[j] = norms[j] + coeffs[k] * coeffs[k];
+        k += 1;
+    }
+}
+
+// Those of all kept rows. A column's entries come with their rows rising.
+fn sum_squares(
+    starts: &[usize],
+    cols: &[usize],
+    coeffs: &[f64],
+    kept: &[usize],
+    norms: &mut [f64; doubles::MAX_COLUMNS],
+)
+    requires { ⌜ RowsRead (rowed 0 (now starts) (now cols) (now coeffs) (now kept)) maxColumns ⌝ }
+    ensures { λ _. ⌜ now (norms .exit) ≡ squares (rowed 0 (now (starts .entry)) (now (cols .entry)) (now (coeffs .entry)) (now (kept .entry))) (now (norms .entry)) ⌝ }
+{
+    let mut r = 0;
+    while r < kept.len() {
+        let i = kept[r];
+        let row_cols = plan::row_cols(starts, cols, i);
+        let row_coeffs = plan::row_coeffs(starts, coeffs, i);
+        add_squares(row_cols, row_coeffs, norms);
+        r += 1;
+    }
+}
+
+fn add_ones(n: usize, norms: &mut [f64; doubles::MAX_COLUMNS])
+    requires { ⌜ (n ≤ maxColumns) × (n ≤ length (now norms)) ⌝ }
+    ensures { λ _. ⌜ now (norms .exit) ≡ over (table n (λ j. now (norms .entry) ! j ⊕ f1)) (now (norms .entry)) ⌝ }
+{
+    for j in 0..n {
+        norms[j] = norms[j] + 1.0;
+    }
+}
+
+// 01: "A norm, reckoned for every plan, is 1.0 added to the column's sum of squares". Over the front of the scratch.
+pub fn start_norms(
+    n: usize,
+    starts: &[usize],
+    cols: &[usize],
+    coeffs: &[f64],
+    kept: &[usize],
+    norms: &mut [f64; doubles::MAX_COLUMNS],
+)
+    requires { ⌜ (n ≤ maxColumns) × (n ≤ length (now norms)) × RowsRead (rowed 0 (now starts) (now cols) (now coeffs) (now kept)) n ⌝ }
+    ensures { λ _. ⌜ now (norms .exit) ≡ over (table n (startNorm (rowed n (now (starts .entry)) (now (cols .entry)) (now (coeffs .entry)) (now (kept .entry))))) (now (norms .entry)) ⌝ }
+{
+    clear_norms(n, norms);
+    sum_squares(starts, cols, coeffs, kept, norms);
+    add_ones(n, norms);
+}
+
+// Everything that the start reckons. Its objective is handed back.
+pub fn reckon(
+    n: usize,
+    costs: &[f64],
+    lowers: &[f64],
+    uppers: &[f64],
+    starts: &[usize],
+    cols: &[usize],
+    coeffs: &[f64],
+    rhs: &[f64],
+    kept: &[usize],
+    xs: &mut [f64; doubles::MAX_COLUMNS],
+    slacks: &mut [f64; doubles::MAX_ROWS],
+    norms: &mut [f64; doubles::MAX_COLUMNS],
+) -> f64
+    requires { ⌜ Reckonable (unruled n (now costs) (now lowers) (now uppers) (now starts) (now cols) (now coeffs) (now rhs) (now kept)) ⌝ }
+    requires { ⌜ Scratch n (length (now kept)) (now xs) (now slacks) (now norms) ⌝ }
+    ensures { λ r. ⌜ numbers (now (xs .exit)) (now (slacks .exit)) (now (norms .exit)) r
+        ≡ reckoned (unruled n (now (costs .entry)) (now (lowers .entry)) (now (uppers .entry)) (now (starts .entry)) (now (cols .entry)) (now (coeffs .entry)) (now (rhs .entry)) (now (kept .entry)))
+        (numbers (now (xs .entry)) (now (slacks .entry)) (now (norms .entry)) f0) ⌝ }
+{
+    start_vals(costs, lowers, uppers, n, xs);
+    start_slacks(starts, cols, coeffs, rhs, kept, xs, slacks);
+    start_norms(n, starts, cols, coeffs, kept, norms);
+    start_objective(costs, n, xs)
+}
+
+// 6: "a start value, objective sum or start norm isn't finite". `&`, not `&&`: a plan that passes asks every test.
+pub fn passes_6(
+    n: usize,
+    m: usize,
+    xs: &[f64; doubles::MAX_COLUMNS],
+    slacks: &[f64; doubles::MAX_ROWS],
+    objective: f64,
+    norms: &[f64; doubles::MAX_COLUMNS],
+) -> bool
+    requires { ⌜ Scratch n m (now xs) (now slacks) (now norms) ⌝ }
+    ensures { λ r. ⌜ r ≡ allFinite n m (now (xs .entry)) (now (slacks .entry)) objective (now (norms .entry)) ⌝ }
+{
+    plan::all_numbers(n, xs)
+        & plan::all_numbers(m, slacks)
+        & doubles::is_finite(objective)
+        & plan::all_numbers(n, norms)
+}
+
+fn in_bounds(op: u8, x: f64) -> bool
+    ensures { λ r. ⌜ r ≡ inBounds (slackMin op) x (slackMax op) ⌝ }
+{
+    (cells::slack_min(op) <= x) & (x <= cells::slack_max(op))
+}
+
+// 7: "a slack starts outside its bounds, no tolerance"
+pub fn passes_7(ops: &[u8], kept: &[usize], slacks: &[f64; doubles::MAX_ROWS]) -> bool
+    requires { ⌜ (length (now kept) ≤ maxRows) × Within (length (now ops)) (length (now kept)) (now kept) ⌝ }
+    ensures { λ r. ⌜ r ≡ slacksInside (now (ops .entry)) (now (kept .entry)) (now (slacks .entry)) ⌝ }
+{
+    let mut r = 0;
+    while r < kept.len() {
+        let i = kept[r];
+        if !in_bounds(ops[i], slacks[r]) {
+            return false;
+        }
+        r += 1;
+    }
+    true
+}
+
+// The first n of `from` over the front of `to`.
+fn copy_front(n: usize, from: &[f64], to: &mut [f64])
+    requires { ⌜ (n ≤ length (now from)) × (n ≤ length (now to)) ⌝ }
+    ensures { λ _. ⌜ now (to .exit) ≡ over (table n (λ j. now (from .entry) ! j)) (now (to .entry)) ⌝ }
+{
+    for j in 0..n {
+        to[j] = from[j];
+    }
+}
+
+// n numbers from `first` on, over the front of `to`.
+fn count_from(first: usize, n: usize, to: &mut [usize])
+    requires { ⌜ (first + n < 2 ^ 64) × (n ≤ length (now to)) ⌝ }
+    ensures { λ _. ⌜ now (to .exit) ≡ over (table n (λ c. first + c)) (now (to .entry)) ⌝ }
+{
+    for c in 0..n {
+        to[c] = first + c;
+    }
+}
+
+fn write_flags(n: usize, lowers: &[f64], uppers: &[f64], xs: &[f64], flags: &mut [u8])
+    requires { ⌜ (n ≤ length (now lowers)) × (n ≤ length (now uppers)) × (n ≤ length (now xs)) × (n ≤ length (now flags)) ⌝ }
+    ensures { λ _. ⌜ now (flags .exit) ≡ over (table n (startFlags (costed n [] (now (lowers .entry)) (now (uppers .entry))) (now (xs .entry)))) (now (flags .entry)) ⌝ }
+{
+    for j in 0..n {
+        let f = rules::NonBasicVarState {
+            at_min: xs[j] == lowers[j],
+            at_max: xs[j] == uppers[j],
+        };
+        flags[j] = cells::pack_flags(f);
+    }
+}
+
+// The first state over the fronts of what is lent, from the numbers in scratch. "Columns are non-basic in their order,
+// and slacks basic in theirs, so the cell of variable v is v"; the eta store is empty.
+pub fn write_start(
+    n: usize,
+    m: usize,
+    costs: &[f64],
+    lowers: &[f64],
+    uppers: &[f64],
+    xs: &[f64; doubles::MAX_COLUMNS],
+    slacks: &[f64; doubles::MAX_ROWS],
+    norms: &[f64; doubles::MAX_COLUMNS],
+    basic_vars: &mut [usize],
+    basic_var_vals: &mut [f64],
+    nb_vars: &mut [usize],
+    nb_var_vals: &mut [f64],
+    nb_var_obj_coeffs: &mut [f64],
+    primal_edge_sq_norms: &mut [f64],
+    nb_var_states: &mut [u8],
+    var_states: &mut [usize],
+    eta_starts: &mut [usize],
+)
+    requires { ⌜ (n ≤ maxColumns) × (m ≤ maxRows) × Columns n (now costs) (now lowers) (now uppers) × Scratch n m (now xs) (now slacks) (now norms) ⌝ }
+    requires { ⌜ Room n m (workspaceOf (now «basic_vars») (now «basic_var_vals») (now «nb_vars») (now «nb_var_vals») (now «nb_var_obj_coeffs»)
+        (now «primal_edge_sq_norms») (now «nb_var_states») (now «var_states») (etasOf [] (now «eta_starts») [] [])) ⌝ }
+    ensures { λ _. ⌜ workspaceOf (now («basic_vars» .exit)) (now («basic_var_vals» .exit)) (now («nb_vars» .exit)) (now («nb_var_vals» .exit)) (now («nb_var_obj_coeffs» .exit))
+        (now («primal_edge_sq_norms» .exit)) (now («nb_var_states» .exit)) (now («var_states» .exit)) (etasOf [] (now («eta_starts» .exit)) [] [])
+        ≡ written n m (now (costs .entry)) (now (lowers .entry)) (now (uppers .entry)) (now (xs .entry)) (now (slacks .entry)) (now (norms .entry))
+        (workspaceOf (now («basic_vars» .entry)) (now («basic_var_vals» .entry)) (now («nb_vars» .entry)) (now («nb_var_vals» .entry)) (now («nb_var_obj_coeffs» .entry))
+        (now («primal_edge_sq_norms» .entry)) (now («nb_var_states» .entry)) (now («var_states» .entry)) (etasOf [] (now («eta_starts» .entry)) [] [])) ⌝ }
+{
+    count_from(n, m, basic_vars);
+    copy_front(m, slacks, basic_var_vals);
+    count_from(0, n, nb_vars);
+    copy_front(n, xs, nb_var_vals);
+    copy_front(n, costs, nb_var_obj_coeffs);
+    copy_front(n, norms, primal_edge_sq_norms);
+    write_flags(n, lowers, uppers, xs, nb_var_states);
+    count_from(0, n + m, var_states);
+    eta_starts[0] = 0;
+}
