@@ -1,0 +1,12 @@
+-- `eta::factor_solve_transp` meets its contract: the identity. Assumes nothing.
+use mathlib.Core.Path.{refl}
+use Rattle.rules.specs.Basis.{factorSolveTransp}
+use Rattle.eta.proofs.factor_solve_transp.Statement.{statement}
+use Rattle.eta.proofs.factor_solve_transp.Tie as tie
+
+returns : tie.Need-returns
+unfolding factorSolveTransp
+returns c = refl
+
+pub factor-solve-transp-spec : {M : Type 1} → statement M
+factor-solve-transp-spec = tie.close (tie.spec returns)

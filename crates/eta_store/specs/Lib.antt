@@ -1,0 +1,2 @@
+-- The room that a new eta column needs.
+pub mod Room

@@ -1,0 +1,77 @@
+// A new eta column, written into the unused tail of the store.
+// From minilp 0.2.2, src/solver.rs, push_eta_matrix and EtaMatrices, Apache-2.0, changed: the store is lent arrays.
+ghost use mathlib.Core.Path.{_≡_};
+ghost use mathlib.Core.Bool.{Bool};
+ghost use mathlib.Core.List.{List};
+ghost use Prim.Native.Nat.{_≤_};
+ghost use lib.ListN.{length};
+ghost use Rattle.doubles.specs.Limits.{places};
+ghost use Rattle.sparse.specs.Scattered.{sv, Within};
+ghost use Rattle.rules.specs.Parts.{etasOf};
+ghost use Rattle.rules.specs.Basis.{etaEntry, tail, writeColumn, pushEta};
+ghost use Rattle.eta_store.specs.Room.{Room};
+
+// 01: "Eta entry (ours): 1 - 1/pivot at the leaving row, else coefficient/pivot".
+pub fn eta_entry(row: usize, pivot: f64, r: usize, x: f64) -> f64
+    ensures { λ y. ⌜ y ≡ etaEntry row pivot r x ⌝ }
+{
+    if r == row {
+        1.0 - 1.0 / pivot
+    } else {
+        x / pivot
+    }
+}
+
+// The entries of a new column, in its listed order, over the front of the tail that is lent. It reads no marks.
+fn write_column(
+    out_rows: &mut [usize],
+    out_coeffs: &mut [f64],
+    values: &[f64; doubles::PLACES],
+    list: &[usize; doubles::PLACES],
+    count: usize,
+    row: usize,
+    pivot: f64,
+)
+    requires { ⌜ (count ≤ length (now «out_rows»)) × (count ≤ length (now «out_coeffs»)) ⌝ }
+    requires { ⌜ (count ≤ places) × Within places count (now list) ⌝ }
+    ensures { λ _. ⌜ ((m : List Bool) → tail (now («out_rows» .exit)) (now («out_coeffs» .exit))
+        ≡ writeColumn (sv (now (values .entry)) m (now (list .entry)) count) row pivot (tail (now («out_rows» .entry)) (now («out_coeffs» .entry)))) ⌝ }
+{
+    for k in 0..count {
+        let r = list[k];
+        out_rows[k] = r;
+        out_coeffs[k] = eta_entry(row, pivot, r, values[r]);
+    }
+}
+
+// 01: "The new column goes into the unused tail of the store": as column n, after the entries of those before it.
+pub fn push_eta(
+    leaving: &mut [usize],
+    starts: &mut [usize],
+    rows: &mut [usize],
+    coeffs: &mut [f64],
+    n: usize,
+    values: &[f64; doubles::PLACES],
+    list: &[usize; doubles::PLACES],
+    count: usize,
+    row: usize,
+    pivot: f64,
+)
+    requires { ⌜ Room (etasOf (now leaving) (now starts) (now rows) (now coeffs)) n count ⌝ }
+    requires { ⌜ (count ≤ places) × Within places count (now list) ⌝ }
+    ensures { λ _. ⌜ ((m : List Bool) → etasOf (now (leaving .exit)) (now (starts .exit)) (now (rows .exit)) (now (coeffs .exit))
+        ≡ pushEta (sv (now (values .entry)) m (now (list .entry)) count) row pivot n (etasOf (now (leaving .entry)) (now (starts .entry)) (now (rows .entry)) (now (coeffs .entry)))) ⌝ }
+{
+    let used = starts[n];
+    write_column(
+        &mut rows[used..],
+        &mut coeffs[used..],
+        values,
+        list,
+        count,
+        row,
+        pivot,
+    );
+    leaving[n] = row;
+    starts[n + 1] = used + count;
+}
