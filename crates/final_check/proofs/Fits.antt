@@ -1,0 +1,58 @@
+-- What is lent can be read: from the invariants of the plan and of the state, and from the whole for a part. Assumes nothing.
+use Prim.Native.Nat.{ℕ, _+_, _<_, _≤_}
+use native.Mathlib.Omega.{arith}
+use lib.ListN.{length}
+use Rattle.doubles.specs.Limits.{vars}
+use Rattle.doubles.specs.Lists.{_#_}
+use Rattle.rules.specs.Plan.{Problem, Workspace, nOf, mOf}
+use Rattle.rules.specs.Invariant.{ProblemFits, Lengths, Maps}
+use Rattle.final_check.specs.Lent.{sizesOf, rowsOf, Valued, RowReads, RowsRead, Checkable}
+use Rattle.final_check.proofs.Parts.{valuedBy, checkedBy}
+
+-- the rows as `first_row` is lent them
+abbrev rowsBy : Problem → Problem
+rowsBy P =
+    let p = P .plan in
+    rowsOf (p .columns) (p .tolerance) (p .starts) (p .cols) (p .coeffs) (p .rhs) (P .kept)
+
+row-lent : (P : Problem) (r : ℕ) → RowReads P r → RowReads (rowsBy P) r
+row-lent P r h = record { cols-in = h .cols-in; coeffs-in = h .coeffs-in; has-rhs = h .has-rhs; columns = h .columns }
+
+pub rows-lent : (P : Problem) → RowsRead P → RowsRead (rowsBy P)
+rows-lent P h = record { room = h .room; row = λ r l. row-lent P r (h .row r l) }
+
+module _ (P : Problem) (f : ProblemFits P) where
+  few : nOf P + mOf P ≤ vars
+  few = omega (arith, f .plan .columns-most, f .plan .rows-most, f .few)
+
+  pub fits-valued : (w : Workspace) → Lengths P w → Maps P w → Valued (sizesOf (nOf P) (P .kept)) (valuedBy w)
+  fits-valued w l m =
+      record {
+        room = few;
+        placed = λ v h. record { has-cell = omega (arith, l .varStates-long); vals-long = l .nbVarVals-long; cell-fits = omega (arith, m .variable v h .cell, l .basicVarVals-long) };
+      }
+
+  row-reads : (r : ℕ) → r < mOf P → RowReads P r
+  row-reads r h =
+      let k = f .kept r h .inside in
+      let i = f .plan .row (P .kept # r) k in
+      record {
+        cols-in = record { has = omega (arith, f .plan .starts-long); rises = i .rises; ends = omega (arith, i .ends, f .plan .cols-long) };
+        coeffs-in = record { has = omega (arith, f .plan .starts-long); rises = i .rises; ends = omega (arith, i .ends, f .plan .coeffs-long) };
+        has-rhs = omega (arith, f .plan .rhs-long);
+        columns = record { inside = i .col };
+      }
+
+  pub fits-rows : RowsRead P
+  fits-rows = record { room = few; row = row-reads }
+
+  pub fits-checkable : Checkable (checkedBy P)
+  fits-checkable =
+      let row : (r : ℕ) → r < mOf P → P .kept # r < length (P .plan .ops) = λ r h. omega (arith, f .kept r h .inside, f .plan .ops-long) in
+      record {
+        sides = record {
+          lower = record { bounds-long = f .plan .lowers-long; row-inside = row };
+          upper = record { bounds-long = f .plan .uppers-long; row-inside = row };
+        };
+        rows = record { room = few; row = λ r h. let q = row-reads r h in record { cols-in = q .cols-in; coeffs-in = q .coeffs-in; has-rhs = q .has-rhs; columns = q .columns } };
+      }

@@ -1,0 +1,68 @@
+-- `final_check::row_holds`: the row's sum, its slack, and the test. Assumes nothing.
+use native.Mathlib.Omega.{arith}
+use Rattle.rules.specs.FinalCheck.{rowHolds}
+use Rattle.final_check.proofs.Laws.{row-read}
+use borrow.Author.Needs.{needs}
+use Rattle.final_check.proofs.row_holds.Statement.{statement}
+use Rattle.final_check.proofs.row_holds.Tie as tie
+
+mul-i : tie.Need-mul-i
+mul-i c = search needs
+
+shared-slice-read-i : tie.Need-shared-slice-read-i
+shared-slice-read-i c = search needs
+
+row-cols-requires : tie.Need-row-cols-requires
+row-cols-requires c κs = search needs
+
+row-coeffs-requires : tie.Need-row-coeffs-requires
+row-coeffs-requires c κs = search needs
+
+dot-requires : tie.Need-dot-requires
+dot-requires c κs =
+    let s : tie.Start = search in
+    let a : tie.After-row-cols = search in
+    row-read _ _ _ (s .pre .0) (omega (arith, s .pre .1)) (a .row-cols .ensures) (c .before .row-coeffs .ensures)
+
+mul-abs : tie.Need-mul-abs
+mul-abs c = search needs
+
+shared-slice-read-abs : tie.Need-shared-slice-read-abs
+shared-slice-read-abs c = search needs
+
+add-abs : tie.Need-add-abs
+add-abs c = search needs
+
+mul-abs-2 : tie.Need-mul-abs-2
+mul-abs-2 c = search needs
+
+element-copy-out-abs : tie.Need-element-copy-out-abs
+element-copy-out-abs c = search needs
+
+abs-requires : tie.Need-abs-requires
+abs-requires c κs = search needs
+
+returns : tie.Need-returns
+unfolding rowHolds
+returns c =
+    let a : tie.After-row-cols = search in
+    let b : tie.After-row-coeffs = search in
+    let d : tie.After-dot = search in
+    rw (c .abs .ensures, d .dot .ensures, a .row-cols .ensures, b .row-coeffs .ensures)
+
+pub row-holds-spec : {M : Type 1} → statement M
+row-holds-spec =
+    tie.close
+    (tie.spec
+    mul-i
+    shared-slice-read-i
+    row-cols-requires
+    row-coeffs-requires
+    dot-requires
+    mul-abs
+    shared-slice-read-abs
+    add-abs
+    mul-abs-2
+    element-copy-out-abs
+    abs-requires
+    returns)

@@ -1,0 +1,57 @@
+-- The parts of a problem and of a workspace that a function is lent, the others empty, and what the functions ask of them. Assumes nothing.
+use mathlib.Core.List.{List, []}
+use Prim.Native.Nat.{ℕ, _+_, _<_, _≤_}
+use lib.ListN.{length}
+use lib.Ieee.{Float}
+use Rattle.doubles.specs.Num.{f0}
+use Rattle.doubles.specs.Limits.{vars}
+use Rattle.doubles.specs.Lists.{_#_}
+use Rattle.sparse.specs.Scattered.{Within}
+use Rattle.rules.specs.Plan.{Problem, Workspace, nOf, mOf, rowCols}
+use Rattle.rules.specs.Parts.{planOf, problem, workspaceOf, noEtas}
+use Rattle.cells.specs.Bounds.{Sides}
+use Rattle.plan.specs.Lent.{RowIn}
+
+-- where each variable stands, and its value there
+abbrev pub valuedOf : List ℕ → List Float → List Float → Workspace
+valuedOf varStates basicVarVals nbVarVals = workspaceOf [] basicVarVals [] nbVarVals [] [] [] varStates noEtas
+
+-- the sizes alone
+abbrev pub sizesOf : ℕ → List ℕ → Problem
+sizesOf n kept = problem (planOf n 0 0 0 f0 [] [] [] [] [] [] [] []) kept
+
+-- what the values are checked by, what the rows are, and both
+abbrev pub sidesOf : ℕ → Float → List Float → List Float → List ℕ → List ℕ → Problem
+sidesOf n t lowers uppers ops kept = problem (planOf n 0 0 0 t [] lowers uppers [] [] [] ops []) kept
+
+abbrev pub rowsOf : ℕ → Float → List ℕ → List ℕ → List Float → List Float → List ℕ → Problem
+rowsOf n t starts cols coeffs rhs kept = problem (planOf n 0 0 0 t [] [] [] starts cols coeffs [] rhs) kept
+
+abbrev pub checkedOf : ℕ → Float → List Float → List Float → List ℕ → List ℕ → List Float → List ℕ → List Float → List ℕ → Problem
+checkedOf n t lowers uppers starts cols coeffs ops rhs kept = problem (planOf n 0 0 0 t [] lowers uppers starts cols coeffs ops rhs) kept
+
+-- the cell of variable v is a place or a row
+pub record Placed (n : ℕ) (w : Workspace) (v : ℕ) : Type 0 where
+  pub has-cell : v < length (w .varStates)
+  pub vals-long : n ≤ length (w .nbVarVals)
+  pub cell-fits : w .varStates # v < n + length (w .basicVarVals)
+
+pub record Valued (P : Problem) (w : Workspace) : Type 0 where
+  pub room : nOf P + mOf P ≤ vars
+  pub placed : (v : ℕ) → v < nOf P + mOf P → Placed (nOf P) w v
+
+-- kept row r stands within the plan, and its column numbers are columns
+pub record RowReads (P : Problem) (r : ℕ) : Type 0 where
+  pub cols-in : RowIn (P .plan .starts) (length (P .plan .cols)) (P .kept # r)
+  pub coeffs-in : RowIn (P .plan .starts) (length (P .plan .coeffs)) (P .kept # r)
+  pub has-rhs : P .kept # r < length (P .plan .rhs)
+  pub columns : Within (nOf P) (length (rowCols (P .plan) (P .kept # r))) (rowCols (P .plan) (P .kept # r))
+
+pub record RowsRead (P : Problem) : Type 0 where
+  pub room : nOf P + mOf P ≤ vars
+  pub row : (r : ℕ) → r < mOf P → RowReads P r
+
+-- what the final check is lent
+pub record Checkable (P : Problem) : Type 0 where
+  pub sides : Sides P
+  pub rows : RowsRead P

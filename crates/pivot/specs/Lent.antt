@@ -1,0 +1,40 @@
+-- What the functions ask of the arrays that they are lent. Assumes nothing.
+use mathlib.Core.Path.{_≡_}
+use mathlib.Core.List.{List}
+use Prim.Native.Nat.{ℕ, _+_, _<_, _≤_}
+use lib.ListN.{length}
+use Rattle.doubles.specs.Limits.{places}
+use Rattle.doubles.specs.Lists.{_#_}
+use Rattle.rules.specs.Plan.{Problem, Workspace, nOf, mOf}
+
+-- the first n places of a list are places of a vector and cells of an array of `cells`, each once
+pub record Listing (cells n : ℕ) (list : List ℕ) : Type 0 where
+  pub few : n ≤ places
+  pub place : (k : ℕ) → k < n → list # k < places
+  pub cell : (k : ℕ) → k < n → list # k < cells
+  pub once : (j k : ℕ) → j < n → k < n → list # j ≡ list # k → j ≡ k
+
+-- the bounds of variable v can be looked up
+pub record Bounded (P : Problem) (v : ℕ) : Type 0 where
+  pub variable : v < nOf P + mOf P
+  pub lowers-long : nOf P ≤ length (P .plan .lowers)
+  pub uppers-long : nOf P ≤ length (P .plan .uppers)
+  pub row-inside : (r : ℕ) → r < mOf P → P .kept # r < length (P .plan .ops)
+
+-- what stands at place `col` is within the arrays
+pub record Flips (P : Problem) (w : Workspace) (col : ℕ) : Type 0 where
+  pub col-inside : col < length (w .nbVars)
+  pub val-inside : col < length (w .nbVarVals)
+  pub flags-inside : col < length (w .nbVarStates)
+  pub bounds : Bounded P (w .nbVars # col)
+
+-- what changes hands at row `row` and place `col` is within the arrays
+pub record Swaps (P : Problem) (w : Workspace) (col row : ℕ) : Type 0 where
+  pub row-inside : row < length (w .basicVars)
+  pub col-inside : col < length (w .nbVars)
+  pub val-inside : col < length (w .nbVarVals)
+  pub flags-inside : col < length (w .nbVarStates)
+  pub cell : nOf P + row < length (w .varStates)
+  pub enters : w .nbVars # col < length (w .varStates)
+  pub leaves : w .basicVars # row < length (w .varStates)
+  pub leaves-bounds : Bounded P (w .basicVars # row)

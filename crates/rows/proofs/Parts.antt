@@ -1,0 +1,54 @@
+-- What callers use: the rows of a problem are those of the part that is lent, and a problem and a vector that fit give what `combine`, `relist` and `listed_finite` ask. Assumes nothing.
+use mathlib.Core.Path.{_≡_, refl}
+use mathlib.Core.List.{List}
+use Prim.Native.Nat.{ℕ, _+_, _≤_}
+use native.Mathlib.Omega.{arith}
+use Rattle.doubles.specs.Limits.{places}
+use Rattle.doubles.specs.Lists.{_#_}
+use Rattle.sparse.specs.Scattered.{Sv, blank, Within}
+use Rattle.sparse.proofs.Laws.{wf-listed}
+use Rattle.rules.specs.Plan.{Problem, nOf, mOf}
+use Rattle.rules.specs.Parts.{rowed}
+use Rattle.rules.specs.Basis.{addRow, combine}
+use Rattle.rules.specs.Invariant.{ProblemFits, Vector}
+use Rattle.rules.proofs.Vectors.{rows-places, columns-places, vector-few}
+use Rattle.rows.specs.Lent.{RowsLent, Fresh}
+
+pub fresh-blank : Fresh blank
+fresh-blank = record { fresh = refl }
+
+module _ (P : Problem) where
+  abbrev pub rowsOf : Problem
+  rowsOf = rowed (nOf P) (P .plan .starts) (P .plan .cols) (P .plan .coeffs) (P .kept)
+
+  pub combine-part : (vs : List ℕ) (y : Sv) → combine P vs y ≡ combine rowsOf vs y
+  unfolding combine addRow
+  combine-part vs y = refl
+
+  module _ (f : ProblemFits P) where
+    pub fits-rows : (cells : ℕ) → nOf P + mOf P ≤ cells → RowsLent rowsOf cells
+    fits-rows cells h =
+        record {
+          columns = columns-places P f;
+          row = λ r l.
+              let k = f .kept r l in
+              let w = f .plan .row (P .kept # r) (k .inside) in
+              let p = f .plan in
+              record {
+                inside = l;
+                starts-long = omega arith;
+                rises = w .rises;
+                cols-long = omega arith;
+                coeffs-long = omega arith;
+                cols = record { inside = λ i g. omega (arith, w .col i g) };
+                slack = omega arith;
+              };
+        }
+
+    -- a vector over the rows
+    pub vector-rows : (y : Sv) → Vector (mOf P) y → (mOf P ≤ places) × (y .pat .count ≤ places) × Within (mOf P) (y .pat .count) (y .pat .list)
+    vector-rows y v = (rows-places P f, omega (arith, vector-few y v, rows-places P f), record { inside = v .places-below .below })
+
+-- a vector in order lists at most as many places as there are, each of them one
+pub vector-listed : {m : ℕ} (y : Sv) → Vector m y → (y .pat .count ≤ places) × Within places (y .pat .count) (y .pat .list)
+vector-listed y v = (v .good .wf .within, record { inside = wf-listed (y .pat) (v .good .wf) })

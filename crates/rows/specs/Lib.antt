@@ -1,0 +1,2 @@
+-- What must be lent so that rows can be combined.
+pub mod Lent
