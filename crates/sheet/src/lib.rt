@@ -1,0 +1,126 @@
+// The audit sheet's public calls. They ask nothing: whatever is lent, the answer and every lent cell afterwards are settled.
+ghost use mathlib.Core.Path.{_≡_};
+ghost use Rattle.sheet_rules.specs.Sheet.{planOf, keptOf, sheetOf};
+ghost use Rattle.sheet_rules.specs.Promises.{Opens, Judges};
+use sheet_rules::Verdict;
+use sheet_terms::is_zero;
+
+// Opens a sheet: 11, 12 or 13 and nothing changed, or 0 and the kept numbers worked out afresh.
+pub fn open(
+    rows: usize,
+    columns: usize,
+    coefs: &[i64],
+    costs: &[i64],
+    lowers: &[i64],
+    uppers: &[i64],
+    lower_marks: &[u8],
+    upper_marks: &[u8],
+    rights: &[i64],
+    ops: &[u8],
+    amounts: &[i64],
+    mults: &[i64],
+    r: &mut [i64],
+    d: &mut [i64],
+    c: &mut [i64],
+    b: &mut [i64],
+    counts: &mut [i64],
+) -> usize
+    ensures { λ z. ⌜ Opens (sheetOf (planOf rows columns (now (coefs .entry)) (now (costs .entry)) (now (lowers .entry)) (now (uppers .entry)) (now («lower_marks» .entry)) (now («upper_marks» .entry)) (now (rights .entry)) (now (ops .entry)) (now (amounts .entry)) (now (mults .entry))) (keptOf (now (r .entry)) (now (d .entry)) (now (c .entry)) (now (b .entry)) (now (counts .entry)))) z (sheetOf (planOf rows columns (now (coefs .entry)) (now (costs .entry)) (now (lowers .entry)) (now (uppers .entry)) (now («lower_marks» .entry)) (now («upper_marks» .entry)) (now (rights .entry)) (now (ops .entry)) (now (amounts .entry)) (now (mults .entry))) (keptOf (now (r .exit)) (now (d .exit)) (now (c .exit)) (now (b .exit)) (now (counts .exit)))) ⌝ }
+{
+    let refusal = sheet_open::opening(
+        rows,
+        columns,
+        coefs,
+        costs,
+        lowers,
+        uppers,
+        lower_marks,
+        upper_marks,
+        rights,
+        ops,
+        amounts,
+        mults,
+        r,
+        d,
+        c,
+        b,
+        counts,
+    );
+    if refusal == 0 {
+        sheet_open::write_kept(
+            rows,
+            columns,
+            coefs,
+            costs,
+            lowers,
+            uppers,
+            lower_marks,
+            upper_marks,
+            rights,
+            ops,
+            amounts,
+            mults,
+            r,
+            d,
+            c,
+            b,
+            counts,
+        );
+    }
+    refusal
+}
+
+// The verdict of a sheet. It reads only.
+pub fn verdict(
+    rows: usize,
+    columns: usize,
+    coefs: &[i64],
+    costs: &[i64],
+    lowers: &[i64],
+    uppers: &[i64],
+    lower_marks: &[u8],
+    upper_marks: &[u8],
+    rights: &[i64],
+    ops: &[u8],
+    amounts: &[i64],
+    mults: &[i64],
+    r: &[i64],
+    d: &[i64],
+    c: &[i64],
+    b: &[i64],
+    counts: &[i64],
+) -> Verdict
+    ensures { λ z. ⌜ Judges (sheetOf (planOf rows columns (now (coefs .entry)) (now (costs .entry)) (now (lowers .entry)) (now (uppers .entry)) (now («lower_marks» .entry)) (now («upper_marks» .entry)) (now (rights .entry)) (now (ops .entry)) (now (amounts .entry)) (now (mults .entry))) (keptOf (now (r .entry)) (now (d .entry)) (now (c .entry)) (now (b .entry)) (now (counts .entry)))) z ⌝ }
+{
+    if !sheet_tests::sizes_fine(
+        rows,
+        columns,
+        coefs,
+        costs,
+        lowers,
+        uppers,
+        lower_marks,
+        upper_marks,
+        rights,
+        ops,
+        amounts,
+        mults,
+        r,
+        d,
+        c,
+        b,
+        counts,
+    ) {
+        return Verdict::Refused(11);
+    }
+    if !sheet_tests::kept_fine(rows, columns, r, d, c, b, counts) {
+        return Verdict::Refused(14);
+    }
+    if !(is_zero(counts[0]) & is_zero(counts[1])) {
+        return Verdict::NotPlan;
+    }
+    if !(is_zero(counts[2]) & is_zero(counts[3])) {
+        return Verdict::NoFloor;
+    }
+    Verdict::Gap(doubles::UNIT * c[0] - b[0])
+}

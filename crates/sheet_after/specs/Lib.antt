@@ -1,0 +1,2 @@
+-- The changes of R and D.
+pub mod Change

@@ -1,0 +1,2 @@
+-- The kinds' rule.
+pub mod Rules

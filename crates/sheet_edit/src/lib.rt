@@ -1,0 +1,354 @@
+// What an edit is refused for, and what it makes of each kept number. All functions read only.
+ghost use mathlib.Core.Path.{_≡_};
+ghost use mathlib.Core.Bool.{not, _||_};
+ghost use Prim.Native.Nat.{_≤_, _<_};
+ghost use lib.IntN.{natAbs, _+ℤ_};
+ghost use Rattle.doubles.specs.Limits.{maxR, maxD};
+ghost use Rattle.doubles.specs.Loop.{all};
+ghost use Rattle.sheet_rules.specs.Sheet.{planOf, keptOf, sheetOf};
+ghost use Rattle.sheet_rules.specs.Opening.{within};
+ghost use Rattle.sheet_rules.specs.Words.{Sized, Index, NumberIn};
+ghost use Rattle.sheet_rules.specs.Edit.{usesColumn, usesRow, indexFine, bothFine, columnFine, rowFine, soundAt, editRefusal, movedR, movedD};
+ghost use Rattle.sheet_tests.specs.Sized.{PlanSized};
+ghost use Rattle.sheet_moves.specs.After.{Ready, totalsAfter};
+ghost use Rattle.sheet_edit.specs.Rules.{ruleOf};
+use sheet_moves::Totals;
+use sheet_rules::Edit;
+use sheet_terms::size;
+
+// A kind's refusal, 0 for a kind of today, and the limit of the number handed in.
+pub struct Rule {
+    pub refusal: usize,
+    pub limit: u64,
+}
+
+// Kinds 8 and 9 take any number: no i64 is larger in size.
+const ANY_NUMBER: u64 = 9223372036854775808;
+
+// The kinds, each by itself; 10 to 31 are kept for later.
+pub fn kind_rule(kind: usize) -> Rule
+    ensures { λ z. ⌜ z ≡ ruleOf kind ⌝ }
+{
+    match kind {
+        1 => Rule {
+            refusal: 0,
+            limit: doubles::MAX_AMOUNT,
+        },
+        2 => Rule {
+            refusal: 0,
+            limit: doubles::MAX_COST,
+        },
+        3 => Rule {
+            refusal: 0,
+            limit: doubles::MAX_BOUND,
+        },
+        4 => Rule {
+            refusal: 0,
+            limit: doubles::MAX_BOUND,
+        },
+        5 => Rule {
+            refusal: 0,
+            limit: doubles::MAX_RIGHT_SIDE,
+        },
+        6 => Rule {
+            refusal: 0,
+            limit: doubles::MAX_COEFFICIENT,
+        },
+        7 => Rule {
+            refusal: 0,
+            limit: doubles::MAX_MULTIPLIER,
+        },
+        8 => Rule {
+            refusal: 0,
+            limit: ANY_NUMBER,
+        },
+        9 => Rule {
+            refusal: 0,
+            limit: ANY_NUMBER,
+        },
+        10..=31 => Rule {
+            refusal: 15,
+            limit: 0,
+        },
+        _ => Rule {
+            refusal: 16,
+            limit: 0,
+        },
+    }
+}
+
+// Kinds 5 and 7 use no column.
+fn uses_column(kind: usize) -> bool
+    ensures { λ z. ⌜ z ≡ usesColumn kind ⌝ }
+{
+    !((kind == 5) | (kind == 7))
+}
+
+// Kinds 5, 6 and 7 use a row.
+fn uses_row(kind: usize) -> bool
+    ensures { λ z. ⌜ z ≡ usesRow kind ⌝ }
+{
+    (kind == 5) | (kind == 6) | (kind == 7)
+}
+
+// 11: whether the used indices are within the sheet.
+fn index_fine(
+    e: Edit,
+    rows: usize,
+    columns: usize,
+    coefs: &[i64],
+    costs: &[i64],
+    lowers: &[i64],
+    uppers: &[i64],
+    lower_marks: &[u8],
+    upper_marks: &[u8],
+    rights: &[i64],
+    ops: &[u8],
+    amounts: &[i64],
+    mults: &[i64],
+) -> bool
+    ensures { λ z. ⌜ z ≡ indexFine (planOf rows columns (now (coefs .entry)) (now (costs .entry)) (now (lowers .entry)) (now (uppers .entry)) (now («lower_marks» .entry)) (now («upper_marks» .entry)) (now (rights .entry)) (now (ops .entry)) (now (amounts .entry)) (now (mults .entry))) e ⌝ }
+{
+    (!uses_column(e.kind) | (e.column < columns)) & (!uses_row(e.kind) | (e.row < rows))
+}
+
+// 13: whether the column's bounds, as kinds 3 and 4 leave them, keep their order.
+fn both_fine(
+    e: Edit,
+    rows: usize,
+    columns: usize,
+    coefs: &[i64],
+    costs: &[i64],
+    lowers: &[i64],
+    uppers: &[i64],
+    lower_marks: &[u8],
+    upper_marks: &[u8],
+    rights: &[i64],
+    ops: &[u8],
+    amounts: &[i64],
+    mults: &[i64],
+    r: &[i64],
+    d: &[i64],
+    c: &[i64],
+    b: &[i64],
+    counts: &[i64],
+) -> bool
+    requires { ⌜ Sized (sheetOf (planOf rows columns (now coefs) (now costs) (now lowers) (now uppers) (now «lower_marks») (now «upper_marks») (now rights) (now ops) (now amounts) (now mults)) (keptOf (now r) (now d) (now c) (now b) (now counts))) × Index (planOf rows columns (now coefs) (now costs) (now lowers) (now uppers) (now «lower_marks») (now «upper_marks») (now rights) (now ops) (now amounts) (now mults)) e × NumberIn e ⌝ }
+    ensures { λ z. ⌜ z ≡ bothFine (planOf rows columns (now (coefs .entry)) (now (costs .entry)) (now (lowers .entry)) (now (uppers .entry)) (now («lower_marks» .entry)) (now («upper_marks» .entry)) (now (rights .entry)) (now (ops .entry)) (now (amounts .entry)) (now (mults .entry))) e ⌝ }
+{
+    let kind = e.kind;
+    let j = e.column;
+    if kind == 3 {
+        return !sheet_tests::crosses(e.number, uppers[j], 1, upper_marks[j]);
+    }
+    if kind == 4 {
+        return !sheet_tests::crosses(lowers[j], e.number, lower_marks[j], 1);
+    }
+    true
+}
+
+// Whether a column's coefficients are within their limit.
+fn column_fine(
+    column: usize,
+    rows: usize,
+    columns: usize,
+    coefs: &[i64],
+    costs: &[i64],
+    lowers: &[i64],
+    uppers: &[i64],
+    lower_marks: &[u8],
+    upper_marks: &[u8],
+    rights: &[i64],
+    ops: &[u8],
+    amounts: &[i64],
+    mults: &[i64],
+) -> bool
+    requires { ⌜ PlanSized (planOf rows columns (now coefs) (now costs) (now lowers) (now uppers) (now «lower_marks») (now «upper_marks») (now rights) (now ops) (now amounts) (now mults)) × (column < columns) ⌝ }
+    ensures { λ z. ⌜ z ≡ columnFine (planOf rows columns (now (coefs .entry)) (now (costs .entry)) (now (lowers .entry)) (now (uppers .entry)) (now («lower_marks» .entry)) (now («upper_marks» .entry)) (now (rights .entry)) (now (ops .entry)) (now (amounts .entry)) (now (mults .entry))) column ⌝ }
+{
+    let mut i = 0;
+    while i < rows {
+        if size(coefs[i * columns + column]) > doubles::MAX_COEFFICIENT {
+            return false;
+        }
+        i += 1;
+    }
+    true
+}
+
+// Whether a row's are.
+fn row_fine(
+    row: usize,
+    rows: usize,
+    columns: usize,
+    coefs: &[i64],
+    costs: &[i64],
+    lowers: &[i64],
+    uppers: &[i64],
+    lower_marks: &[u8],
+    upper_marks: &[u8],
+    rights: &[i64],
+    ops: &[u8],
+    amounts: &[i64],
+    mults: &[i64],
+) -> bool
+    requires { ⌜ PlanSized (planOf rows columns (now coefs) (now costs) (now lowers) (now uppers) (now «lower_marks») (now «upper_marks») (now rights) (now ops) (now amounts) (now mults)) × (row < rows) ⌝ }
+    ensures { λ z. ⌜ z ≡ rowFine (planOf rows columns (now (coefs .entry)) (now (costs .entry)) (now (lowers .entry)) (now (uppers .entry)) (now («lower_marks» .entry)) (now («upper_marks» .entry)) (now (rights .entry)) (now (ops .entry)) (now (amounts .entry)) (now (mults .entry))) row ⌝ }
+{
+    let mut j = 0;
+    while j < columns {
+        if size(coefs[row * columns + j]) > doubles::MAX_COEFFICIENT {
+            return false;
+        }
+        j += 1;
+    }
+    true
+}
+
+// Whether the coefficients of the used column are, and of the used row.
+fn column_sound(
+    e: Edit,
+    rows: usize,
+    columns: usize,
+    coefs: &[i64],
+    costs: &[i64],
+    lowers: &[i64],
+    uppers: &[i64],
+    lower_marks: &[u8],
+    upper_marks: &[u8],
+    rights: &[i64],
+    ops: &[u8],
+    amounts: &[i64],
+    mults: &[i64],
+) -> bool
+    requires { ⌜ PlanSized (planOf rows columns (now coefs) (now costs) (now lowers) (now uppers) (now «lower_marks») (now «upper_marks») (now rights) (now ops) (now amounts) (now mults)) × Index (planOf rows columns (now coefs) (now costs) (now lowers) (now uppers) (now «lower_marks») (now «upper_marks») (now rights) (now ops) (now amounts) (now mults)) e ⌝ }
+    ensures { λ z. ⌜ z ≡ (not (usesColumn (e .kind)) || columnFine (planOf rows columns (now (coefs .entry)) (now (costs .entry)) (now (lowers .entry)) (now (uppers .entry)) (now («lower_marks» .entry)) (now («upper_marks» .entry)) (now (rights .entry)) (now (ops .entry)) (now (amounts .entry)) (now (mults .entry))) (e .column)) ⌝ }
+{
+    if uses_column(e.kind) {
+        return column_fine(
+            e.column,
+            rows,
+            columns,
+            coefs,
+            costs,
+            lowers,
+            uppers,
+            lower_marks,
+            upper_marks,
+            rights,
+            ops,
+            amounts,
+            mults,
+        );
+    }
+    true
+}
+
+fn row_sound(
+    e: Edit,
+    rows: usize,
+    columns: usize,
+    coefs: &[i64],
+    costs: &[i64],
+    lowers: &[i64],
+    uppers: &[i64],
+    lower_marks: &[u8],
+    upper_marks: &[u8],
+    rights: &[i64],
+    ops: &[u8],
+    amounts: &[i64],
+    mults: &[i64],
+) -> bool
+    requires { ⌜ PlanSized (planOf rows columns (now coefs) (now costs) (now lowers) (now uppers) (now «lower_marks») (now «upper_marks») (now rights) (now ops) (now amounts) (now mults)) × Index (planOf rows columns (now coefs) (now costs) (now lowers) (now uppers) (now «lower_marks») (now «upper_marks») (now rights) (now ops) (now amounts) (now mults)) e ⌝ }
+    ensures { λ z. ⌜ z ≡ (not (usesRow (e .kind)) || rowFine (planOf rows columns (now (coefs .entry)) (now (costs .entry)) (now (lowers .entry)) (now (uppers .entry)) (now («lower_marks» .entry)) (now («upper_marks» .entry)) (now (rights .entry)) (now (ops .entry)) (now (amounts .entry)) (now (mults .entry))) (e .row)) ⌝ }
+{
+    if uses_row(e.kind) {
+        return row_fine(
+            e.row,
+            rows,
+            columns,
+            coefs,
+            costs,
+            lowers,
+            uppers,
+            lower_marks,
+            upper_marks,
+            rights,
+            ops,
+            amounts,
+            mults,
+        );
+    }
+    true
+}
+
+// 14, before the edit.
+fn sound(
+    e: Edit,
+    rows: usize,
+    columns: usize,
+    coefs: &[i64],
+    costs: &[i64],
+    lowers: &[i64],
+    uppers: &[i64],
+    lower_marks: &[u8],
+    upper_marks: &[u8],
+    rights: &[i64],
+    ops: &[u8],
+    amounts: &[i64],
+    mults: &[i64],
+    r: &[i64],
+    d: &[i64],
+    c: &[i64],
+    b: &[i64],
+    counts: &[i64],
+) -> bool
+    requires { ⌜ Sized (sheetOf (planOf rows columns (now coefs) (now costs) (now lowers) (now uppers) (now «lower_marks») (now «upper_marks») (now rights) (now ops) (now amounts) (now mults)) (keptOf (now r) (now d) (now c) (now b) (now counts))) × Index (planOf rows columns (now coefs) (now costs) (now lowers) (now uppers) (now «lower_marks») (now «upper_marks») (now rights) (now ops) (now amounts) (now mults)) e ⌝ }
+    ensures { λ z. ⌜ z ≡ soundAt e (sheetOf (planOf rows columns (now (coefs .entry)) (now (costs .entry)) (now (lowers .entry)) (now (uppers .entry)) (now («lower_marks» .entry)) (now («upper_marks» .entry)) (now (rights .entry)) (now (ops .entry)) (now (amounts .entry)) (now (mults .entry))) (keptOf (now (r .entry)) (now (d .entry)) (now (c .entry)) (now (b .entry)) (now (counts .entry)))) ⌝ }
+{
+    sheet_tests::arrays_fine(
+        rows,
+        columns,
+        coefs,
+        costs,
+        lowers,
+        uppers,
+        lower_marks,
+        upper_marks,
+        rights,
+        ops,
+        amounts,
+        mults,
+    )
+        & column_sound(
+            e,
+            rows,
+            columns,
+            coefs,
+            costs,
+            lowers,
+            uppers,
+            lower_marks,
+            upper_marks,
+            rights,
+            ops,
+            amounts,
+            mults,
+        )
+        & row_sound(
+            e,
+            rows,
+            columns,
+            coefs,
+            costs,
+            lowers,
+            uppers,
+            lower_marks,
+            upper_marks,
+            rights,
+            ops,
+            amounts,
+            mults,
+        )
+        & sheet_tests::kept_fine(rows, columns, r, d, c, b, counts)
+}

@@ -1,0 +1,2 @@
+-- What the moves ask, and what they give.
+pub mod After

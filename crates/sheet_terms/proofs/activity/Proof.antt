@@ -1,0 +1,97 @@
+-- `sheet_terms::activity` meets its contract. The invariant: the sum so far is that of the columns passed. Assumes nothing.
+use mathlib.Core.Path.{_≡_, refl, sym, ap, _∙_}
+use borrow.Author.Needs.{needs}
+use Prim.Native.Nat.{ℕ, _+_, _*_, _≤_, _<_, _-_}
+use mathlib.Core.List.{List}
+use native.Mathlib.Omega.{arith}
+use lib.ListN.{length}
+use lib.IntN.{ℤ, pos, natAbs, _+ℤ_, _*ℤ_}
+use mir.Syntax.{w64}
+use mir.Val.{toZ}
+use Rattle.doubles.specs.Limits.{maxColumns, maxCoefficient, maxAmount}
+use Rattle.doubles.specs.Loop.{run}
+use Rattle.sheet_rules.specs.Sum.{_‼_, sum}
+use Rattle.sheet_rules.specs.Sheet.{rowSum}
+use Rattle.sheet_terms.specs.Small.{Small}
+use Rattle.sheet_rules.proofs.Sizes.{mul-size}
+use Rattle.sheet_terms.proofs.Machine.{up-to, E, num, acc, add, mul, exact, fit}
+use Rattle.sheet_terms.proofs.Laws.{sum-next, sum-done}
+use Rattle.sheet_terms.proofs.activity.Statement.{statement}
+use Rattle.sheet_terms.proofs.activity.Tie as tie
+
+abbrev Inv-loop : tie.InvT-loop
+Inv-loop row amounts r₀ j₀ r j = (j ≤ length row) × (toZ w64 r ≡ sum j (λ k. row ‼ k *ℤ amounts ‼ k))
+
+abbrev μ-loop : tie.MeasureT-loop
+μ-loop row amounts r₀ j₀ r j = length row - j
+
+-- the sum so far is small
+so-far : (a x : List ℤ) (n j : ℕ) → Small maxCoefficient n a → Small maxAmount n x → j ≤ n → n ≤ maxColumns → natAbs (sum j (λ k. a ‼ k *ℤ x ‼ k)) ≤ maxColumns * (maxCoefficient * maxAmount)
+so-far a x n j ha hx l m = up-to maxColumns (maxCoefficient * maxAmount) j (λ k. a ‼ k *ℤ x ‼ k) (omega arith) (λ k p. mul-size (a ‼ k) (x ‼ k) maxCoefficient maxAmount (ha .at k (omega arith)) (hx .at k (omega arith)))
+
+-- a turn's product and sum, as the machine has them
+module _ (c : tie.In-loop Inv-loop μ-loop) where
+  abbrev s : tie.Start Inv-loop μ-loop
+  s = c .before .before
+
+  abbrev j : ℕ
+  j = c .before .loop .j
+
+  abbrev product : E
+  product = mul (num (s .args .row .now ‼ j) maxCoefficient (s .pre .1 .at j (c .loop-test .taken))) (num (s .args .amounts .now ‼ j) maxAmount (s .pre .2 .at j (c .loop-test .taken)))
+
+  abbrev next : E
+  next = add (acc (toZ w64 (c .before .loop .r)) (maxColumns * (maxCoefficient * maxAmount)) (rw (c .before .loop .inv .1) (so-far (s .args .row .now) (s .args .amounts .now) (length (s .args .row .now)) j (s .pre .1) (s .pre .2) (c .before .loop .inv .0) (s .pre .0)))) product
+
+loop-holds : tie.Need-loop-holds Inv-loop μ-loop
+unfolding sum run
+loop-holds c = (search needs, refl)
+
+mul-r : tie.Need-mul-r Inv-loop μ-loop
+mul-r c = search needs
+
+shared-slice-copy-out-r : tie.Need-shared-slice-copy-out-r Inv-loop μ-loop
+shared-slice-copy-out-r c = search needs
+
+mul-r-2 : tie.Need-mul-r-2 Inv-loop μ-loop
+mul-r-2 c = omega (arith, c .before .before .before .pre .2 .there)
+
+shared-slice-copy-out-r-2 : tie.Need-shared-slice-copy-out-r-2 Inv-loop μ-loop
+shared-slice-copy-out-r-2 c = omega (arith, c .before .before .before .pre .2 .there)
+
+mul-r-3 : tie.Need-mul-r-3 Inv-loop μ-loop
+mul-r-3 c = fit (product (c .before .before)) tt
+
+add-r : tie.Need-add-r Inv-loop μ-loop
+add-r c = fit (next (c .before .before)) tt
+
+add-j : tie.Need-add-j Inv-loop μ-loop
+add-j c = search needs
+
+loop-less : tie.Need-loop-less Inv-loop μ-loop
+loop-less c = search needs
+
+loop-again : tie.Need-loop-again Inv-loop μ-loop
+loop-again c = (search needs, exact (next (c .before .before)) tt ∙ sum-next _ _ _ (c .before .before .before .loop .inv .1))
+
+returns : tie.Need-returns Inv-loop μ-loop
+unfolding rowSum
+returns c = sum-done _ _ _ _ (omega arith) (omega arith) (c .before .loop .inv .1)
+
+pub activity-spec : {M : Type 1} → statement M
+activity-spec =
+    tie.close
+    (tie.spec
+    Inv-loop
+    μ-loop
+    loop-holds
+    mul-r
+    shared-slice-copy-out-r
+    mul-r-2
+    shared-slice-copy-out-r-2
+    mul-r-3
+    add-r
+    add-j
+    loop-less
+    loop-again
+    returns)

@@ -1,0 +1,18 @@
+-- `sheet_terms::bit` meets its contract. Assumes nothing.
+use mathlib.Core.Path.{_≡_, refl, sym, ap, _∙_}
+use Rattle.sheet_rules.specs.Sum.{bit}
+use Rattle.sheet_terms.proofs.bit.Statement.{statement}
+use Rattle.sheet_terms.proofs.bit.Tie as tie
+use Rattle.sheet_terms.proofs.bit.Reads as reads
+use Rattle.sheet_terms.proofs.bit.Lts as lts
+
+returns : tie.Need-returns
+unfolding bit
+returns c = rw (c .if1 .taken)
+
+returns-2 : tie.Need-returns-2
+unfolding bit
+returns-2 c = rw (c .if1 .left)
+
+pub bit-spec : {M : Type 1} → statement M
+bit-spec = tie.close (tie.spec returns returns-2)

@@ -1,0 +1,2 @@
+-- What the tests of sizes and numbers tell of a sheet.
+pub mod Sized
