@@ -1,0 +1,3 @@
+-- The night cases, proved, and the wrong programs that they turn away.
+pub mod Night
+pub mod WrongPrograms

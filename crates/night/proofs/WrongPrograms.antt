@@ -1,0 +1,58 @@
+-- The wrong programs of 01 about the sheet: each breaks its promise on a night case of N5. Assumes nothing.
+use mathlib.Core.Path.{_≡_, refl, sym, ap, _∙_}
+use mathlib.Core.List.{List, [], map}
+use Prim.Native.Nat.{ℕ, zero, suc}
+use native.Mathlib.Omega.{arith}
+use lib.ListN.{getD}
+use lib.IntN.{ℤ, pos, natAbs}
+use Rattle.doubles.specs.Loop.{run, all, tab}
+use Rattle.sheet_rules.specs.Sum.{_‼_, sum, bit}
+use Rattle.sheet_rules.specs.Sheet.{Plan, Sheet, sheetOf, holds, wrong, outside, termBy, term, lacksBy, lacks, activity, price, cost, floor, brokenRows, outsideAmounts, wrongSigns, absentNeeded, fresh, overKept}
+use Rattle.sheet_rules.specs.Opening.{leaves, firstFailed, sizesFine, allWithin, boundFine, boundsFine, opsFine, arraysFine, numbersFine, crosses, uncrossed, opening, opened}
+use Rattle.sheet_rules.specs.Verdict.{countFine, countsFine, keptFine, isZero, verdict}
+use Rattle.sheet_rules.specs.Edit.{put, edited, movedR, movedD, movedC, movedB, movedBroken, movedOutside, movedWrong, movedAbsent, moved, applied, indexFine, numberFine, bothFine, columnFine, rowFine, soundAt, editRefusal, edit}
+use Rattle.sheet_rules.specs.Promises.{Edits, Judges}
+use Rattle.sheet_rules.specs.Night.{minus, n2, amountTo}
+use Rattle.night.specs.Cases.{Shown, solves, judges, Case, shown, wanted, cases}
+use Rattle.night.proofs.Night.{night}
+use Rattle.sheet_rules.specs.declared.Edit.{Edit}
+use Rattle.sheet_rules.specs.declared.Verdict.{Verdict}
+use Rattle.sheet_rules.specs.declared.Verdict.the-variants.{NotPlan, Gap}
+
+-- N5's first sheet with its amount edited to 3 is N5's fourth, opened
+edited-night : edit (opened (n2 (pos 4) (minus 3072))) (amountTo 3) ≡ opened (n2 (pos 3) (minus 3072))
+unfolding run all tab sum bit holds wrong outside termBy term lacksBy lacks activity price cost floor brokenRows outsideAmounts wrongSigns absentNeeded fresh overKept firstFailed sizesFine allWithin boundFine boundsFine opsFine arraysFine numbersFine crosses uncrossed opening opened countFine countsFine keptFine isZero put edited movedR movedD movedC movedB movedBroken movedOutside movedWrong movedAbsent moved applied indexFine numberFine bothFine columnFine rowFine soundAt editRefusal edit
+edited-night = refl
+
+-- opening leaves the plan
+same-plan : (s : Sheet) → (opened s) .plan ≡ s .plan
+unfolding opened
+same-plan s = at (opening s)
+  where
+    at : (n : ℕ) → (leaves n (sheetOf (s .plan) (overKept (fresh (s .plan)) (s .kept))) s) .plan ≡ s .plan
+    at zero = refl
+    at (suc n) = refl
+
+-- 01: "an edit that does nothing"
+pub does-nothing : (program : Sheet → Edit → Sheet) → ((s : Sheet) (e : Edit) → program s e ≡ s) → (answer : ℕ)
+    → let s = opened (n2 (pos 4) (minus 3072)) in Edits s (amountTo 3) answer (program s (amountTo 3)) → ⊥
+does-nothing program idle answer h =
+    let s = opened (n2 (pos 4) (minus 3072)) in
+    let e : s ≡ opened (n2 (pos 3) (minus 3072)) = sym (idle s (amountTo 3)) ∙ h .left ∙ edited-night in
+    let w : _≡_ {A = ℕ} 4 3 = ap (λ (p : Plan). natAbs (p .amounts ‼ 0)) (sym (same-plan (n2 (pos 4) (minus 3072))) ∙ ap (λ (t : Sheet). t .plan) e ∙ same-plan (n2 (pos 3) (minus 3072))) in
+    omega arith
+
+-- the verdict that a sheet's case shows
+abbrev said : Shown → Verdict
+said (solves a v k) = NotPlan
+said (judges n d b v) = v
+
+-- 01: "a sheet that never shows a gap"
+pub never-a-gap : (program : Sheet → Verdict) → ((s : Sheet) (g : ℤ) → program s ≡ Gap g → g ≡ pos 0)
+    → let s = opened (n2 (pos 4) (minus 4096)) in Judges s (program s) → ⊥
+unfolding cases shown wanted
+never-a-gap program none h =
+    let s = opened (n2 (pos 4) (minus 4096)) in
+    let e : verdict s ≡ Gap (pos 4096) = ap (λ (l : List Shown). said (getD l 8 (judges 0 [] [] NotPlan))) night in
+    let w : _≡_ {A = ℕ} 4096 0 = ap natAbs (none s (pos 4096) (h .answers ∙ e)) in
+    omega arith
