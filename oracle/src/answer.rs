@@ -1,0 +1,185 @@
+//! What a call of the solver answers. All ours.
+
+/// Where a 23 arose, in the order in which document 01's step reaches the numbers.
+#[derive(Clone, Copy, Debug, PartialEq, Eq, PartialOrd, Ord, Hash)]
+pub enum Named {
+    Column,
+    Limit,
+    Quotient,
+    Distance,
+    Row,
+    Helper,
+    Objective,
+    /// The entering column's new value.
+    Value,
+    /// Another basic value.
+    Basic,
+    Leaving,
+    Price,
+    Norm,
+    Eta,
+}
+
+impl Named {
+    pub const ALL: [Named; 13] = [
+        Named::Column,
+        Named::Limit,
+        Named::Quotient,
+        Named::Distance,
+        Named::Row,
+        Named::Helper,
+        Named::Objective,
+        Named::Value,
+        Named::Basic,
+        Named::Leaving,
+        Named::Price,
+        Named::Norm,
+        Named::Eta,
+    ];
+
+    pub fn name(self) -> &'static str {
+        match self {
+            Named::Column => "column",
+            Named::Limit => "limit",
+            Named::Quotient => "quotient",
+            Named::Distance => "distance",
+            Named::Row => "row",
+            Named::Helper => "helper",
+            Named::Objective => "objective",
+            Named::Value => "value",
+            Named::Basic => "basic",
+            Named::Leaving => "leaving",
+            Named::Price => "price",
+            Named::Norm => "norm",
+            Named::Eta => "eta",
+        }
+    }
+}
+
+/// Which start number of a 6 isn't finite: the first in 01's order.
+#[derive(Clone, Copy, Debug, PartialEq, Eq, Hash)]
+pub enum StartNumber {
+    Value,
+    Objective,
+    Norm,
+}
+
+/// Which room of a 22 is too small; columns first where both are.
+#[derive(Clone, Copy, Debug, PartialEq, Eq, Hash)]
+pub enum Room {
+    Columns,
+    Entries,
+}
+
+/// 24's first rejected place: a value (columns, then kept slacks) or a kept row.
+#[derive(Clone, Copy, Debug, PartialEq, Eq, Hash)]
+pub enum Rejected {
+    Value(usize),
+    Row(usize),
+}
+
+/// Every answer of a call, 0 to 7 and 20 to 24.
+#[derive(Clone, Copy, Debug, PartialEq, Eq, Hash)]
+pub enum Outcome {
+    Optimal,
+    BadSize,
+    BadNumber,
+    BadEntry {
+        row: usize,
+        place: usize,
+    },
+    CrossedBounds {
+        column: usize,
+    },
+    FalseEmptyRow {
+        row: usize,
+    },
+    StartNotFinite(StartNumber),
+    SlackOutside,
+    Unbounded,
+    Spent,
+    NoRoom(Room),
+    NotFinite {
+        named: Named,
+        /// Whether it arose while a flip was stored.
+        flip: bool,
+    },
+    Rejected(Rejected),
+    /// Only with `--shown`: the shown text would have panicked here.
+    Panicked,
+}
+
+impl Outcome {
+    /// 01's number.
+    pub fn number(self) -> u8 {
+        match self {
+            Outcome::Optimal => 0,
+            Outcome::BadSize => 1,
+            Outcome::BadNumber => 2,
+            Outcome::BadEntry { .. } => 3,
+            Outcome::CrossedBounds { .. } => 4,
+            Outcome::FalseEmptyRow { .. } => 5,
+            Outcome::StartNotFinite(_) => 6,
+            Outcome::SlackOutside => 7,
+            Outcome::Unbounded => 20,
+            Outcome::Spent => 21,
+            Outcome::NoRoom(_) => 22,
+            Outcome::NotFinite { .. } => 23,
+            Outcome::Rejected(_) => 24,
+            Outcome::Panicked => 99,
+        }
+    }
+
+    /// What `--why` adds.
+    pub fn why(self) -> Option<&'static str> {
+        match self {
+            Outcome::StartNotFinite(StartNumber::Value) => Some("slack"),
+            Outcome::StartNotFinite(StartNumber::Objective) => Some("objective"),
+            Outcome::StartNotFinite(StartNumber::Norm) => Some("norm"),
+            Outcome::NoRoom(Room::Columns) => Some("columns"),
+            Outcome::NoRoom(Room::Entries) => Some("entries"),
+            Outcome::NotFinite { named, .. } => Some(named.name()),
+            _ => None,
+        }
+    }
+}
+
+/// The workspace after the last whole step.
+#[derive(Clone, Debug, Default, PartialEq)]
+pub struct State {
+    pub kept: Vec<usize>,
+    pub basic: Vec<usize>,
+    pub nonbasic: Vec<usize>,
+    pub bval: Vec<f64>,
+    pub nval: Vec<f64>,
+    pub price: Vec<f64>,
+    pub norm: Vec<f64>,
+    pub flags: Vec<u8>,
+    pub etarow: Vec<usize>,
+    pub etaptr: Vec<usize>,
+    pub etaidx: Vec<usize>,
+    pub etaval: Vec<f64>,
+}
+
+/// The outcome with its numbers: a refusal has objective 0.0, 0 steps, no values and no state.
+#[derive(Clone, Debug)]
+pub struct Answer {
+    pub outcome: Outcome,
+    pub objective: f64,
+    pub steps: u64,
+    /// Columns, then kept slacks; only with Optimal.
+    pub values: Vec<f64>,
+    pub state: Option<State>,
+}
+
+impl Answer {
+    pub fn refusal(outcome: Outcome) -> Answer {
+        Answer {
+            outcome,
+            objective: 0.0,
+            steps: 0,
+            values: vec![],
+            state: None,
+        }
+    }
+}

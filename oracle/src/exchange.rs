@@ -1,0 +1,338 @@
+//! The exchange text: plans and triangles in, answer lines out. All ours.
+//!
+//! Doubles are the 16 hex digits of their bits, whole numbers are decimal. The number of tokens on
+//! an array's line is the lent array's length; an array without a line has length 0.
+
+use std::fmt::{self, Write as _};
+use std::io::{self, BufRead};
+
+use crate::{
+    answer::{Answer, Outcome, Rejected},
+    plan::{Lent, Plan},
+    tri::{Tri, TriAnswer},
+};
+
+pub enum Item {
+    Plan(Plan),
+    Tri(Tri),
+}
+
+/// Reads block after block.
+pub struct Reader<R> {
+    lines: io::Lines<R>,
+    line: usize,
+}
+
+impl<R: BufRead> Reader<R> {
+    pub fn new(input: R) -> Reader<R> {
+        Reader {
+            lines: input.lines(),
+            line: 0,
+        }
+    }
+
+    /// The next line that isn't blank.
+    fn line(&mut self) -> Result<Option<String>, String> {
+        for line in self.lines.by_ref() {
+            self.line += 1;
+            let line = line.map_err(|err| err.to_string())?;
+            if !line.trim().is_empty() {
+                return Ok(Some(line));
+            }
+        }
+        Ok(None)
+    }
+
+    fn block(&mut self) -> Result<Option<Item>, String> {
+        let Some(head) = self.line()? else {
+            return Ok(None);
+        };
+        let mut words = head.split_whitespace();
+        match words.next() {
+            Some("plan") => {
+                let mut plan = Plan {
+                    id: word(words.next())?,
+                    ..Plan::default()
+                };
+                while self.field(|key, words| plan_field(&mut plan, key, words))? {}
+                Ok(Some(Item::Plan(plan)))
+            }
+            Some("tri") => {
+                let mut tri = Tri {
+                    id: word(words.next())?,
+                    upper: match words.next() {
+                        Some("lower") => false,
+                        Some("upper") => true,
+                        _ => return Err("a triangle is lower or upper".into()),
+                    },
+                    size: whole(words.next())?,
+                    entries: whole(words.next())?,
+                    ..Tri::default()
+                };
+                while self.field(|key, words| tri_field(&mut tri, key, words))? {}
+                Ok(Some(Item::Tri(tri)))
+            }
+            _ => Err("a block begins with plan or tri".into()),
+        }
+    }
+
+    /// One line of a block: false at its end.
+    fn field<F>(&mut self, mut set: F) -> Result<bool, String>
+    where
+        F: FnMut(&str, &mut dyn Iterator<Item = &str>) -> Result<(), String>,
+    {
+        let line = self.line()?.ok_or("a block without its end")?;
+        let mut words = line.split_whitespace();
+        match words.next() {
+            Some("end") => Ok(false),
+            Some(key) => set(key, &mut words).map(|()| true),
+            None => Ok(true),
+        }
+    }
+}
+
+impl<R: BufRead> Iterator for Reader<R> {
+    type Item = Result<Item, String>;
+
+    fn next(&mut self) -> Option<Result<Item, String>> {
+        match self.block() {
+            Ok(item) => item.map(Ok),
+            Err(err) => Some(Err(format!("line {}: {}", self.line, err))),
+        }
+    }
+}
+
+fn plan_field(
+    plan: &mut Plan,
+    key: &str,
+    words: &mut dyn Iterator<Item = &str>,
+) -> Result<(), String> {
+    match key {
+        "dims" => {
+            plan.columns = whole(words.next())?;
+            plan.rows = whole(words.next())?;
+            plan.entries = whole(words.next())?;
+            plan.budget = whole(words.next())?;
+            plan.tolerance = double(words.next())?;
+        }
+        "cost" => plan.cost = doubles(words)?,
+        "lower" => plan.lower = doubles(words)?,
+        "upper" => plan.upper = doubles(words)?,
+        "starts" => plan.starts = wholes(words)?,
+        "cols" => plan.cols = wholes(words)?,
+        "coef" => plan.coef = doubles(words)?,
+        "ops" => plan.ops = wholes(words)?,
+        "rhs" => plan.rhs = doubles(words)?,
+        "room" => {
+            let mut room = || whole(words.next());
+            plan.room = Some([room()?, room()?, room()?]);
+        }
+        "short" => {
+            let name = word(words.next())?;
+            let lent = Lent::ALL.into_iter().find(|lent| lent.name() == name);
+            let lent = lent.ok_or_else(|| format!("no lent array {}", name))?;
+            plan.short.push((lent, whole(words.next())?));
+        }
+        _ => return Err(format!("no line {} in a plan", key)),
+    }
+    Ok(())
+}
+
+fn tri_field(
+    tri: &mut Tri,
+    key: &str,
+    words: &mut dyn Iterator<Item = &str>,
+) -> Result<(), String> {
+    match key {
+        "starts" => tri.starts = wholes(words)?,
+        "rows" => tri.rows = wholes(words)?,
+        "vals" => tri.vals = doubles(words)?,
+        "diag" => tri.diag = Some(doubles(words)?),
+        "list" => tri.list = wholes(words)?,
+        "lvals" => tri.lvals = doubles(words)?,
+        _ => return Err(format!("no line {} in a triangle", key)),
+    }
+    Ok(())
+}
+
+fn word(word: Option<&str>) -> Result<String, String> {
+    word.map(str::to_string).ok_or("a word is missing".into())
+}
+
+fn whole(word: Option<&str>) -> Result<u64, String> {
+    let word = word.ok_or("a whole number is missing")?;
+    word.parse()
+        .map_err(|_| format!("{} isn't a whole number", word))
+}
+
+fn double(word: Option<&str>) -> Result<f64, String> {
+    let word = word.ok_or("a double is missing")?;
+    let is_hex = word.len() == 16 && word.bytes().all(|b| b.is_ascii_hexdigit());
+    match u64::from_str_radix(word, 16) {
+        Ok(bits) if is_hex => Ok(f64::from_bits(bits)),
+        _ => Err(format!("{} isn't a double's 16 hex digits", word)),
+    }
+}
+
+fn wholes(words: &mut dyn Iterator<Item = &str>) -> Result<Vec<u64>, String> {
+    words.map(|w| whole(Some(w))).collect()
+}
+
+fn doubles(words: &mut dyn Iterator<Item = &str>) -> Result<Vec<f64>, String> {
+    words.map(|w| double(Some(w))).collect()
+}
+
+/// A plan in the exchange text.
+impl fmt::Display for Plan {
+    fn fmt(&self, f: &mut fmt::Formatter<'_>) -> fmt::Result {
+        writeln!(f, "plan {}", self.id)?;
+        writeln!(
+            f,
+            "dims {} {} {} {} {:016x}",
+            self.columns,
+            self.rows,
+            self.entries,
+            self.budget,
+            self.tolerance.to_bits()
+        )?;
+        write_doubles_line(f, "cost", &self.cost)?;
+        write_doubles_line(f, "lower", &self.lower)?;
+        write_doubles_line(f, "upper", &self.upper)?;
+        write_wholes_line(f, "starts", &self.starts)?;
+        write_wholes_line(f, "cols", &self.cols)?;
+        write_doubles_line(f, "coef", &self.coef)?;
+        write_wholes_line(f, "ops", &self.ops)?;
+        write_doubles_line(f, "rhs", &self.rhs)?;
+        if let Some(room) = &self.room {
+            write_wholes_line(f, "room", room)?;
+        }
+        for (lent, length) in &self.short {
+            writeln!(f, "short {} {}", lent.name(), length)?;
+        }
+        writeln!(f, "end")
+    }
+}
+
+/// A triangle in the exchange text.
+impl fmt::Display for Tri {
+    fn fmt(&self, f: &mut fmt::Formatter<'_>) -> fmt::Result {
+        let side = if self.upper { "upper" } else { "lower" };
+        writeln!(f, "tri {} {} {} {}", self.id, side, self.size, self.entries)?;
+        write_wholes_line(f, "starts", &self.starts)?;
+        write_wholes_line(f, "rows", &self.rows)?;
+        write_doubles_line(f, "vals", &self.vals)?;
+        if let Some(diag) = &self.diag {
+            write_doubles_line(f, "diag", diag)?;
+        }
+        write_wholes_line(f, "list", &self.list)?;
+        write_doubles_line(f, "lvals", &self.lvals)?;
+        writeln!(f, "end")
+    }
+}
+
+// Input keeps each NaN's own bits; answers print one.
+fn write_doubles_line(f: &mut fmt::Formatter<'_>, key: &str, vals: &[f64]) -> fmt::Result {
+    f.write_str(key)?;
+    for val in vals {
+        write!(f, " {:016x}", val.to_bits())?;
+    }
+    writeln!(f)
+}
+
+fn write_wholes_line(f: &mut fmt::Formatter<'_>, key: &str, vals: &[u64]) -> fmt::Result {
+    f.write_str(key)?;
+    for val in vals {
+        write!(f, " {}", val)?;
+    }
+    writeln!(f)
+}
+
+/// What an answer line shows besides the answer.
+#[derive(Clone, Copy, Debug, Default)]
+pub struct Extras {
+    pub state: bool,
+    pub why: bool,
+}
+
+/// `ID STATUS PLACE OBJECTIVE STEPS COUNT hex*`, then ` why NAME` and ` | ` with the state where
+/// they are wanted.
+pub fn answer_line(id: &str, answer: &Answer, extras: Extras) -> String {
+    let mut line = format!("{} ", id);
+    match answer.outcome {
+        Outcome::Panicked => line.push_str("panic"),
+        outcome => push(&mut line, outcome.number()),
+    }
+    match answer.outcome {
+        Outcome::BadEntry { row, place } => push(&mut line, format_args!(" e:{}:{}", row, place)),
+        Outcome::CrossedBounds { column } => push(&mut line, format_args!(" c:{}", column)),
+        Outcome::FalseEmptyRow { row } => push(&mut line, format_args!(" r:{}", row)),
+        Outcome::Rejected(Rejected::Value(var)) => push(&mut line, format_args!(" v:{}", var)),
+        Outcome::Rejected(Rejected::Row(row)) => push(&mut line, format_args!(" k:{}", row)),
+        _ => line.push_str(" -"),
+    }
+    push_doubles(&mut line, &[answer.objective]);
+    push(
+        &mut line,
+        format_args!(" {} {}", answer.steps, answer.values.len()),
+    );
+    push_doubles(&mut line, &answer.values);
+
+    if let (true, Some(why)) = (extras.why, answer.outcome.why()) {
+        push(&mut line, format_args!(" why {}", why));
+    }
+    if let (true, Some(state)) = (extras.state, &answer.state) {
+        line.push_str(" |");
+        push_list(&mut line, "kept", &state.kept);
+        push_list(&mut line, "basic", &state.basic);
+        push_list(&mut line, "nonbasic", &state.nonbasic);
+        push_double_list(&mut line, "bval", &state.bval);
+        push_double_list(&mut line, "nval", &state.nval);
+        push_double_list(&mut line, "price", &state.price);
+        push_double_list(&mut line, "norm", &state.norm);
+        push_list(&mut line, "flags", &state.flags);
+        push_list(&mut line, "etarow", &state.etarow);
+        push_list(&mut line, "etaptr", &state.etaptr);
+        push_list(&mut line, "etaidx", &state.etaidx);
+        push_double_list(&mut line, "etaval", &state.etaval);
+    }
+    line
+}
+
+/// `ID STATUS` and, where STATUS is 0, `list dec* sparse hex* dense hex*`.
+pub fn tri_answer_line(id: &str, answer: &TriAnswer) -> String {
+    let mut line = format!("{} {}", id, answer.status);
+    if answer.status == 0 {
+        push_list(&mut line, "list", &answer.list);
+        push_double_list(&mut line, "sparse", &answer.sparse);
+        push_double_list(&mut line, "dense", &answer.dense);
+    }
+    line
+}
+
+fn push(line: &mut String, val: impl fmt::Display) {
+    write!(line, "{}", val).expect("a String takes every text");
+}
+
+fn push_list<T: fmt::Display>(line: &mut String, key: &str, vals: &[T]) {
+    push(line, format_args!(" {}", key));
+    for val in vals {
+        push(line, format_args!(" {}", val));
+    }
+}
+
+fn push_double_list(line: &mut String, key: &str, vals: &[f64]) {
+    push(line, format_args!(" {}", key));
+    push_doubles(line, vals);
+}
+
+/// "NaN results count as one": all are printed as 7ff8000000000000.
+fn push_doubles(line: &mut String, vals: &[f64]) {
+    for val in vals {
+        let bits = if val.is_nan() {
+            0x7ff8_0000_0000_0000
+        } else {
+            val.to_bits()
+        };
+        push(line, format_args!(" {:016x}", bits));
+    }
+}

@@ -1,0 +1,1271 @@
+//! Seeded plans in families. Each family is aimed at some of the answers; `survey` counts what
+//! they reach. All ours.
+
+use crate::answer::{Outcome, Rejected, Room};
+use crate::gate;
+use crate::limits;
+use crate::plan::{Lent, Plan};
+use crate::rng::Rng;
+use crate::shown::Options;
+
+const INF: f64 = f64::INFINITY;
+const MAX: f64 = f64::MAX;
+
+/// A plan being made: rows as lists, sizes and starts follow from them.
+#[derive(Clone, Default)]
+pub struct Draft {
+    pub cost: Vec<f64>,
+    pub lower: Vec<f64>,
+    pub upper: Vec<f64>,
+    pub rows: Vec<Row>,
+    pub budget: u64,
+    pub tolerance: f64,
+}
+
+#[derive(Clone, Default)]
+pub struct Row {
+    pub entries: Vec<(usize, f64)>,
+    pub op: u64,
+    pub rhs: f64,
+}
+
+const LE: u64 = 0;
+const EQ: u64 = 1;
+const GE: u64 = 2;
+
+impl Draft {
+    fn new() -> Draft {
+        Draft {
+            budget: limits::BUDGET,
+            tolerance: 1e-6,
+            ..Draft::default()
+        }
+    }
+
+    fn column(&mut self, cost: f64, lower: f64, upper: f64) {
+        self.cost.push(cost);
+        self.lower.push(lower);
+        self.upper.push(upper);
+    }
+
+    fn row(&mut self, entries: Vec<(usize, f64)>, op: u64, rhs: f64) {
+        self.rows.push(Row { entries, op, rhs });
+    }
+
+    fn columns(&self) -> usize {
+        self.cost.len()
+    }
+
+    fn entries(&self) -> usize {
+        self.rows.iter().map(|row| row.entries.len()).sum()
+    }
+
+    /// Where a column starts, by document 01.
+    fn start(&self, column: usize) -> f64 {
+        let (cost, lower, upper) = (self.cost[column], self.lower[column], self.upper[column]);
+        if lower == -INF && upper == INF {
+            0.0
+        } else if upper == INF || (lower != -INF && cost >= 0.0) {
+            lower
+        } else {
+            upper
+        }
+    }
+
+    /// A right side that leaves the row's slack at the given value, up to rounding.
+    fn rhs_for(&self, entries: &[(usize, f64)], slack: f64) -> f64 {
+        let mut sum = 0.0;
+        for &(col, coef) in entries {
+            sum += coef * self.start(col);
+        }
+        sum + slack
+    }
+
+    /// A row whose slack starts inside its bounds, `slack` (not below 0.0) from the finite one.
+    fn row_inside(&mut self, entries: Vec<(usize, f64)>, op: u64, slack: f64) {
+        let rhs = match op {
+            LE => self.rhs_for(&entries, slack),
+            EQ => self.rhs_for(&entries, 0.0),
+            _ => self.rhs_for(&entries, -slack),
+        };
+        self.row(entries, op, rhs);
+    }
+
+    pub fn plan(&self) -> Plan {
+        let mut plan = Plan {
+            columns: self.cost.len() as u64,
+            rows: self.rows.len() as u64,
+            entries: self.entries() as u64,
+            budget: self.budget,
+            tolerance: self.tolerance,
+            cost: self.cost.clone(),
+            lower: self.lower.clone(),
+            upper: self.upper.clone(),
+            starts: vec![0],
+            ..Plan::default()
+        };
+        for row in &self.rows {
+            for &(col, coef) in &row.entries {
+                plan.cols.push(col as u64);
+                plan.coef.push(coef);
+            }
+            plan.starts.push(plan.cols.len() as u64);
+            plan.ops.push(row.op);
+            plan.rhs.push(row.rhs);
+        }
+        plan
+    }
+}
+
+/// Takes the finished plans of one family.
+pub struct Sink<'a> {
+    family: &'static str,
+    count: usize,
+    take: &'a mut dyn FnMut(Plan),
+}
+
+impl Sink<'_> {
+    fn plan(&mut self, mut plan: Plan) {
+        plan.id = format!("{}.{}", self.family, self.count);
+        self.count += 1;
+        (self.take)(plan);
+    }
+
+    fn draft(&mut self, draft: &Draft) {
+        self.plan(draft.plan());
+    }
+}
+
+type Make = fn(&mut Rng, &mut Sink);
+
+pub const FAMILIES: [(&str, Make); 23] = [
+    ("tiny", tiny),
+    ("plain", plain),
+    ("ties", ties),
+    ("dropped", dropped),
+    ("big", big),
+    ("long", long),
+    ("limits", limits_and_past),
+    ("short", short),
+    ("number", bad_numbers),
+    ("entry", bad_entries),
+    ("crossed", crossed),
+    ("empty", false_empty_rows),
+    ("overflow", start_overflow),
+    ("outside", slack_outside),
+    ("unbounded", unbounded),
+    ("spent", spent),
+    ("entries", store_entries),
+    ("cycle", store_columns),
+    ("huge", huge),
+    ("named", named),
+    ("strict", strict),
+    ("wild", wild),
+    ("damaged", damaged),
+];
+
+/// Makes the plans of all families whose name `wanted` accepts, in order.
+pub fn make(seed: u64, wanted: &dyn Fn(&str) -> bool, take: &mut dyn FnMut(Plan)) {
+    for (family, make) in FAMILIES {
+        if wanted(family) {
+            let mut sink = Sink {
+                family,
+                count: 0,
+                take: &mut *take,
+            };
+            make(&mut Rng::named(seed, family), &mut sink);
+        }
+    }
+}
+
+fn outcome(draft: &Draft) -> (Outcome, u64) {
+    let answer = gate::solve(&draft.plan(), Options::default());
+    (answer.outcome, answer.steps)
+}
+
+/// Makes drafts until `count` of them answer as wanted.
+fn search(
+    count: usize,
+    sink: &mut Sink,
+    mut make: impl FnMut() -> Draft,
+    wanted: impl Fn(Outcome, u64) -> bool,
+) {
+    let mut found = 0;
+    let mut tried = 0u64;
+    while found < count {
+        let draft = make();
+        let (outcome, steps) = outcome(&draft);
+        if wanted(outcome, steps) {
+            sink.draft(&draft);
+            found += 1;
+        }
+        tried += 1;
+        assert!(
+            tried < 200_000,
+            "{}: the search finds too little",
+            sink.family
+        );
+    }
+}
+
+// ---- tiny: up to 2 columns and 2 rows over a small set of numbers
+
+const TINY_COSTS: [f64; 3] = [-1.0, 0.0, 1.0];
+const TINY_BOUNDS: [(f64, f64); 5] = [(0.0, INF), (0.0, 1.0), (-INF, INF), (1.0, 1.0), (-INF, 0.0)];
+const TINY_COEFS: [Option<f64>; 4] = [None, Some(1.0), Some(-1.0), Some(2.0)];
+const TINY_RHS: [f64; 3] = [0.0, 1.0, -1.0];
+
+/// How many plans there are of this shape over the small set.
+fn tiny_count(columns: u32, rows: u32) -> u64 {
+    let per_column = (TINY_COSTS.len() * TINY_BOUNDS.len()) as u64;
+    let per_row = (TINY_COEFS.len() as u64).pow(columns) * 3 * TINY_RHS.len() as u64;
+    per_column.pow(columns) * per_row.pow(rows)
+}
+
+/// The plan of that number.
+fn tiny_plan(columns: usize, rows: usize, number: u64) -> Draft {
+    let mut rest = number as usize;
+    let mut digit = |base: usize| {
+        let digit = rest % base;
+        rest /= base;
+        digit
+    };
+    let mut draft = Draft::new();
+    for _ in 0..columns {
+        let (lower, upper) = TINY_BOUNDS[digit(TINY_BOUNDS.len())];
+        draft.column(TINY_COSTS[digit(TINY_COSTS.len())], lower, upper);
+    }
+    for _ in 0..rows {
+        let mut entries = vec![];
+        for col in 0..columns {
+            if let Some(coef) = TINY_COEFS[digit(TINY_COEFS.len())] {
+                entries.push((col, coef));
+            }
+        }
+        let op = digit(3) as u64;
+        draft.row(entries, op, TINY_RHS[digit(TINY_RHS.len())]);
+    }
+    draft
+}
+
+/// All of up to 2 columns and 1 row, or 1 column and 2 rows; and of the 4,665,600 with 2 columns
+/// and 2 rows 48,000, spread by a step that shares no factor with their number.
+fn tiny(_: &mut Rng, sink: &mut Sink) {
+    for columns in 0..=2 {
+        for rows in 0..=2 {
+            let all = tiny_count(columns, rows);
+            if all < 100_000 {
+                for number in 0..all {
+                    sink.draft(&tiny_plan(columns as usize, rows as usize, number));
+                }
+            } else {
+                for k in 0..48_000 {
+                    let number = k * 1_000_003 % all;
+                    sink.draft(&tiny_plan(columns as usize, rows as usize, number));
+                }
+            }
+        }
+    }
+}
+
+// ---- ordinary plans
+
+/// A random column with whole numbers.
+fn random_column(draft: &mut Draft, rng: &mut Rng) {
+    let cost = rng.whole(9);
+    let (lower, upper) = match rng.below(8) {
+        0..=3 => (0.0, INF),
+        4 | 5 => {
+            let lower = rng.whole(5);
+            (lower, lower + rng.between(0, 9) as f64)
+        }
+        6 => (-INF, rng.whole(5)),
+        _ => (-INF, INF),
+    };
+    draft.column(cost, lower, upper);
+}
+
+/// Random entries: each column with one chance in `sparse`.
+fn random_entries(
+    columns: usize,
+    rng: &mut Rng,
+    sparse: usize,
+    coef: &mut dyn FnMut(&mut Rng) -> f64,
+) -> Vec<(usize, f64)> {
+    let mut entries = vec![];
+    for col in 0..columns {
+        if rng.one_in(sparse) {
+            let coef = coef(rng);
+            entries.push((col, coef));
+        }
+    }
+    entries
+}
+
+/// A random plan whose slacks start inside their bounds.
+fn random_plain(rng: &mut Rng, most_columns: usize, most_rows: usize) -> Draft {
+    let mut draft = Draft::new();
+    let columns = rng.between(1, most_columns);
+    for _ in 0..columns {
+        random_column(&mut draft, rng);
+    }
+    for _ in 0..rng.between(1, most_rows) {
+        let sparse = rng.between(1, 3);
+        let entries = random_entries(columns, rng, sparse, &mut |rng| rng.whole(5));
+        let op = rng.pick(&[LE, LE, LE, GE, EQ]);
+        let slack = rng.below(20) as f64;
+        draft.row_inside(entries, op, slack);
+    }
+    draft.tolerance = rng.pick(&[0.0, 1e-9, 1e-6, 1.0]);
+    draft
+}
+
+fn plain(rng: &mut Rng, sink: &mut Sink) {
+    for _ in 0..6_000 {
+        sink.draft(&random_plain(rng, 8, 8));
+    }
+    for _ in 0..600 {
+        sink.draft(&random_plain(rng, 24, 16));
+    }
+}
+
+/// Equal columns, equal rows, right sides of 0, stored zeros: many ties and degenerate steps.
+fn ties(rng: &mut Rng, sink: &mut Sink) {
+    for _ in 0..3_000 {
+        let mut draft = Draft::new();
+        let columns = rng.between(1, 8);
+        for _ in 0..columns {
+            let upper = rng.pick(&[INF, INF, 1.0, 2.0]);
+            draft.column(rng.pick(&[-1.0, -1.0, -2.0, 0.0, -0.0, 1.0]), 0.0, upper);
+        }
+        for _ in 0..rng.between(1, 8) {
+            if !draft.rows.is_empty() && rng.one_in(3) {
+                let row = draft.rows[rng.below(draft.rows.len())].clone();
+                draft.rows.push(row);
+                continue;
+            }
+            let coefs = [1.0, 1.0, 1.0, -1.0, 2.0, 0.0, -0.0];
+            let entries = random_entries(columns, rng, 2, &mut |rng| rng.pick(&coefs));
+            let op = rng.pick(&[LE, LE, LE, GE, EQ]);
+            let slack = rng.pick(&[0.0, 0.0, -0.0, 1.0, 2.0]);
+            draft.row_inside(entries, op, slack);
+        }
+        sink.draft(&draft);
+    }
+}
+
+/// True empty rows among the others.
+fn dropped(rng: &mut Rng, sink: &mut Sink) {
+    for _ in 0..2_500 {
+        let mut draft = random_plain(rng, 6, 6);
+        for _ in 0..rng.between(1, 4) {
+            let (op, rhs) = rng.pick(&[
+                (LE, 0.0),
+                (LE, -0.0),
+                (LE, 3.0),
+                (EQ, 0.0),
+                (EQ, -0.0),
+                (GE, 0.0),
+                (GE, -0.0),
+                (GE, -1.0),
+            ]);
+            let row = Row {
+                entries: vec![],
+                op,
+                rhs,
+            };
+            let at = rng.between(0, draft.rows.len());
+            draft.rows.insert(at, row);
+        }
+        sink.draft(&draft);
+    }
+}
+
+/// 64 rows and 128 columns, up to 2,048 entries.
+fn big_draft(rng: &mut Rng, coef: &mut dyn FnMut(&mut Rng) -> f64) -> Draft {
+    let mut draft = Draft::new();
+    for _ in 0..limits::COLUMNS {
+        let upper = rng.pick(&[INF, INF, INF, 4.0, 50.0]);
+        draft.column(rng.whole(20), 0.0, upper);
+    }
+    for _ in 0..limits::ROWS {
+        let mut entries = random_entries(draft.columns(), rng, 5, coef);
+        entries.truncate((limits::ENTRIES as usize).saturating_sub(draft.entries()));
+        let op = rng.pick(&[LE, LE, LE, LE, GE]);
+        let slack = rng.between(1, 500) as f64;
+        draft.row_inside(entries, op, slack);
+    }
+    draft
+}
+
+fn big(rng: &mut Rng, sink: &mut Sink) {
+    for _ in 0..110 {
+        let draft = big_draft(rng, &mut |rng| 1.0 + rng.whole(9).abs());
+        sink.draft(&draft);
+    }
+    for _ in 0..110 {
+        let draft = big_draft(rng, &mut |rng| rng.whole(9) + rng.unit());
+        sink.draft(&draft);
+    }
+}
+
+/// Runs of over 60 steps.
+fn long(rng: &mut Rng, sink: &mut Sink) {
+    let make = || {
+        let mut draft = Draft::new();
+        let columns = rng.between(50, 100);
+        for _ in 0..columns {
+            draft.column(-1.0 - rng.below(30) as f64, 0.0, rng.pick(&[INF, 3.0]));
+        }
+        for _ in 0..rng.between(14, 20) {
+            let entries = random_entries(columns, rng, 2, &mut |rng| rng.between(1, 40) as f64);
+            let slack = rng.between(100, 900) as f64;
+            draft.row_inside(entries, LE, slack);
+        }
+        draft
+    };
+    search(220, sink, make, |outcome, steps| {
+        steps > 60 && outcome == Outcome::Optimal
+    });
+}
+
+// ---- refusals
+
+/// A good plan of exactly these sizes.
+fn sized_draft(rng: &mut Rng, columns: usize, rows: usize, entries: usize) -> Draft {
+    let mut draft = Draft::new();
+    for _ in 0..columns {
+        draft.column(rng.whole(5), 0.0, 10.0);
+    }
+    let mut left = entries;
+    for row in 0..rows {
+        let here = left.min(columns).min(entries.div_ceil(rows) + rng.below(2));
+        let here = if row + 1 == rows { left } else { here };
+        let mut entries = vec![];
+        for col in 0..here {
+            entries.push((col, 1.0 + rng.below(9) as f64));
+        }
+        left -= here;
+        draft.row_inside(entries, LE, 100.0);
+    }
+    draft
+}
+
+/// Every limit and one past it.
+fn limits_and_past(rng: &mut Rng, sink: &mut Sink) {
+    for _ in 0..25 {
+        for columns in [0, 1, 127, 128, 129] {
+            sink.draft(&sized_draft(rng, columns, 2, columns.min(20)));
+        }
+        for rows in [0, 1, 63, 64, 65] {
+            sink.draft(&sized_draft(rng, 3, rows, rows.min(20)));
+        }
+        for entries in [0, 1, 2047, 2048, 2049] {
+            sink.draft(&sized_draft(rng, 128, 32, entries));
+        }
+        for budget in [0, 1, 9_999, 10_000, 10_001, u64::MAX] {
+            let mut draft = random_plain(rng, 4, 4);
+            draft.budget = budget;
+            sink.draft(&draft);
+        }
+        let just_past = 1.0 + f64::EPSILON;
+        for tolerance in [0.0, -0.0, 5e-324, -5e-324, 1.0, just_past, INF, -INF] {
+            let mut draft = random_plain(rng, 4, 4);
+            draft.tolerance = tolerance;
+            sink.draft(&draft);
+        }
+        for size in [u64::MAX, u64::MAX - 1, 1 << 63, 1 << 32] {
+            let good = random_plain(rng, 3, 3).plan();
+            for field in 0..3 {
+                let mut plan = good.clone();
+                match field {
+                    0 => plan.columns = size,
+                    1 => plan.rows = size,
+                    _ => plan.entries = size,
+                }
+                sink.plan(plan);
+            }
+        }
+        // 0 rows with entries: the one start can't be both 0 and the entry count.
+        let mut plan = sized_draft(rng, 2, 0, 0).plan();
+        plan.entries = 1;
+        plan.cols.push(0);
+        plan.coef.push(1.0);
+        sink.plan(plan.clone());
+        plan.starts[0] = 1;
+        sink.plan(plan);
+    }
+}
+
+/// Every lent array exactly as long as needed, one longer, one shorter and empty.
+fn short(rng: &mut Rng, sink: &mut Sink) {
+    for _ in 0..40 {
+        let good = random_plain(rng, 5, 5).plan();
+        for array in 0..8 {
+            for change in 0..3 {
+                let mut plan = good.clone();
+                match array {
+                    0 => resize(&mut plan.cost, change, f64::NAN),
+                    1 => resize(&mut plan.lower, change, f64::NAN),
+                    2 => resize(&mut plan.upper, change, f64::NAN),
+                    3 => resize(&mut plan.starts, change, u64::MAX),
+                    4 => resize(&mut plan.cols, change, u64::MAX),
+                    5 => resize(&mut plan.coef, change, f64::NAN),
+                    6 => resize(&mut plan.ops, change, 9),
+                    _ => resize(&mut plan.rhs, change, f64::NAN),
+                }
+                sink.plan(plan);
+            }
+        }
+
+        let values = good.columns + good.rows;
+        for room in [
+            [values, 256, 4096],
+            [values - 1, 256, 4096],
+            [values + 1, 256, 4096],
+            [values, 255, 4096],
+            [values, 257, 4097],
+            [values, 256, 4095],
+            [0, 256, 4096],
+            [u64::MAX, u64::MAX, u64::MAX],
+        ] {
+            let mut plan = good.clone();
+            plan.room = Some(room);
+            sink.plan(plan);
+        }
+
+        for lent in Lent::ALL {
+            let needed = lent.needed(good.columns, good.rows);
+            for length in [needed, needed - 1, needed + 1, 0] {
+                let mut plan = good.clone();
+                plan.short.push((lent, length));
+                sink.plan(plan);
+            }
+        }
+    }
+}
+
+/// One cell shorter, one longer, or empty. The longer one's last cell is no part of the plan.
+fn resize<T>(cells: &mut Vec<T>, change: usize, past: T) {
+    match change {
+        0 => drop(cells.pop()),
+        1 => cells.push(past),
+        _ => cells.clear(),
+    }
+}
+
+/// The kinds of a bad number in document 01's refusal 2.
+pub const BAD_NUMBERS: [&str; 15] = [
+    "NaN cost",
+    "NaN lower",
+    "NaN upper",
+    "NaN coefficient",
+    "NaN right side",
+    "NaN tolerance",
+    "infinite cost",
+    "infinite coefficient",
+    "infinite right side",
+    "lower +inf",
+    "upper -inf",
+    "tolerance below 0",
+    "tolerance above 1",
+    "infinite tolerance",
+    "comparison above 2",
+];
+
+/// Puts that kind of bad number into a plan that has cells for it.
+fn put_bad_number(plan: &mut Plan, kind: usize, rng: &mut Rng) {
+    let column = rng.below(plan.columns as usize);
+    let row = rng.below(plan.rows as usize);
+    let entry = rng.below(plan.entries as usize);
+    let nan = rng.pick(&[
+        f64::NAN,
+        -f64::NAN,
+        f64::from_bits(0x7ff0_0000_0000_0001),
+        f64::from_bits(0xffff_ffff_ffff_ffff),
+    ]);
+    let infinite = rng.pick(&[INF, -INF]);
+    match kind {
+        0 => plan.cost[column] = nan,
+        1 => plan.lower[column] = nan,
+        2 => plan.upper[column] = nan,
+        3 => plan.coef[entry] = nan,
+        4 => plan.rhs[row] = nan,
+        5 => plan.tolerance = nan,
+        6 => plan.cost[column] = infinite,
+        7 => plan.coef[entry] = infinite,
+        8 => plan.rhs[row] = infinite,
+        9 => plan.lower[column] = INF,
+        10 => plan.upper[column] = -INF,
+        11 => plan.tolerance = rng.pick(&[-5e-324, -1e-9, -1.0, -MAX]),
+        12 => plan.tolerance = rng.pick(&[1.0 + f64::EPSILON, 1.5, MAX]),
+        13 => plan.tolerance = infinite,
+        _ => plan.ops[row] = rng.pick(&[3, 4, 255, 256, 1 << 32, u64::MAX]),
+    }
+}
+
+/// Which kind of bad number a plan of the family "number" has, by its place in the family.
+pub fn bad_number_kind(index: usize) -> &'static str {
+    BAD_NUMBERS[index % BAD_NUMBERS.len()]
+}
+
+fn bad_numbers(rng: &mut Rng, sink: &mut Sink) {
+    let mut index = 0;
+    while index < 100 * BAD_NUMBERS.len() {
+        let mut plan = random_plain(rng, 5, 5).plan();
+        if plan.entries > 0 {
+            put_bad_number(&mut plan, index % BAD_NUMBERS.len(), rng);
+            sink.plan(plan);
+            index += 1;
+        }
+    }
+}
+
+/// Column numbers that are too large, the same or falling; sometimes two, so that the first counts.
+fn bad_entries(rng: &mut Rng, sink: &mut Sink) {
+    let mut made = 0;
+    while made < 1_500 {
+        let mut plan = random_plain(rng, 6, 6).plan();
+        if plan.entries < 2 {
+            continue;
+        }
+        for _ in 0..rng.between(1, 2) {
+            let at = rng.below(plan.cols.len());
+            plan.cols[at] = match rng.below(4) {
+                0 => plan.columns,
+                1 => rng.pick(&[u64::MAX, 1 << 32, plan.columns + 1]),
+                2 => plan.cols[at.saturating_sub(1)],
+                _ => 0,
+            };
+        }
+        sink.plan(plan);
+        made += 1;
+    }
+}
+
+fn crossed(rng: &mut Rng, sink: &mut Sink) {
+    for _ in 0..1_300 {
+        let mut draft = random_plain(rng, 6, 6);
+        for _ in 0..rng.between(1, 2) {
+            let column = rng.below(draft.columns());
+            let (lower, upper) = rng.pick(&[
+                (3.0, 2.0),
+                (5e-324, 0.0),
+                (0.0, -5e-324),
+                (MAX, -MAX),
+                (1.0, 1.0 - f64::EPSILON),
+                // Not crossed: -0.0 and 0.0 are equal.
+                (0.0, -0.0),
+            ]);
+            draft.lower[column] = lower;
+            draft.upper[column] = upper;
+        }
+        sink.draft(&draft);
+    }
+}
+
+fn false_empty_rows(rng: &mut Rng, sink: &mut Sink) {
+    for _ in 0..1_300 {
+        let mut draft = random_plain(rng, 6, 6);
+        for _ in 0..rng.between(1, 3) {
+            let (op, rhs) = rng.pick(&[
+                (LE, -1.0),
+                (LE, -5e-324),
+                (EQ, 5e-324),
+                (EQ, -7.0),
+                (GE, 5e-324),
+                (GE, MAX),
+                (GE, -0.0),
+            ]);
+            let row = Row {
+                entries: vec![],
+                op,
+                rhs,
+            };
+            let at = rng.between(0, draft.rows.len());
+            draft.rows.insert(at, row);
+        }
+        sink.draft(&draft);
+    }
+}
+
+/// Start values, objective sums and norms that overflow.
+fn start_overflow(rng: &mut Rng, sink: &mut Sink) {
+    for index in 0..1_800 {
+        let mut draft = random_plain(rng, 6, 6);
+        let column = rng.below(draft.columns());
+        let row = rng.below(draft.rows.len());
+        match index % 3 {
+            0 => {
+                // The products, their sum, or the difference from the right side overflows.
+                draft.lower[column] = rng.sized(1000, 1022).abs();
+                draft.upper[column] = INF;
+                let factor = rng.sized(-3, 30);
+                let rhs = rng.sized(1020, 1023);
+                draft.rows[row].entries = vec![(column, factor)];
+                draft.rows[row].rhs = rhs;
+            }
+            1 => {
+                draft.lower[column] = rng.sized(500, 1000).abs();
+                draft.upper[column] = INF;
+                draft.cost[column] = rng.sized(400, 600);
+                for row in &mut draft.rows {
+                    row.entries.retain(|&(col, _)| col != column);
+                }
+                draft.rows.retain(|row| !row.entries.is_empty());
+            }
+            _ => {
+                let size = rng.sized(505, 600);
+                draft.rows[row].entries = vec![(column, size)];
+                draft.rows[row].op = LE;
+                draft.rows[row].rhs = draft.rhs_for(&[(column, size)], 1.0);
+            }
+        }
+        sink.draft(&draft);
+    }
+}
+
+fn slack_outside(rng: &mut Rng, sink: &mut Sink) {
+    for _ in 0..1_300 {
+        let mut draft = random_plain(rng, 6, 6);
+        let row = rng.below(draft.rows.len());
+        let past = rng.pick(&[5e-324, 1e-300, 1e-9, 1.0, 1e200]);
+        let entries = draft.rows[row].entries.clone();
+        draft.rows[row].rhs = match draft.rows[row].op {
+            LE => draft.rhs_for(&entries, -past),
+            _ => draft.rhs_for(&entries, past),
+        };
+        sink.draft(&draft);
+    }
+}
+
+// ---- 20 to 22
+
+/// A column that nothing stops, beside others that take some steps first.
+fn unbounded(rng: &mut Rng, sink: &mut Sink) {
+    let make = |rng: &mut Rng, steps: usize| {
+        let mut draft = Draft::new();
+        for col in 0..steps {
+            draft.column(-100.0 - rng.below(50) as f64, 0.0, INF);
+            let slack = rng.between(1, 50) as f64;
+            let coef = rng.between(1, 9) as f64;
+            draft.row_inside(vec![(col, coef)], LE, slack);
+        }
+        let (lower, upper, cost) = rng.pick(&[
+            (0.0, INF, -1.0),
+            (-INF, 0.0, 1.0),
+            (-INF, INF, -1.0),
+            (-INF, INF, 1.0),
+        ]);
+        draft.column(cost, lower, upper);
+        for row in &mut draft.rows {
+            if rng.one_in(2) {
+                let size = rng.between(0, 5) as f64;
+                row.entries
+                    .push((steps, if cost < 0.0 { -size } else { size }));
+            }
+        }
+        draft
+    };
+    for index in 0..1_600 {
+        let steps = index % 8;
+        let draft = make(rng, steps);
+        sink.draft(&draft);
+    }
+}
+
+/// A budget that some plans spend.
+fn spent(rng: &mut Rng, sink: &mut Sink) {
+    for index in 0..3_200 {
+        let mut draft = random_plain(rng, 12, 10);
+        for col in 0..draft.columns() {
+            if draft.lower[col] > -INF && rng.one_in(2) {
+                draft.cost[col] = -1.0 - rng.below(9) as f64;
+                draft.upper[col] = INF;
+            }
+        }
+        let rows = std::mem::take(&mut draft.rows);
+        for row in rows {
+            let entries = row.entries.iter().map(|&(c, a)| (c, a.abs() + 1.0));
+            let slack = rng.between(0, 40) as f64;
+            draft.row_inside(entries.collect(), LE, slack);
+        }
+        draft.budget = index % 6;
+        sink.draft(&draft);
+    }
+}
+
+/// 22 by entries: many rows, so that each exchange adds many entries.
+fn store_entries(rng: &mut Rng, sink: &mut Sink) {
+    let make = || big_draft(rng, &mut |rng| rng.whole(9) + rng.unit());
+    search(30, sink, make, |outcome, _| {
+        outcome == Outcome::NoRoom(Room::Entries)
+    });
+}
+
+// Powers of two by which the rows and columns of a Klee-Minty cube are scaled, and its factors.
+// Found by a search for long runs: these exact numbers take 193 exchanges. The run hangs on
+// rounding, so the cube is the same in every plan; the chain beside it differs.
+const CUBE_ROWS: [i32; 15] = [-20, -14, -23, -1, -53, 9, 16, 4, 6, 3, 5, -16, 8, -11, 19];
+const CUBE_COLUMNS: [i32; 15] = [7, 61, 49, 37, 59, 11, -17, 22, 1, -81, -1, 18, -4, -11, -44];
+const CUBE_FACTORS: [f64; 15] = [
+    0.40208801251239923,
+    0.11290206199075013,
+    0.2139259041570665,
+    0.23797776650536076,
+    0.2588958094153425,
+    0.4312193492774916,
+    0.24808811434655867,
+    0.485477792736282,
+    0.3161659601989507,
+    0.304330136843781,
+    0.48664201723710965,
+    0.2779744003045721,
+    0.25743528251961967,
+    0.4131933091583593,
+    0.3949271906666325,
+];
+
+fn power_of_two(exponent: i32) -> f64 {
+    f64::from_bits(((exponent + 1023) as u64) << 52)
+}
+
+/// 22 by columns: 257 exchanges with at most 16 rows. A cube in 15 rows, and in row 15 a chain:
+/// each of its columns is a little better for its entry than the one before, and its entry is less
+/// than half as large, so that the rule takes them one by one. The two don't touch each other.
+fn columns_draft(rng: &mut Rng) -> Draft {
+    let size = CUBE_ROWS.len();
+    let mut draft = Draft::new();
+    let product = |first: f64, from: usize, to: usize| {
+        CUBE_FACTORS[from..to].iter().fold(first, |p, f| p * f)
+    };
+    for (col, scale) in CUBE_COLUMNS.into_iter().enumerate() {
+        let cost = -product(1.0, col + 1, size) * power_of_two(scale + 20);
+        draft.column(cost, 0.0, INF);
+    }
+    for (row, row_scale) in CUBE_ROWS.into_iter().enumerate() {
+        let mut entries = vec![];
+        for (col, scale) in CUBE_COLUMNS.into_iter().enumerate().take(row + 1) {
+            let first = if col < row { 2.0 } else { 1.0 };
+            let coef = product(first, col + 1, row + 1) * power_of_two(scale + row_scale);
+            entries.push((col, coef));
+        }
+        draft.row(entries, LE, power_of_two(row_scale));
+    }
+
+    let mut entries = vec![];
+    let mut entry = near(rng, 0);
+    for link in 1..=rng.between(70, 110) {
+        let cost = -power_of_two(150) * entry * link as f64;
+        entries.push((draft.columns(), entry));
+        draft.column(cost, 0.0, INF);
+        entry *= 0.4 + 0.05 * rng.unit();
+    }
+    let slack = near(rng, 4);
+    draft.row_inside(entries, LE, slack);
+    draft
+}
+
+fn store_columns(rng: &mut Rng, sink: &mut Sink) {
+    let make = || columns_draft(rng);
+    search(900, sink, make, |outcome, _| {
+        outcome == Outcome::NoRoom(Room::Columns)
+    });
+}
+
+// ---- 23
+
+/// Very large and very small numbers at random, slacks inside.
+fn huge_draft(rng: &mut Rng) -> Draft {
+    let top = rng.pick(&[20, 100, 250, 400, 500, 508]);
+    let number = |rng: &mut Rng| match rng.below(5) {
+        0 => rng.sized(-26, -20),
+        1 => rng.sized(0, 3),
+        2 => rng.sized(top - 5, top),
+        3 => rng.sized(top / 2 - 5, top / 2),
+        _ => rng.sized(-top, top),
+    };
+    let mut draft = Draft::new();
+    let columns = rng.between(1, 6);
+    for _ in 0..columns {
+        let cost = number(rng);
+        let (lower, upper) = match rng.below(5) {
+            0 => (number(rng), INF),
+            1 => {
+                let bound = number(rng);
+                (bound.min(0.0), bound.max(0.0))
+            }
+            2 => (-INF, INF),
+            _ => (0.0, INF),
+        };
+        draft.column(if rng.one_in(3) { cost } else { -cost.abs() }, lower, upper);
+    }
+    for _ in 0..rng.between(1, 6) {
+        let entries = random_entries(columns, rng, 2, &mut |rng| number(rng));
+        let slack = if rng.one_in(2) {
+            0.0
+        } else {
+            number(rng).abs()
+        };
+        draft.row_inside(entries, rng.pick(&[LE, LE, LE, GE, EQ]), slack);
+    }
+    draft.tolerance = 1.0;
+    draft
+}
+
+/// 2,000 as they come, and 150 that get to 23 after 3 or more steps.
+fn huge(rng: &mut Rng, sink: &mut Sink) {
+    for _ in 0..2_000 {
+        let draft = huge_draft(rng);
+        sink.draft(&draft);
+    }
+    let make = || huge_draft(rng);
+    search(150, sink, make, |outcome, steps| {
+        outcome.number() == 23 && steps >= 3
+    });
+}
+
+/// Near a power of two, so that plans differ and the step stays the same.
+fn near(rng: &mut Rng, exponent: i32) -> f64 {
+    rng.sized(exponent, exponent).abs()
+}
+
+/// Plans made for each place of document 01's order that a 23 can name. Not here, since they can't
+/// be named: `leaving`, since the bound ahead of a candidate is finite; `eta`, since an entry over
+/// MAX means a column entry over 1e300 (the pivot is at least EPS), whose square makes the entering
+/// place's norm infinite, and norms come first; on a flip `value`, which is a finite bound.
+///
+/// `column` isn't here either. An entry of a non-basic variable's column has its square in that
+/// variable's norm, which is finite after every step, so it is at most about 1e154. Only what
+/// rounding leaves in the column of a variable that was basic meanwhile isn't in a norm: at most
+/// 1e154 * 2^-53, times a column entry of 1e154 still finite, so it would have to be left over and
+/// enlarged twice. No plan that does so is made.
+fn named(rng: &mut Rng, sink: &mut Sink) {
+    for _ in 0..70 {
+        for (name, draft) in named_drafts(rng) {
+            let (outcome, _) = outcome(&draft);
+            let reached = match outcome {
+                Outcome::NotFinite { named, flip } => (named.name(), flip),
+                _ => ("", false),
+            };
+            assert_eq!(reached, name);
+            sink.draft(&draft);
+        }
+    }
+}
+
+type NamedDraft = ((&'static str, bool), Draft);
+
+fn named_drafts(rng: &mut Rng) -> Vec<NamedDraft> {
+    let mut drafts: Vec<NamedDraft> = vec![];
+
+    // A slack of 2^1010 over a coefficient of 2^-20.
+    let mut draft = Draft::new();
+    draft.column(-1.0, 0.0, INF);
+    draft.row_inside(vec![(0, near(rng, -20))], LE, near(rng, 1010));
+    drafts.push((("quotient", false), draft));
+
+    // The price times the difference.
+    let mut draft = Draft::new();
+    draft.column(-near(rng, 600), 0.0, INF);
+    draft.row_inside(vec![(0, 1.0)], LE, near(rng, 600));
+    drafts.push((("objective", false), draft));
+
+    // From a large lower bound a large difference further.
+    let mut draft = Draft::new();
+    let lower = 1e308 + near(rng, 1019);
+    draft.column(-1e-5, lower, INF);
+    draft.row(vec![(0, 0.9)], LE, 1.7e308);
+    drafts.push((("value", false), draft));
+
+    // Another row's slack grows without a bound.
+    let mut draft = Draft::new();
+    draft.column(-1.0, 0.0, INF);
+    draft.row_inside(vec![(0, 1.0)], LE, near(rng, 600));
+    draft.row_inside(vec![(0, -near(rng, 450))], LE, 1.0);
+    drafts.push((("basic", false), draft));
+
+    // A degenerate step, so that only the price divided by the pivot overflows.
+    let mut draft = Draft::new();
+    draft.column(-near(rng, 1020), 0.0, INF);
+    draft.row_inside(vec![(0, near(rng, -20))], LE, 0.0);
+    drafts.push((("price", false), draft));
+
+    // The square of a column entry over the square of a small pivot.
+    let mut draft = Draft::new();
+    draft.column(-1.0, 0.0, INF);
+    draft.row_inside(vec![(0, near(rng, -20))], LE, 0.0);
+    draft.row_inside(vec![(0, -near(rng, 500))], LE, 0.0);
+    drafts.push((("norm", false), draft));
+
+    // A column with two finite bounds starts where its cost wants it. The first column's exchange
+    // takes 2.0 off its price, and it moves towards its other bound.
+    let boxed = |rng: &mut Rng, lower: f64, upper: f64, price: f64| {
+        let mut draft = Draft::new();
+        draft.column(-2.0 * price, 0.0, INF);
+        draft.column(price, lower, upper);
+        let slack = near(rng, 3);
+        draft.row_inside(vec![(0, 1.0), (1, -1.0)], LE, slack);
+        draft
+    };
+
+    let upper = near(rng, 1022) + 8e307;
+    let mut draft = boxed(rng, -1e308, upper, 1.0);
+    draft.tolerance = 1.0;
+    drafts.push((("distance", false), draft));
+
+    let upper = near(rng, 600);
+    let price = near(rng, 500);
+    let draft = boxed(rng, 0.0, upper, price);
+    drafts.push((("objective", true), draft));
+
+    let upper = near(rng, 600);
+    let mut draft = boxed(rng, 0.0, upper, 1.0);
+    draft.row_inside(vec![(1, -near(rng, 450))], LE, 1.0);
+    drafts.push((("basic", true), draft));
+
+    drafts.push((("limit", false), limit_draft(rng)));
+    drafts.push((("helper", false), helper_draft(rng)));
+    drafts.push((("row", false), row_draft(rng)));
+    drafts
+}
+
+/// A basic value far outside its bounds. Column 1 has bounds that are MAX apart. Columns 0 and 1
+/// enter; then column 2 takes a long step that row 1 doesn't stop, because its coefficient there is
+/// under EPS, and that takes column 1 below its lower bound; then column 3 would raise column 1.
+fn limit_draft(rng: &mut Rng) -> Draft {
+    let half = MAX / 2.0;
+    let mut draft = Draft::new();
+    draft.column(-1.0, 0.0, INF);
+    draft.column(0.5, -half, half);
+    draft.column(-0.01 - near(rng, -10), 0.0, INF);
+    draft.column(0.499 - near(rng, -12), 0.0, INF);
+    draft.row(vec![(0, 1.0), (1, -1.0)], LE, half);
+    draft.row(vec![(1, 1.0), (2, near(rng, -28)), (3, -1.0)], LE, -half);
+    draft.row(vec![(2, 1.0)], LE, near(rng, 1000));
+    draft.tolerance = 1.0;
+    draft
+}
+
+/// Columns 0 and 1 enter in rows 0 and 1 and bring multiples of row 2. Column 2's entries in rows 0
+/// and 1 each come to `large` in row 2, where it has -large itself, so that all norms stay finite.
+/// When column 3 enters, the helper's sum for column 2 has two products of that size before the
+/// third takes one back; stored zeros put row 2 last in column 3's list.
+fn helper_draft(rng: &mut Rng) -> Draft {
+    let root = MAX.sqrt();
+    let large = root * (0.68 + 0.02 * rng.unit());
+    let multiple = 1024.0;
+    let mut draft = Draft::new();
+    draft.column(-8.0, 0.0, INF);
+    draft.column(-4.0, 0.0, INF);
+    draft.column(1.0, 0.0, INF);
+    draft.column(-1.0 - rng.unit(), 0.0, INF);
+    draft.row(vec![(0, 1.0), (2, large / multiple), (3, 0.0)], LE, 1.0);
+    draft.row(vec![(1, 1.0), (2, large / multiple), (3, 0.0)], LE, 1.0);
+    draft.row(
+        vec![
+            (0, -multiple),
+            (1, -multiple),
+            (2, -large),
+            (3, root * 0.99),
+        ],
+        LE,
+        1.0,
+    );
+    draft
+}
+
+/// A row whose sum passes MAX before it comes back. Columns 0 to 8 enter in rows 0 to 8 and each
+/// takes row 9 off or onto itself, then column 9 enters in row 9 and takes row 10 off `times` over.
+/// Column 11, the one the sum is about, has `part` in rows 0 to 8 and 3 parts in row 9: in row 9
+/// it comes to 3, then down to -3, then up to 0 parts, so its norm stays finite. When column 10
+/// enters in row 10, that row's sum goes through the same parts `times` over from the other end,
+/// and comes to 6 of them.
+fn row_draft(rng: &mut Rng) -> Draft {
+    let root = power_of_two(511) * 2.0;
+    let times = root * (0.97 + 0.02 * rng.unit());
+    // Few bits, so that all sums of parts are exact.
+    let part = root * (460 + rng.below(12)) as f64 / 2048.0;
+    let mut draft = Draft::new();
+    for col in 0..9 {
+        draft.column(-100.0 + col as f64, 0.0, INF);
+    }
+    draft.column(-1.0, 0.0, INF);
+    draft.column(0.5, 0.0, INF);
+    draft.column(1.0, 0.0, INF);
+    for row in 0..9 {
+        draft.row(vec![(row, 1.0), (11, part)], LE, 1.0);
+    }
+    let mut entries = vec![];
+    for col in 0..9 {
+        entries.push((col, if col < 6 { 1.0 } else { -1.0 }));
+    }
+    entries.extend([(9, 1.0), (10, -1.0), (11, 3.0 * part)]);
+    draft.row(entries, LE, 10.0);
+    draft.row(vec![(9, times), (10, 1.0)], LE, 1e300);
+    draft
+}
+
+// ---- 24
+
+/// Tolerance 0 and coefficients that aren't exact, or coefficients under EPS with a long step.
+fn strict_draft(rng: &mut Rng) -> Draft {
+    let mut draft = Draft::new();
+    let columns = rng.between(1, 8);
+    let tenth = |rng: &mut Rng| rng.between(1, 30) as f64 / 10.0;
+    for _ in 0..columns {
+        let upper = if rng.one_in(3) { tenth(rng) } else { INF };
+        draft.column(rng.whole(9), 0.0, upper);
+    }
+    for _ in 0..rng.between(1, 8) {
+        let entries = random_entries(columns, rng, 2, &mut |rng| {
+            let size = rng.between(1, 30) as f64 / 10.0;
+            rng.pick(&[size, size, -size])
+        });
+        let slack = tenth(rng);
+        draft.row_inside(entries, rng.pick(&[LE, LE, LE, GE, EQ]), slack);
+    }
+    if rng.one_in(3) {
+        // A long step past rows that are skipped: their slacks or columns leave their bounds.
+        let col = draft.columns();
+        draft.column(-100.0, 0.0, INF);
+        for row in &mut draft.rows {
+            if rng.one_in(2) {
+                row.entries.push((col, rng.sized(-34, -28)));
+            }
+        }
+        let step = near(rng, 38);
+        draft.row_inside(vec![(col, 1.0)], LE, step);
+    }
+    draft.tolerance = 0.0;
+    draft
+}
+
+fn strict(rng: &mut Rng, sink: &mut Sink) {
+    for _ in 0..2_500 {
+        let draft = strict_draft(rng);
+        sink.draft(&draft);
+    }
+    let kinds: [fn(Outcome, u64) -> bool; 4] = [
+        |outcome, _| matches!(outcome, Outcome::Rejected(Rejected::Value(_))),
+        |outcome, _| matches!(outcome, Outcome::Rejected(Rejected::Row(_))),
+        |outcome, steps| matches!(outcome, Outcome::Rejected(Rejected::Value(_))) && steps >= 3,
+        |outcome, steps| matches!(outcome, Outcome::Rejected(Rejected::Row(_))) && steps >= 3,
+    ];
+    for wanted in kinds {
+        search(250, sink, || strict_draft(rng), wanted);
+    }
+}
+
+// ---- wild doubles and damaged plans
+
+const WILD: [f64; 26] = [
+    0.0,
+    -0.0,
+    5e-324,
+    -5e-324,
+    1e-310,
+    f64::MIN_POSITIVE,
+    1e-200,
+    -1e-200,
+    1e-9,
+    1e-8,
+    -1e-8,
+    1.1e-8,
+    0.1,
+    1.0,
+    -1.0,
+    3.0,
+    1e8,
+    -1e16,
+    1e100,
+    1e154,
+    -1e154,
+    1e200,
+    -1e200,
+    1e300,
+    MAX,
+    -MAX,
+];
+
+/// Wild doubles everywhere; the first half has no NaN and no infinity but the bounds' own, so that
+/// more than the refusals is reached.
+fn wild(rng: &mut Rng, sink: &mut Sink) {
+    for index in 0..6_000 {
+        let tame = index % 2 == 0;
+        let number = |rng: &mut Rng| {
+            if !tame && rng.one_in(60) {
+                rng.pick(&[INF, -INF, f64::NAN])
+            } else if rng.one_in(3) {
+                rng.pick(&WILD)
+            } else {
+                rng.pick(&[1.0, 2.0, -1.0, 0.5])
+            }
+        };
+        let mut draft = Draft::new();
+        let columns = rng.between(0, 6);
+        for _ in 0..columns {
+            let (low, high) = (number(rng), number(rng));
+            let (lower, upper) = match rng.below(4) {
+                0 => (low, INF),
+                1 => (-INF, high),
+                2 => (low.min(high), low.max(high)),
+                _ => (0.0, INF),
+            };
+            draft.column(number(rng), lower, upper);
+        }
+        for _ in 0..rng.between(0, 6) {
+            let entries = random_entries(columns, rng, 2, &mut |rng| number(rng));
+            let op = rng.below(3) as u64;
+            if rng.one_in(4) {
+                let rhs = number(rng);
+                draft.row(entries, op, rhs);
+            } else {
+                let slack = number(rng).abs();
+                draft.row_inside(entries, op, slack);
+            }
+        }
+        draft.tolerance = rng.pick(&[0.0, 1e-8, 1.0]);
+        sink.draft(&draft);
+    }
+}
+
+/// Good plans with one cell, one length or one start changed.
+fn damaged(rng: &mut Rng, sink: &mut Sink) {
+    for _ in 0..4_000 {
+        let mut plan = random_plain(rng, 6, 6).plan();
+        if plan.entries == 0 {
+            continue;
+        }
+        let column = rng.below(plan.columns as usize);
+        let row = rng.below(plan.rows as usize);
+        let entry = rng.below(plan.entries as usize);
+        let number = rng.pick(&WILD);
+        match rng.below(20) {
+            0 => plan.cost[column] = number,
+            1 => plan.lower[column] = number,
+            2 => plan.upper[column] = number,
+            3 => plan.coef[entry] = number,
+            4 => plan.rhs[row] = number,
+            5 => plan.cols[entry] = rng.below(plan.columns as usize + 1) as u64,
+            6 => plan.ops[row] = rng.below(4) as u64,
+            7 => {
+                let kind = rng.below(BAD_NUMBERS.len());
+                put_bad_number(&mut plan, kind, rng);
+            }
+            8 => plan.starts[row] += 1,
+            9 => plan.starts[row + 1] = plan.starts[row + 1].wrapping_sub(1),
+            10 => plan.starts[0] = rng.pick(&[1, u64::MAX]),
+            11 => plan.starts[row] = rng.pick(&[0, plan.entries, u64::MAX]),
+            12 => plan.columns = plan.columns.wrapping_add(rng.pick(&[1, u64::MAX])),
+            13 => plan.rows = plan.rows.wrapping_add(rng.pick(&[1, u64::MAX])),
+            14 => plan.entries = plan.entries.wrapping_add(rng.pick(&[1, u64::MAX])),
+            15 => resize(&mut plan.cost, rng.below(2), 1.0),
+            16 => resize(&mut plan.starts, rng.below(2), 1),
+            17 => resize(&mut plan.cols, rng.below(2), 1),
+            18 => resize(&mut plan.rhs, rng.below(2), 1.0),
+            _ => plan.budget = rng.below(3) as u64,
+        }
+        sink.plan(plan);
+    }
+}

@@ -1,0 +1,48 @@
+//! The oracle: the shown text of minilp 0.2.2 put together with the rules of document 01.
+//!
+//! `sparse`, `lu` and `solver` are the shown text. Each place where a rule or a correction of
+//! document 01 is put in is marked `// ours:` with its words. `shown` holds the shown parts that
+//! 01 leaves out and that only `--shown` runs. `fresh` is a second solver, written from 01 alone;
+//! only tests use it.
+//!
+//! `ComparisonOp` is from minilp 0.2.2, src/lib.rs, Apache-2.0, changed (another order).
+
+pub mod answer;
+pub mod exchange;
+pub mod families;
+pub mod fresh;
+pub mod gate;
+pub mod lu;
+pub mod plan;
+pub mod rng;
+pub mod shown;
+pub mod solver;
+pub mod sparse;
+pub mod sprs;
+pub mod survey;
+pub mod tri;
+pub mod tri_families;
+
+/// An operator specifying the relation between left-hand and right-hand sides of the constraint.
+// ours: "Le, Eq, Ge are 0, 1, 2." The shown order is Eq, Le, Ge; no order is used.
+#[derive(Clone, Copy, Debug)]
+pub enum ComparisonOp {
+    /// The <= operator (less than or equal to)
+    Le,
+    /// The == operator (equal to)
+    Eq,
+    /// The >= operator (greater than or equal to)
+    Ge,
+}
+
+/// 01's limits, each named once.
+pub mod limits {
+    pub const COLUMNS: u64 = 128;
+    pub const ROWS: u64 = 64;
+    pub const ENTRIES: u64 = 2_048;
+    pub const BUDGET: u64 = 10_000;
+    pub const ETA_COLUMNS: u64 = 256;
+    pub const ETA_ENTRIES: u64 = 4_096;
+    pub const TRI_PLACES: u64 = 64;
+    pub const TRI_ENTRIES: u64 = 2_048;
+}

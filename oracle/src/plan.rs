@@ -1,0 +1,125 @@
+//! A plan as lent: the sizes are what the caller says, the arrays have the lengths they have.
+//! All ours.
+
+use crate::limits;
+
+#[derive(Clone, Debug, Default)]
+pub struct Plan {
+    pub id: String,
+    pub columns: u64,
+    pub rows: u64,
+    pub entries: u64,
+    pub budget: u64,
+    pub tolerance: f64,
+    pub cost: Vec<f64>,
+    pub lower: Vec<f64>,
+    pub upper: Vec<f64>,
+    pub starts: Vec<u64>,
+    pub cols: Vec<u64>,
+    pub coef: Vec<f64>,
+    pub ops: Vec<u64>,
+    pub rhs: Vec<f64>,
+    /// Lengths of the values array, of the store's columns and of its entries.
+    pub room: Option<[u64; 3]>,
+    /// Lengths of arrays of the state or the store.
+    pub short: Vec<(Lent, u64)>,
+}
+
+/// The lent arrays of the state and the store, under the exchange text's names.
+#[derive(Clone, Copy, Debug, PartialEq, Eq)]
+pub enum Lent {
+    Kept,
+    Basic,
+    Bval,
+    Nonbasic,
+    Nval,
+    Price,
+    Norm,
+    Flags,
+    /// Where each variable stands: below the columns non-basic, above them a row.
+    Where,
+    Etarow,
+    Etaptr,
+    Etaidx,
+    Etaval,
+    /// Kept rows, eta columns, eta entries, steps, status of the last run.
+    Counts,
+    Obj,
+}
+
+impl Lent {
+    pub const ALL: [Lent; 15] = [
+        Lent::Kept,
+        Lent::Basic,
+        Lent::Bval,
+        Lent::Nonbasic,
+        Lent::Nval,
+        Lent::Price,
+        Lent::Norm,
+        Lent::Flags,
+        Lent::Where,
+        Lent::Etarow,
+        Lent::Etaptr,
+        Lent::Etaidx,
+        Lent::Etaval,
+        Lent::Counts,
+        Lent::Obj,
+    ];
+
+    pub fn name(self) -> &'static str {
+        match self {
+            Lent::Kept => "kept",
+            Lent::Basic => "basic",
+            Lent::Bval => "bval",
+            Lent::Nonbasic => "nonbasic",
+            Lent::Nval => "nval",
+            Lent::Price => "price",
+            Lent::Norm => "norm",
+            Lent::Flags => "flags",
+            Lent::Where => "where",
+            Lent::Etarow => "etarow",
+            Lent::Etaptr => "etaptr",
+            Lent::Etaidx => "etaidx",
+            Lent::Etaval => "etaval",
+            Lent::Counts => "counts",
+            Lent::Obj => "obj",
+        }
+    }
+
+    /// The cells that a plan of these sizes needs. Dropped rows are counted, and the store is
+    /// needed in full: "Needed are columns plus rows of values, dropped rows counted, and the full
+    /// stated store".
+    pub fn needed(self, columns: u64, rows: u64) -> u64 {
+        match self {
+            Lent::Kept | Lent::Basic | Lent::Bval => rows,
+            Lent::Nonbasic | Lent::Nval | Lent::Price | Lent::Norm | Lent::Flags => columns,
+            Lent::Where => columns + rows,
+            Lent::Etarow => limits::ETA_COLUMNS,
+            Lent::Etaptr => limits::ETA_COLUMNS + 1,
+            Lent::Etaidx | Lent::Etaval => limits::ETA_ENTRIES,
+            Lent::Counts => 5,
+            Lent::Obj => 1,
+        }
+    }
+}
+
+impl Plan {
+    /// Whether the array has at least the needed cells. Sizes are known to be small here.
+    pub fn lends_enough(&self, lent: Lent) -> bool {
+        let needed = lent.needed(self.columns, self.rows);
+        if let Some(&(_, length)) = self.short.iter().rev().find(|(name, _)| *name == lent) {
+            return length >= needed;
+        }
+        match (lent, self.room) {
+            (Lent::Etarow, Some([_, store_columns, _])) => store_columns >= needed,
+            (Lent::Etaptr, Some([_, store_columns, _])) => store_columns >= needed - 1,
+            (Lent::Etaidx | Lent::Etaval, Some([_, _, store_entries])) => store_entries >= needed,
+            _ => true,
+        }
+    }
+
+    pub fn lends_enough_values(&self) -> bool {
+        self.room
+            .is_none_or(|[values, _, _]| values >= self.columns + self.rows)
+    }
+}

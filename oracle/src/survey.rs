@@ -1,0 +1,209 @@
+//! Counts what a list of plans reaches, and checks it against the list of what must be reached.
+//! All ours.
+
+use std::collections::{BTreeMap, HashSet};
+use std::hash::{DefaultHasher, Hash, Hasher};
+
+use crate::answer::{Answer, Named, Outcome, Rejected, Room, StartNumber};
+use crate::families::{bad_number_kind, BAD_NUMBERS};
+use crate::gate;
+use crate::limits;
+use crate::plan::Plan;
+use crate::shown::Options;
+
+/// The answers that a call can give.
+pub const NUMBERS: [u8; 13] = [0, 1, 2, 3, 4, 5, 6, 7, 20, 21, 22, 23, 24];
+
+#[derive(Default)]
+pub struct Survey {
+    plans: u64,
+    /// The plans of each answer, by hash, so that equal plans count once.
+    different: BTreeMap<u8, HashSet<u64>>,
+    /// Every other count, by name.
+    counts: BTreeMap<String, u64>,
+}
+
+impl Survey {
+    pub fn add(&mut self, plan: &Plan, answer: &Answer) {
+        let number = answer.outcome.number();
+        self.plans += 1;
+        self.different
+            .entry(number)
+            .or_default()
+            .insert(hash_of(plan));
+
+        if number >= 20 && answer.steps >= 3 {
+            self.count(format!("{} after 3 or more steps", number));
+        }
+        match answer.outcome {
+            Outcome::StartNotFinite(StartNumber::Value) => self.count("6 by a slack"),
+            Outcome::StartNotFinite(StartNumber::Objective) => self.count("6 by the objective"),
+            Outcome::StartNotFinite(StartNumber::Norm) => self.count("6 by a norm"),
+            Outcome::NoRoom(Room::Columns) => self.count("22 by columns"),
+            Outcome::NoRoom(Room::Entries) => self.count("22 by entries"),
+            Outcome::NotFinite { named, flip } => {
+                let on = if flip { " on a flip" } else { "" };
+                self.count(format!("23 by {}{}", named.name(), on));
+            }
+            Outcome::Rejected(Rejected::Value(var)) if var < plan.columns as usize => {
+                self.count("24 by a column")
+            }
+            Outcome::Rejected(Rejected::Value(_)) => self.count("24 by a slack"),
+            Outcome::Rejected(Rejected::Row(_)) => self.count("24 by a row"),
+            _ => {}
+        }
+        if let (2, Some(("number", index))) = (number, family(plan)) {
+            self.count(format!("2 by {}", bad_number_kind(index)));
+        }
+
+        if plan.rows == limits::ROWS && plan.columns == limits::COLUMNS && answer.state.is_some() {
+            self.count("64 rows and 128 columns");
+        }
+        if answer.steps > 60 {
+            self.count("runs of over 60 steps");
+        }
+        if let Some(state) = &answer.state {
+            if (state.kept.len() as u64) < plan.rows {
+                self.count("runs with dropped rows");
+            }
+        }
+        if let Some((family, _)) = family(plan) {
+            self.count(format!("family {}", family));
+        }
+    }
+
+    fn count(&mut self, name: impl Into<String>) {
+        *self.counts.entry(name.into()).or_default() += 1;
+    }
+
+    fn get(&self, name: &str) -> u64 {
+        self.counts.get(name).copied().unwrap_or(0)
+    }
+
+    fn different(&self, number: u8) -> u64 {
+        self.different
+            .get(&number)
+            .map_or(0, |set| set.len() as u64)
+    }
+
+    /// Every count, one a line.
+    pub fn table(&self) -> String {
+        let mut table = format!("{} plans\n", self.plans);
+        for number in NUMBERS {
+            table += &format!(
+                "answer {}: {} different plans\n",
+                number,
+                self.different(number)
+            );
+        }
+        for (name, count) in &self.counts {
+            table += &format!("{}: {}\n", name, count);
+        }
+        table
+    }
+
+    /// What must be reached: a name, the least count and the count.
+    pub fn targets(&self) -> Vec<(String, u64, u64)> {
+        let mut targets = vec![("plans".to_string(), 120_000, self.plans)];
+        for number in NUMBERS {
+            let name = format!("different plans for {}", number);
+            targets.push((name, 1_000, self.different(number)));
+        }
+        let mut at_least = |least: u64, name: String| {
+            let count = self.get(&name);
+            targets.push((name, least, count));
+        };
+        for number in 20..=24 {
+            at_least(100, format!("{} after 3 or more steps", number));
+        }
+        for kind in BAD_NUMBERS {
+            at_least(50, format!("2 by {}", kind));
+        }
+        for (least, name) in [
+            (100, "6 by a slack"),
+            (100, "6 by the objective"),
+            (100, "6 by a norm"),
+            (100, "22 by columns"),
+            (100, "22 by entries"),
+            (100, "24 by a column"),
+            (100, "24 by a slack"),
+            (100, "24 by a row"),
+            (200, "64 rows and 128 columns"),
+            (200, "runs of over 60 steps"),
+            (1_000, "runs with dropped rows"),
+            (100_000, "family tiny"),
+            (1_000, "family limits"),
+            (1_000, "family short"),
+            (1_000, "family ties"),
+            (1_000, "family wild"),
+            (1_000, "family damaged"),
+        ] {
+            at_least(least, name.into());
+        }
+        for named in Named::ALL {
+            if !UNREACHED.contains(&named) {
+                at_least(20, format!("23 by {}", named.name()));
+            }
+        }
+        at_least(20, "23 by objective on a flip".into());
+        at_least(20, "23 by basic on a flip".into());
+        targets
+    }
+}
+
+/// Places of document 01's order that no generated plan reaches; families::named says why.
+pub const UNREACHED: [Named; 3] = [Named::Column, Named::Leaving, Named::Eta];
+
+/// The family of a plan and its number there, from its name.
+fn family(plan: &Plan) -> Option<(&str, usize)> {
+    let (family, index) = plan.id.split_once('.')?;
+    Some((family, index.parse().ok()?))
+}
+
+/// The plan's text without its name.
+fn hash_of(plan: &Plan) -> u64 {
+    let nameless = Plan {
+        id: String::new(),
+        ..plan.clone()
+    };
+    let mut hasher = DefaultHasher::new();
+    nameless.to_string().hash(&mut hasher);
+    hasher.finish()
+}
+
+/// Picks the plans of the fixed list: of each family, of each kind of answer, the first few that
+/// are short. A 22 is long; of these the first of each family is taken.
+#[derive(Default)]
+pub struct Fixed {
+    taken: BTreeMap<(String, String), usize>,
+}
+
+impl Fixed {
+    pub fn takes(&mut self, plan: &Plan) -> bool {
+        let answer = gate::solve(plan, Options::default());
+        let (family, index) = family(plan).unwrap_or(("", 0));
+        let kind = match answer.outcome {
+            // The families "short" and "number" go through their kinds in turn.
+            Outcome::BadSize if family == "short" => format!("1, {}", index % 92),
+            Outcome::BadNumber if family == "number" => bad_number_kind(index).to_string(),
+            Outcome::BadEntry { .. } => "3".to_string(),
+            Outcome::CrossedBounds { .. } => "4".to_string(),
+            Outcome::FalseEmptyRow { .. } => "5".to_string(),
+            Outcome::Rejected(Rejected::Value(_)) => "24 by a value".to_string(),
+            Outcome::Rejected(Rejected::Row(_)) => "24 by a row".to_string(),
+            outcome => format!("{:?} {}", outcome, answer.steps.min(3)),
+        };
+        let (most_taken, longest) = match answer.outcome.number() {
+            22 => (1, usize::MAX),
+            1 | 2 => (1, 700),
+            3..=7 => (4, 700),
+            _ => (2, 900),
+        };
+        let taken = self.taken.entry((family.to_string(), kind)).or_default();
+        if *taken >= most_taken || plan.to_string().len() > longest {
+            return false;
+        }
+        *taken += 1;
+        true
+    }
+}

@@ -1,0 +1,342 @@
+//! The oracle gives 01's night cases, the fixed lists, and what the second solver gives.
+
+use std::io::Cursor;
+
+use oracle::answer::{Answer, Outcome};
+use oracle::exchange::{answer_line, tri_answer_line, Extras, Item, Reader};
+use oracle::families;
+use oracle::fresh;
+use oracle::gate;
+use oracle::plan::Plan;
+use oracle::shown::{Correction, Options};
+use oracle::tri::{self, Tri};
+
+const STATE: Extras = Extras {
+    state: true,
+    why: false,
+};
+const ALL: Extras = Extras {
+    state: true,
+    why: true,
+};
+
+fn items(text: &str) -> Vec<Item> {
+    let reader = Reader::new(Cursor::new(text));
+    reader.map(|item| item.expect("well-formed text")).collect()
+}
+
+fn plans(text: &str) -> Vec<Plan> {
+    let plan = |item| match item {
+        Item::Plan(plan) => plan,
+        Item::Tri(tri) => panic!("{} is a triangle", tri.id),
+    };
+    items(text).into_iter().map(plan).collect()
+}
+
+fn line(plan: &Plan, options: Options) -> String {
+    answer_line(&plan.id, &gate::solve(plan, options), ALL)
+}
+
+/// Every answer line of a text, compared with a kept list.
+fn assert_answers(text: &str, answers: &str) {
+    let items = items(text);
+    assert_eq!(items.len(), answers.lines().count());
+    for (item, expected) in items.iter().zip(answers.lines()) {
+        let line = match item {
+            Item::Plan(plan) => {
+                answer_line(&plan.id, &gate::solve(plan, Options::default()), STATE)
+            }
+            Item::Tri(tri) => tri_answer_line(&tri.id, &tri::solve(tri)),
+        };
+        assert_eq!(line, expected);
+    }
+}
+
+#[test]
+fn night_cases_in_the_words_of_01() {
+    // Name, answer, objective, steps, values, leaving rows.
+    type Case = (&'static str, u8, f64, u64, &'static [f64], &'static [usize]);
+    let cases: [Case; 14] = [
+        ("N1", 0, -4.0, 1, &[4.0, 0.0], &[0]),
+        ("N1-budget-0", 21, 0.0, 0, &[], &[]),
+        // An exchange, then a flip: one leaving row, two steps.
+        ("N2", 0, -12.0, 2, &[4.0, 0.0, 0.0], &[0]),
+        ("N2-budget-1", 21, -8.0, 1, &[], &[0]),
+        ("N3", 20, 0.0, 0, &[], &[]),
+        ("N4-at-least-1", 7, 0.0, 0, &[], &[]),
+        ("N4-at-least-0", 0, 0.0, 0, &[0.0, 0.0], &[]),
+        ("bounds-3-to-2", 4, 0.0, 0, &[], &[]),
+        ("bounds-3-to-3", 0, 3.0, 0, &[3.0], &[]),
+        ("empty-eq-minus-zero", 0, 0.0, 0, &[0.0], &[]),
+        ("empty-ge-minus-1", 0, 0.0, 0, &[0.0], &[]),
+        ("empty-le-minus-1", 5, 0.0, 0, &[], &[]),
+        ("N1-two-rows-1-leaves", 0, -4.0, 1, &[4.0, 0.0, 0.0], &[1]),
+        ("N1-same-row-0-leaves", 0, -4.0, 1, &[4.0, 0.0, 0.0], &[0]),
+    ];
+    let plans = plans(include_str!("../night.txt"));
+    assert_eq!(plans.len(), cases.len());
+    for (plan, (name, number, objective, steps, values, leaving)) in plans.iter().zip(cases) {
+        let answer = gate::solve(plan, Options::default());
+        assert_eq!(plan.id, name);
+        assert_eq!(answer.outcome.number(), number, "{}", name);
+        assert_eq!(answer.objective, objective, "{}", name);
+        assert_eq!(answer.steps, steps, "{}", name);
+        assert_eq!(answer.values, values, "{}", name);
+        let rows = answer.state.map_or(vec![], |state| state.etarow);
+        assert_eq!(rows, leaving, "{}", name);
+    }
+}
+
+#[test]
+fn night_cases_as_kept() {
+    assert_answers(
+        include_str!("../night.txt"),
+        include_str!("../night.answers"),
+    );
+}
+
+#[test]
+fn fixed_plans_as_kept() {
+    assert_answers(
+        include_str!("../fixed.txt"),
+        include_str!("../fixed.answers"),
+    );
+}
+
+#[test]
+fn fixed_triangles_as_kept() {
+    assert_answers(
+        include_str!("../fixed-tri.txt"),
+        include_str!("../fixed-tri.answers"),
+    );
+}
+
+/// The solver written from 01 alone gives the same answers, places, values and states. Of the
+/// family "cycle", whose runs are long, every 45th plan is tried.
+#[test]
+fn the_second_solver_agrees() {
+    let mut compared = 0;
+    let mut seen = 0;
+    families::make(2, &|_| true, &mut |plan| {
+        seen += 1;
+        if plan.id.starts_with("cycle.") && seen % 45 != 0 {
+            return;
+        }
+        let ours: Answer = gate::solve(&plan, Options::default());
+        let fresh = fresh::solve(&plan);
+        assert_eq!(
+            answer_line(&plan.id, &ours, ALL),
+            answer_line(&plan.id, &fresh, ALL)
+        );
+        assert_eq!(ours.outcome, fresh.outcome);
+        compared += 1;
+    });
+    assert!(compared > 120_000);
+}
+
+/// Each kept plan shows its correction, and only that one's switch changes it as kept.
+#[test]
+fn differences_as_kept() {
+    let plans = plans(include_str!("../differences.txt"));
+    let mut answers = include_str!("../differences.answers").lines();
+    for plan in &plans {
+        let correction = Correction::ALL.into_iter().find(|c| c.name() == plan.id);
+        let shown = Options::showing(correction.expect("a plan named for its correction"));
+        let (ours, theirs) = (line(plan, Options::default()), line(plan, shown));
+        assert_ne!(ours, theirs);
+        assert_eq!(Some(ours.as_str()), answers.next());
+        assert_eq!(Some(theirs.as_str()), answers.next());
+    }
+    assert_eq!(answers.next(), None);
+}
+
+/// recalc_obj_coeffs from 0.0 changes no bit, and no plan reads a stale helper place.
+#[test]
+fn corrections_that_no_plan_shows() {
+    let wanted = |family: &str| ["plain", "ties", "huge", "wild", "long"].contains(&family);
+    families::make(3, &wanted, &mut |plan| {
+        let ours = line(&plan, Options::default());
+        for correction in [Correction::Recalc, Correction::StaleHelper] {
+            assert_eq!(ours, line(&plan, Options::showing(correction)));
+        }
+    });
+}
+
+/// The shown factor of the first basis solves as the identity does: with the switch on, the first
+/// answers to differ come after a reset.
+#[test]
+fn plans_without_a_reset_are_the_same_as_shown() {
+    let mut same = 0;
+    families::make(4, &|family| family == "plain", &mut |plan| {
+        let answer = gate::solve(&plan, Options::default());
+        let etas = answer.state.as_ref().map_or(0, |state| state.etarow.len());
+        if etas <= 1 {
+            let ours = answer_line(&plan.id, &answer, ALL);
+            let shown = line(&plan, Options::showing(Correction::Reset));
+            assert_eq!(ours, shown);
+            same += 1;
+        }
+    });
+    assert!(same > 1_000);
+}
+
+/// A refusal has objective 0.0, 0 steps, no values and no state, whatever it is.
+#[test]
+fn refusals_carry_nothing() {
+    families::make(5, &|family| family == "damaged", &mut |plan| {
+        let answer = gate::solve(&plan, Options::default());
+        if answer.outcome.number() < 20 && answer.outcome != Outcome::Optimal {
+            assert_eq!(answer.objective.to_bits(), 0);
+            assert_eq!(answer.steps, 0);
+            assert!(answer.values.is_empty() && answer.state.is_none());
+        }
+    });
+}
+
+/// "After k steps the store has at most k columns and k times the row count of entries", and the
+/// step count is at most the budget.
+#[test]
+fn the_store_keeps_pace_with_the_steps() {
+    let wanted = |family: &str| ["plain", "spent", "big"].contains(&family);
+    families::make(6, &wanted, &mut |plan| {
+        let answer = gate::solve(&plan, Options::default());
+        if let Some(state) = answer.state {
+            let (columns, entries) = (state.etarow.len() as u64, state.etaidx.len() as u64);
+            assert!(answer.steps <= plan.budget);
+            assert!(columns <= answer.steps && entries <= answer.steps * plan.rows);
+            assert_eq!(state.etaptr.len() as u64, columns + 1);
+        }
+    });
+}
+
+#[test]
+fn texts_come_back_as_they_were() {
+    let wanted = |family: &str| ["number", "short", "damaged", "limits"].contains(&family);
+    families::make(7, &wanted, &mut |plan| {
+        let text = plan.to_string();
+        assert_eq!(plans(&text)[0].to_string(), text);
+    });
+    let text = include_str!("../fixed-tri.txt");
+    let back: String = items(text)
+        .iter()
+        .map(|item| match item {
+            Item::Plan(plan) => plan.to_string(),
+            Item::Tri(tri) => tri.to_string(),
+        })
+        .collect();
+    assert_eq!(back, text);
+}
+
+/// The same seed gives the same plans, another seed others; no two plans have one name.
+#[test]
+fn the_generator_is_seeded() {
+    let text = |seed| {
+        let mut text = String::new();
+        families::make(seed, &|family| family == "plain", &mut |plan| {
+            text += &plan.to_string();
+        });
+        text
+    };
+    assert!(text(1) == text(1));
+    assert!(text(1) != text(2));
+}
+
+#[test]
+fn malformed_text_is_an_error() {
+    for text in [
+        "plan",
+        "plan a",
+        "plan a\ndims 1 1\nend",
+        "plan a\ncost 3ff\nend",
+        "plan a\ncost zzzzzzzzzzzzzzzz\nend",
+        "plan a\ncost +ff0000000000000\nend",
+        "plan a\nstarts -1\nend",
+        "plan a\nstarts 18446744073709551616\nend",
+        "plan a\nshort nothing 1\nend",
+        "plan a\nwhat 1\nend",
+        "tri a middle 1 0\nend",
+        "sheet a 1 1\nend",
+    ] {
+        let first = Reader::new(Cursor::new(text)).next();
+        assert!(matches!(first, Some(Err(_))), "{}", text);
+    }
+}
+
+fn triangle(upper: bool, columns: &[&[(u64, f64)]], list: &[(u64, f64)]) -> Tri {
+    let mut tri = Tri {
+        upper,
+        size: columns.len() as u64,
+        starts: vec![0],
+        ..Tri::default()
+    };
+    for column in columns {
+        for &(row, val) in *column {
+            tri.rows.push(row);
+            tri.vals.push(val);
+        }
+        tri.starts.push(tri.rows.len() as u64);
+    }
+    tri.entries = tri.rows.len() as u64;
+    tri.list = list.iter().map(|&(place, _)| place).collect();
+    tri.lvals = list.iter().map(|&(_, val)| val).collect();
+    tri
+}
+
+fn bits(vals: &[f64]) -> Vec<u64> {
+    vals.iter().map(|val| val.to_bits()).collect()
+}
+
+fn bits_differ(tri: &Tri) -> bool {
+    let answer = tri::solve(tri);
+    assert_eq!(answer.status, 0);
+    bits(&answer.sparse) != bits(&answer.dense)
+}
+
+/// The smallest triangle where sparse and dense bits differ has one place and no entry: the dense
+/// solve divides an unlisted 0.0 by the negative diagonal, the sparse one doesn't visit it.
+#[test]
+fn the_smallest_triangle_whose_bits_differ() {
+    let mut tri = triangle(false, &[&[]], &[]);
+    tri.diag = Some(vec![-1.0]);
+    let answer = tri::solve(&tri);
+    assert_eq!(bits(&answer.sparse), bits(&[0.0]));
+    assert_eq!(bits(&answer.dense), bits(&[-0.0]));
+
+    // Nothing is smaller: no place, or one place without a diagonal.
+    assert!(!bits_differ(&triangle(false, &[], &[])));
+    for list in [&[][..], &[(0, 1.0)], &[(0, -0.0)], &[(0, 0.1)]] {
+        assert!(!bits_differ(&triangle(false, &[&[]], list)));
+    }
+}
+
+/// Without a diagonal two places and one entry are the smallest: -0.0 - (0.0 * -1.0) is 0.0.
+#[test]
+fn the_smallest_without_a_diagonal() {
+    let numbers = [0.0, -0.0, 1.0, -1.0, 0.1];
+    for (a, b) in numbers.iter().flat_map(|&a| numbers.map(|b| (a, b))) {
+        for list in [vec![], vec![(0, a)], vec![(1, b)], vec![(1, b), (0, a)]] {
+            assert!(!bits_differ(&triangle(false, &[&[], &[]], &list)));
+        }
+    }
+    assert!(bits_differ(&triangle(
+        false,
+        &[&[(1, -1.0)], &[]],
+        &[(1, -0.0)]
+    )));
+}
+
+/// The order of subtraction shows with three places: the list is finished as 2, 0, 1, so the sparse
+/// solve takes column 1 first, the dense one column 0.
+#[test]
+fn the_order_of_subtraction_shows() {
+    let tri = triangle(
+        false,
+        &[&[(2, 1.0)], &[(2, 1.0)], &[]],
+        &[(0, 0.1), (1, 0.2), (2, 1.0)],
+    );
+    let answer = tri::solve(&tri);
+    assert_eq!(answer.list, [0, 1, 2]);
+    assert_eq!(answer.dense[2], 1.0 - 0.1 - 0.2);
+    assert_eq!(answer.sparse[2], 1.0 - 0.2 - 0.1);
+    assert_ne!(answer.dense[2], answer.sparse[2]);
+}
