@@ -1,0 +1,72 @@
+//! 01's N5: N2 as a sheet, its five starred cases, with D and B as 01 gives them.
+
+use oracle_sheet::generate::night_sheet;
+use oracle_sheet::reference::{edit, open, verdict, Edit, Sheet, Verdict};
+
+fn opened(amount: i64, mult: i64) -> Sheet {
+    let mut sheet = night_sheet(amount, mult);
+    assert_eq!(open(&mut sheet), 0);
+    sheet
+}
+
+#[test]
+fn the_plan_is_the_cheapest() {
+    let sheet = opened(4, -3072);
+    assert_eq!(sheet.kept.d, [0, 2048]);
+    assert_eq!(sheet.kept.b, -12288);
+    assert_eq!(sheet.kept.c, -12);
+    assert_eq!(sheet.kept.r, [4]);
+    assert_eq!(sheet.kept.counts, [0, 0, 0, 0]);
+    assert_eq!(verdict(&sheet), Verdict::Gap(0));
+}
+
+#[test]
+fn another_multiplier_shows_a_gap() {
+    let sheet = opened(4, -4096);
+    assert_eq!(sheet.kept.d, [1024, 3072]);
+    assert_eq!(sheet.kept.b, -16384);
+    assert_eq!(verdict(&sheet), Verdict::Gap(4096));
+}
+
+#[test]
+fn an_absent_bound_is_needed() {
+    let sheet = opened(4, -2048);
+    assert_eq!(sheet.kept.d, [-1024, 1024]);
+    assert_eq!(sheet.kept.counts, [0, 0, 0, 1]);
+    assert_eq!(verdict(&sheet), Verdict::NoFloor);
+}
+
+#[test]
+fn a_smaller_amount_costs_more() {
+    let sheet = opened(3, -3072);
+    assert_eq!(sheet.kept.d, [0, 2048]);
+    assert_eq!(sheet.kept.b, -12288);
+    assert_eq!(verdict(&sheet), Verdict::Gap(3072));
+}
+
+#[test]
+fn a_larger_amount_breaks_the_row() {
+    let sheet = opened(5, -3072);
+    assert_eq!(sheet.kept.counts, [1, 0, 0, 0]);
+    assert_eq!(verdict(&sheet), Verdict::NoPlan);
+}
+
+#[test]
+fn edits_lead_from_case_to_case() {
+    let cases = [(4, -3072), (4, -4096), (4, -2048), (3, -3072), (5, -3072)];
+    for from in cases {
+        for to in cases {
+            let mut sheet = opened(from.0, from.1);
+            for (kind, number) in [(1, to.0), (7, to.1)] {
+                let step = Edit {
+                    kind,
+                    row: 0,
+                    column: 0,
+                    number,
+                };
+                assert_eq!(edit(&mut sheet, step), 0);
+            }
+            assert_eq!(sheet, opened(to.0, to.1));
+        }
+    }
+}
