@@ -1,17 +1,12 @@
 -- No turn changes an array's length. Assumes nothing.
-use mathlib.Core.Path.{_≡_, refl, ap, _∙_}
+use mathlib.Core.Path.{_≡_, refl, _∙_}
 use mathlib.Core.List.{List}
-use Prim.Native.Nat.{ℕ, zero, suc, _+_, _≤_}
-use native.Mathlib.Omega.{arith}
-use lib.ListN.{length, drop, length-set, length-append, length-drop}
+use Prim.Native.Nat.{ℕ, zero, suc, _+_}
+use lib.ListN.{length, length-set}
 use lib.Ieee.{Float}
-use Rattle.doubles.specs.Loop.{run, table}
+use Rattle.doubles.specs.Loop.{run}
 use Rattle.doubles.specs.Lists.{_!_, _#_}
-use Rattle.doubles.proofs.Loops.{Filled, length-tab}
 use Rattle.columns.specs.Columns.{Cells, placeTurn}
-
-pub filled-long : {A : Type 0} {f : ℕ → A} {l₀ : List A} {i : ℕ} {l : List A} → Filled f l₀ i l → i ≤ length l₀ → length l ≡ length l₀
-filled-long {A} {f} {l₀} {i} r h = ap length (r .filled) ∙ omega (arith, length-append (table i f) (drop i l₀), length-tab i 0 f, length-drop i l₀)
 
 pub record Same (s t : Cells) : Type 0 where
   pub next : length (t .next) ≡ length (s .next)

@@ -50,6 +50,10 @@ module _ (n : ℕ) (starts cols : List ℕ) (coeffs : List Float) (kept zeros : 
             (laid-out P f zeros (z .long) (z .zero-at) (cells next R X) first-next next-long R-long X-long laid
             (λ j l. ap (λ (t : List ℕ). t # j) h ∙ over-at (n + 1) (sum counts) first 0 j (omega arith) ∙ ap (λ (t : List ℕ). sum t j) counts-are))
 
+-- the starts keep their length
+pub starts-long : (n : ℕ) (counts first laid : List ℕ) → n ≤ maxColumns → length first ≡ maxColumns + 1 → laid ≡ over (table (n + 1) (sum counts)) first → length laid ≡ maxColumns + 1
+starts-long n counts first laid m l h = ap length h ∙ over-long (n + 1) (sum counts) first (omega (arith, m, l)) ∙ l
+
 -- a new array
 pub fresh : Zeros (replicate maxColumns 0)
 fresh = record { long = refl; zero-at = zeros-at maxColumns }

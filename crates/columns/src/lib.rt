@@ -132,7 +132,7 @@ pub fn by_columns(
     requires { ⌜ Matrix (rowed n (now starts) (now cols) (now coeffs) (now kept)) × Valued (rowed n (now starts) (now cols) (now coeffs) (now kept)) ⌝ }
     requires { ⌜ (length (now cstarts) ≡ maxColumns + 1) × (length (now crows) ≡ maxEntries) × (length (now ccoeffs) ≡ maxEntries) ⌝ }
     ensures { λ _. ⌜ ByColumns (rowed n (now (starts .entry)) (now (cols .entry)) (now (coeffs .entry)) (now (kept .entry)))
-        (now (cstarts .exit)) (now (crows .exit)) (now (ccoeffs .exit)) ⌝ }
+        (now (cstarts .exit)) (now (crows .exit)) (now (ccoeffs .exit)) × (length (now (cstarts .exit)) ≡ maxColumns + 1) ⌝ }
 {
     let mut counts = [0; doubles::MAX_COLUMNS];
     count_all(starts, cols, kept, &mut counts);

@@ -1,11 +1,8 @@
 -- Laws that the proofs share. Assumes nothing.
-use mathlib.Core.Path.{_≡_, refl, sym, ap, _∙_}
+use mathlib.Core.Path.{_≡_, refl, ap, _∙_}
 use mathlib.Core.Bool.{Bool, true, false}
-use mathlib.Core.List.{List, _++_}
-use lib.ListN.{length, drop, length-append, length-drop}
-use lib.Seq.{getD-append-add, getD-drop}
 use Prim.Native.Nat.{ℕ, zero, suc, _+_, _*_, _≤_, _<_, _^_}
-use native.Mathlib.Nat.{le-antisymm, add-zero}
+use native.Mathlib.Nat.{le-antisymm}
 use native.Mathlib.Numerals.{add-one}
 use native.Mathlib.Omega.{arith}
 use lib.IntN.{ℤ, pos, natAbs, _+ℤ_}
@@ -14,18 +11,12 @@ use lib.Signed.{ltZ, leZ}
 use mir.Syntax.{w64}
 use mir.Val.{SFits}
 use mir.ValLaws.{toZ-ofZ}
-use Rattle.doubles.specs.Lists.{over}
-use Rattle.doubles.specs.Loop.{all, run, table}
-use Rattle.doubles.proofs.Loops.{Filled, length-tab, filled-over}
-use Rattle.sheet_rules.specs.Sum.{_‼_, sum, bit}
+use Rattle.doubles.specs.Loop.{run}
+use Rattle.sheet_rules.specs.Sum.{sum, bit}
 use Rattle.sheet_rules.proofs.Sizes.{abs-add, mul-size}
 use Rattle.sheet_rules.specs.Sheet.{holds, wrong, present, termBy, term}
 use Rattle.sheet_rules.specs.Opening.{boundFine}
 use Rattle.sheet_terms.proofs.Machine.{word, fits, up-to}
-
--- the end of a loop that passed every index
-pub all-done : (p : ℕ → Bool) (k n : ℕ) → k ≤ n → n ≤ k → all k p ≡ true → all n p ≡ true
-all-done p k n a b e = ap (λ (j : ℕ). all j p) (sym (le-antisymm a b)) ∙ e
 
 -- one term more of a sum, at the code's k + 1
 pub sum-next : (f : ℕ → ℤ) (k : ℕ) (r : ℤ) → r ≡ sum k f → r +ℤ f k ≡ sum (k + 1) f
@@ -82,18 +73,3 @@ term-size P Q d l u lm um hd hl hu = by (ltZ (pos 0) d) (ltZ d (pos 0)) (present
     by false true low true = mul-size d u P Q hd hu
     by false true low false = omega arith
     by false false low high = omega arith
-
--- ---- an array that a loop fills from the front
-module _ {f : ℕ → ℤ} {l₀ l : List ℤ} {i : ℕ} (fd : Filled f l₀ i l) where
-  pub filled-length : i ≤ length l₀ → length l ≡ length l₀
-  filled-length h = ap length (fd .filled) ∙ simp (length-append, length-tab, length-drop) (omega arith)
-
-  -- what the loop has not reached is as it was
-  pub filled-rest : l ‼ i ≡ l₀ ‼ i
-  filled-rest =
-      let here : length (table i f) + 0 ≡ i = rw (length-tab i 0 f) (add-zero i) in
-      let there : i + 0 ≡ i = add-zero i in
-      ap (λ (t : List ℤ). t ‼ i) (fd .filled) ∙ ap (λ (k : ℕ). (table i f ++ drop i l₀) ‼ k) (sym here) ∙ getD-append-add (table i f) (drop i l₀) 0 (pos 0) ∙ getD-drop i l₀ 0 (pos 0) ∙ ap (λ (k : ℕ). l₀ ‼ k) there
-
-  pub filled-done : (n : ℕ) → i ≤ n → n ≤ i → l ≡ over (table n f) l₀
-  filled-done n a b = filled-over fd ∙ ap (λ (k : ℕ). over (table k f) l₀) (le-antisymm a b)

@@ -5,7 +5,7 @@ use Rattle.doubles.specs.Limits.{maxColumns}
 use Rattle.rules.specs.Plan.{Problem}
 use Rattle.rules.specs.Parts.{rowed}
 use Rattle.columns.proofs.Columns.{counts-part}
-use Rattle.columns.proofs.Whole.{fresh, sums-fit, all-placing, all-columns}
+use Rattle.columns.proofs.Whole.{fresh, sums-fit, all-placing, all-columns, starts-long}
 use Rattle.columns.proofs.by_columns.Statement.{statement}
 use Rattle.columns.proofs.by_columns.Tie as tie
 
@@ -36,10 +36,12 @@ returns : tie.Need-returns
 returns c = let s : tie.Start = search in
     let a = s .args in
     let k : tie.After-count-all = search in
-    let u : tie.After-sum-up = search in
-    all-columns (a .n) (a .starts .now) (a .cols .now) (a .coeffs .now) (a .kept .now) (replicate maxColumns 0) fresh (s .pre .0 .0) _ (k .count-all .ensures)
-    (replicate maxColumns 0) (a .crows .now) (a .ccoeffs .now) refl (s .pre .1 .1) (s .pre .1 .2) _ (u .sum-up .ensures .1)
-    (a .cstarts .now) _ (u .sum-up .ensures .0) _ (c .place-all .ensures)
+    let u : tie.After-sum-up = search in (
+      all-columns (a .n) (a .starts .now) (a .cols .now) (a .coeffs .now) (a .kept .now) (replicate maxColumns 0) fresh (s .pre .0 .0) _ (k .count-all .ensures)
+          (replicate maxColumns 0) (a .crows .now) (a .ccoeffs .now) refl (s .pre .1 .1) (s .pre .1 .2) _ (u .sum-up .ensures .1)
+          (a .cstarts .now) _ (u .sum-up .ensures .0) _ (c .place-all .ensures),
+      starts-long (a .n) _ (a .cstarts .now) _ (s .pre .0 .0 .columns-most) (s .pre .1 .0) (u .sum-up .ensures .0),
+    )
 
 pub by-columns-spec : {M : Type 1} → statement M
 by-columns-spec =

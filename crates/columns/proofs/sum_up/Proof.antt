@@ -3,10 +3,9 @@ use mathlib.Core.Path.{_≡_, sym}
 use Prim.Native.Nat.{_+_, _-_, _≤_}
 use native.Mathlib.Omega.{arith}
 use lib.ListN.{length}
-use Rattle.doubles.proofs.Loops.{Filled, filled-none, filled-more, filled-over}
+use Rattle.doubles.proofs.Loops.{Filled, filled-none, filled-more, filled-over, filled-length}
 use Rattle.columns.specs.Columns.{sum}
 use Rattle.columns.proofs.Counts.{sum-zero, sum-next, sum-rises}
-use Rattle.columns.proofs.Lengths.{filled-long}
 use Rattle.columns.proofs.sum_up.Statement.{statement}
 use Rattle.columns.proofs.sum_up.Tie as tie
 
@@ -20,10 +19,10 @@ abbrev Head : Type 0
 Head = tie.At-loop Inv-loop μ-loop
 
 starts-long : (a : Head) → length (a .loop .starts) ≡ length (a .before .args .starts .now)
-starts-long a = filled-long (a .loop .inv .2) (omega (arith, a .loop .inv .0, a .before .pre))
+starts-long a = filled-length (a .loop .inv .2) (omega (arith, a .loop .inv .0, a .before .pre))
 
 next-long : (a : Head) → length (a .loop .next) ≡ length (a .before .args .next .now)
-next-long a = filled-long (a .loop .inv .3) (omega (arith, a .loop .inv .0, a .before .pre))
+next-long a = filled-length (a .loop .inv .3) (omega (arith, a .loop .inv .0, a .before .pre))
 
 loop-holds : tie.Need-loop-holds Inv-loop μ-loop
 loop-holds c = (omega arith, sym (sum-zero _), filled-none, filled-none)

@@ -7,9 +7,8 @@ use lib.ListN.{length}
 use borrow.Author.Needs.{needs}
 use Rattle.sheet_rules.specs.Sum.{_‼_}
 use Rattle.sheet_terms.proofs.Machine.{result}
-use Rattle.doubles.proofs.Loops.{Filled, filled-none, filled-more}
+use Rattle.doubles.proofs.Loops.{Filled, filled-none, filled-more, filled-length, filled-done}
 use Rattle.sheet_rules.specs.Sum.{dot}
-use Rattle.sheet_terms.proofs.Laws.{filled-length, filled-done}
 use Rattle.sheet_open.proofs.Laws.{row-in, row-asks, row-is}
 use Rattle.sheet_open.proofs.write_activities.Statement.{statement}
 use Rattle.sheet_open.proofs.write_activities.Tie as tie
@@ -87,7 +86,7 @@ same-length : tie.Need-same-length Inv-loop μ-loop
 same-length c = filled-length (c .before .loop .inv .1) (omega (arith, c .before .before .pre .3))
 
 returns : tie.Need-returns Inv-loop μ-loop
-returns c = filled-done (c .before .loop .inv .1) (c .before .before .args .rows) (omega arith) (omega arith)
+returns c = filled-done (c .before .before .args .rows) (omega arith) (omega arith) (c .before .loop .inv .1)
 
 pub write-activities-spec : {M : Type 1} → statement M
 write-activities-spec =

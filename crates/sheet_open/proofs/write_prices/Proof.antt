@@ -13,10 +13,9 @@ use Rattle.sheet_terms.proofs.Machine.{E, num, mul, exact, fit}
 use Rattle.sheet_rules.proofs.Local.{place-in}
 use lib.IntN.{pos}
 use Rattle.doubles.specs.Limits.{unit}
-use Rattle.doubles.proofs.Loops.{Filled, filled-none, filled-more}
+use Rattle.doubles.proofs.Loops.{Filled, filled-none, filled-more, filled-length, filled-done}
 use Rattle.sheet_rules.specs.Sum.{dot}
 use Rattle.sheet_terms.proofs.Machine.{val, sub, up-to}
-use Rattle.sheet_terms.proofs.Laws.{filled-length, filled-done}
 use Rattle.sheet_open.proofs.write_prices.Statement.{statement}
 use Rattle.sheet_open.proofs.write_prices.Tie as tie
 
@@ -89,7 +88,7 @@ same-length : tie.Need-same-length Inv-loop μ-loop
 same-length c = filled-length (c .before .loop .inv .1) (omega (arith, c .before .before .pre .4))
 
 returns : tie.Need-returns Inv-loop μ-loop
-returns c = filled-done (c .before .loop .inv .1) (c .before .before .args .columns) (omega arith) (omega arith)
+returns c = filled-done (c .before .before .args .columns) (omega arith) (omega arith) (c .before .loop .inv .1)
 
 pub write-prices-spec : {M : Type 1} → statement M
 write-prices-spec =

@@ -5,9 +5,8 @@ use Prim.Native.Nat.{ℕ, _+_, _≤_, _<_, _-_}
 use native.Mathlib.Omega.{arith}
 use mathlib.Core.Bool.{Bool, true, false}
 use Rattle.doubles.specs.Loop.{all}
-use Rattle.doubles.proofs.Loops.{all-next, all-fails}
+use Rattle.doubles.proofs.Loops.{all-next, all-fails, all-done}
 use Rattle.sheet_rules.specs.Sum.{_‼_}
-use Rattle.sheet_terms.proofs.Laws.{all-done}
 use borrow.Author.Tests.{le-leb, lt-leb}
 use lib.IntN.{ℤ, natAbs}
 use Rattle.sheet_rules.specs.Opening.{within, allWithin}
