@@ -1,0 +1,2 @@
+-- What a run gives.
+pub mod Ran
