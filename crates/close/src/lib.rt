@@ -1,0 +1,243 @@
+// The end of a solve: the final check, the answer, and what is written of the lent arrays outside the workspace.
+ghost use mathlib.Core.Path.{_≡_};
+ghost use mathlib.Core.Bool.{true, false};
+ghost use mathlib.Core.List.{[], _∷_};
+ghost use Prim.Native.Nat.{_+_, _≤_};
+ghost use lib.Dec.{eqb};
+ghost use lib.ListN.{length};
+ghost use Rattle.doubles.specs.Limits.{vars, countCells};
+ghost use Rattle.doubles.specs.Loop.{table};
+ghost use Rattle.doubles.specs.Lists.{_!_, over};
+ghost use Rattle.rules.specs.Parts.{stateOf, memoryOf};
+ghost use Rattle.rules.specs.FinalCheck.{valuesOf};
+ghost use Rattle.rules.specs.Step.{ended};
+ghost use Rattle.rules.specs.Answers.{numberOf};
+ghost use Rattle.rules.specs.Solve as Solve;
+ghost use Rattle.final_check.specs.Lent.{valuedOf, sizesOf, checkedOf};
+ghost use Rattle.close.specs.Lent.{counted, closedOf, Answers, Closes};
+
+// 01's number of an answer.
+pub fn number_of(a: rules::Answer) -> usize
+    ensures { λ r. ⌜ r ≡ numberOf a ⌝ }
+{
+    match a {
+        rules::Answer::Optimal {
+            objective: _,
+            steps: _,
+        } => 0,
+        rules::Answer::BadSize => 1,
+        rules::Answer::BadNumber => 2,
+        rules::Answer::BadEntry { row: _, place: _ } => 3,
+        rules::Answer::BadBounds { column: _ } => 4,
+        rules::Answer::FalseRow { row: _ } => 5,
+        rules::Answer::StartNotFinite => 6,
+        rules::Answer::SlackOutside => 7,
+        rules::Answer::Unbounded {
+            objective: _,
+            steps: _,
+        } => 20,
+        rules::Answer::Spent {
+            objective: _,
+            steps: _,
+        } => 21,
+        rules::Answer::StoreFull {
+            objective: _,
+            steps: _,
+        } => 22,
+        rules::Answer::NotFinite {
+            objective: _,
+            steps: _,
+        } => 23,
+        rules::Answer::ValueRejected {
+            objective: _,
+            steps: _,
+            value: _,
+        } => 24,
+        rules::Answer::RowRejected {
+            objective: _,
+            steps: _,
+            row: _,
+        } => 24,
+    }
+}
+
+// The answer after the final check. 24 comes "with its first rejected place".
+fn told(c: rules::Checked, objective: f64, steps: usize) -> rules::Answer
+    ensures { λ r. ⌜ r ≡ Solve.checkedAnswer (counted objective steps) c ⌝ }
+{
+    match c {
+        rules::Checked::Passed => rules::Answer::Optimal { objective, steps },
+        rules::Checked::Value(value) => rules::Answer::ValueRejected {
+            objective,
+            steps,
+            value,
+        },
+        rules::Checked::Row(row) => rules::Answer::RowRejected {
+            objective,
+            steps,
+            row,
+        },
+    }
+}
+
+// The answer by why a run ends. The values are reckoned in scratch, where the final check reads them.
+fn answer_of(
+    n: usize,
+    tolerance: f64,
+    lowers: &[f64],
+    uppers: &[f64],
+    starts: &[usize],
+    cols: &[usize],
+    coeffs: &[f64],
+    ops: &[u8],
+    rhs: &[f64],
+    kept: &[usize],
+    var_states: &[usize],
+    basic_var_vals: &[f64],
+    nb_var_vals: &[f64],
+    why: rules::Stop,
+    objective: f64,
+    steps: usize,
+    xs: &mut [f64; doubles::VARS],
+) -> rules::Answer
+    requires { ⌜ Answers (checkedOf n tolerance (now lowers) (now uppers) (now starts) (now cols) (now coeffs) (now ops) (now rhs) (now kept))
+        (valuedOf (now «var_states») (now «basic_var_vals») (now «nb_var_vals»)) ⌝ }
+    requires { ⌜ length (now xs) ≡ vars ⌝ }
+    ensures { λ r. ⌜ (r ≡ Solve.answerOf (checkedOf n tolerance (now (lowers .entry)) (now (uppers .entry)) (now (starts .entry)) (now (cols .entry))
+        (now (coeffs .entry)) (now (ops .entry)) (now (rhs .entry)) (now (kept .entry)))
+        (ended why (stateOf (valuedOf (now («var_states» .entry)) (now («basic_var_vals» .entry)) (now («nb_var_vals» .entry))) 0 objective steps)))
+        × (now (xs .exit) ≡ over (valuesOf (sizesOf n (now (kept .entry)))
+        (valuedOf (now («var_states» .entry)) (now («basic_var_vals» .entry)) (now («nb_var_vals» .entry)))) (now (xs .entry))) ⌝ }
+{
+    final_check::values_into(n, kept, var_states, basic_var_vals, nb_var_vals, xs);
+    match why {
+        rules::Stop::Finished => told(
+            final_check::final_check(
+                n,
+                tolerance,
+                lowers,
+                uppers,
+                starts,
+                cols,
+                coeffs,
+                ops,
+                rhs,
+                kept,
+                xs,
+            ),
+            objective,
+            steps,
+        ),
+        rules::Stop::Spent => rules::Answer::Spent { objective, steps },
+        rules::Stop::Unbounded => rules::Answer::Unbounded { objective, steps },
+        rules::Stop::StoreFull => rules::Answer::StoreFull { objective, steps },
+        rules::Stop::NotFinite => rules::Answer::NotFinite { objective, steps },
+    }
+}
+
+// 01: "Status 0 is Optimal and writes values, slacks last. 20 to 24 leave the values array alone".
+fn values_after(status: usize, count: usize, xs: &[f64; doubles::VARS], values: &mut [f64])
+    requires { ⌜ (count ≤ vars) × (count ≤ length (now values)) ⌝ }
+    ensures { λ _. ⌜ now (values .exit) ≡ elim (eqb status 0) [ true ↦ over (table count (λ v. now (xs .entry) ! v)) (now (values .entry)) | false ↦ now (values .entry) ] ⌝ }
+{
+    if status != 0 {
+        return;
+    }
+    final_check::write_values(values, xs, count);
+}
+
+// The numbers of the kept rows, over the front of the lent array.
+fn write_kept(kept: &[usize], to: &mut [usize])
+    requires { ⌜ length (now kept) ≤ length (now to) ⌝ }
+    ensures { λ _. ⌜ now (to .exit) ≡ over (now (kept .entry)) (now (to .entry)) ⌝ }
+{
+    let mut r = 0;
+    while r < kept.len() {
+        to[r] = kept[r];
+        r += 1;
+    }
+}
+
+// Kept rows, eta columns, eta entries, steps and status, so that a later call can go on from the workspace.
+fn write_counts(
+    rows: usize,
+    eta_columns: usize,
+    eta_entries: usize,
+    steps: usize,
+    status: usize,
+    counts: &mut [usize],
+)
+    requires { ⌜ countCells ≤ length (now counts) ⌝ }
+    ensures { λ _. ⌜ now (counts .exit) ≡ over (rows ∷ «eta_columns» ∷ «eta_entries» ∷ steps ∷ status ∷ []) (now (counts .entry)) ⌝ }
+{
+    counts[0] = rows;
+    counts[1] = eta_columns;
+    counts[2] = eta_entries;
+    counts[3] = steps;
+    counts[4] = status;
+}
+
+// The end of a solve. The values stay in scratch until the final check has passed.
+pub fn close(
+    n: usize,
+    tolerance: f64,
+    lowers: &[f64],
+    uppers: &[f64],
+    starts: &[usize],
+    cols: &[usize],
+    coeffs: &[f64],
+    ops: &[u8],
+    rhs: &[f64],
+    kept: &[usize],
+    var_states: &[usize],
+    basic_var_vals: &[f64],
+    nb_var_vals: &[f64],
+    eta_starts: &[usize],
+    why: rules::Stop,
+    eta_count: usize,
+    objective: f64,
+    steps: usize,
+    values: &mut [f64],
+    kept_cells: &mut [usize],
+    counts: &mut [usize],
+    objective_cell: &mut [f64],
+) -> rules::Answer
+    requires { ⌜ Closes (checkedOf n tolerance (now lowers) (now uppers) (now starts) (now cols) (now coeffs) (now ops) (now rhs) (now kept))
+        (memoryOf (now values) (now «kept_cells») (closedOf (now «var_states») (now «basic_var_vals») (now «nb_var_vals») (now «eta_starts»)) (now counts) (now «objective_cell»))
+        (stateOf (closedOf (now «var_states») (now «basic_var_vals») (now «nb_var_vals») (now «eta_starts»)) «eta_count» objective steps) ⌝ }
+    ensures { λ r. ⌜ Solve.solved r (memoryOf (now (values .exit)) (now («kept_cells» .exit))
+        (closedOf (now («var_states» .entry)) (now («basic_var_vals» .entry)) (now («nb_var_vals» .entry)) (now («eta_starts» .entry))) (now (counts .exit)) (now («objective_cell» .exit)))
+        ≡ Solve.close (checkedOf n tolerance (now (lowers .entry)) (now (uppers .entry)) (now (starts .entry)) (now (cols .entry))
+        (now (coeffs .entry)) (now (ops .entry)) (now (rhs .entry)) (now (kept .entry)))
+        (memoryOf (now (values .entry)) (now («kept_cells» .entry))
+        (closedOf (now («var_states» .entry)) (now («basic_var_vals» .entry)) (now («nb_var_vals» .entry)) (now («eta_starts» .entry))) (now (counts .entry)) (now («objective_cell» .entry)))
+        (ended why (stateOf (closedOf (now («var_states» .entry)) (now («basic_var_vals» .entry)) (now («nb_var_vals» .entry)) (now («eta_starts» .entry))) «eta_count» objective steps)) ⌝ }
+{
+    let used = eta_starts[eta_count];
+    let mut xs = [0.0; doubles::VARS];
+    let a = answer_of(
+        n,
+        tolerance,
+        lowers,
+        uppers,
+        starts,
+        cols,
+        coeffs,
+        ops,
+        rhs,
+        kept,
+        var_states,
+        basic_var_vals,
+        nb_var_vals,
+        why,
+        objective,
+        steps,
+        &mut xs,
+    );
+    let status = number_of(a);
+    values_after(status, n + kept.len(), &xs, values);
+    write_kept(kept, kept_cells);
+    write_counts(kept.len(), eta_count, used, steps, status, counts);
+    objective_cell[0] = objective;
+    a
+}

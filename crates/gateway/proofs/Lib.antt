@@ -1,0 +1,2 @@
+-- Laws of the gateway, for the proofs of this crate and of its caller.
+pub mod Gate

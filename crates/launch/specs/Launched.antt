@@ -1,0 +1,35 @@
+-- From the start's numbers to the end of the run, or to none where the start is dual feasible. Assumes nothing.
+use mathlib.Core.Bool.{true, false}
+use mathlib.Core.List.{List, []}
+use Prim.Native.Nat.{ℕ, _≤_}
+use lib.Ieee.{Float}
+use Rattle.doubles.specs.Num.{f0}
+use Rattle.doubles.specs.Limits.{maxBudget}
+use Rattle.rules.specs.Plan.{Problem, Workspace, State, nOf, mOf}
+use Rattle.rules.specs.Parts.{planOf, problem, stateOf}
+use Rattle.rules.specs.Start.{dualFeasible}
+use Rattle.rules.specs.Step.{Ended, ended, runOf}
+use Rattle.rules.specs.declared.Stop.the-variants.{Finished}
+use Rattle.start.specs.Lent.{Columns, Scratch, Room}
+use Rattle.start.specs.Reckoned.{Numbers, written}
+use Rattle.exchange.specs.Lent.{Ready}
+
+-- what is lent of a problem: its right sides stand in the numbers by now
+abbrev pub launchedOf : ℕ → List Float → List Float → List Float → List ℕ → List ℕ → List Float → List ℕ → List ℕ → Problem
+launchedOf n costs lowers uppers starts cols coeffs ops kept = problem (planOf n 0 0 0 f0 costs lowers uppers starts cols coeffs ops []) kept
+
+-- the first state, from the numbers in scratch
+abbrev pub firstState : Problem → Numbers → Workspace → State
+firstState P u w = stateOf (written (nOf P) (mOf P) (P .plan .costs) (P .plan .lowers) (P .plan .uppers) (u .vals) (u .slacks) (u .norms) w) 0 (u .objective) 0
+
+-- "If dual feasible, Optimal is reached at once with 0 steps (ours), after the final check"
+unfoldable pub launched : Problem → ℕ → State → Ended
+launched P budget s = elim (dualFeasible (P .plan)) [ true ↦ ended Finished s | false ↦ runOf P budget s ]
+
+-- the numbers and the arrays are there, and the first state fits
+pub record Launches (P : Problem) (budget : ℕ) (u : Numbers) (w : Workspace) : Type 0 where
+  pub columns : Columns (nOf P) (P .plan .costs) (P .plan .lowers) (P .plan .uppers)
+  pub scratch : Scratch (nOf P) (mOf P) (u .vals) (u .slacks) (u .norms)
+  pub room : Room (nOf P) (mOf P) w
+  pub ready : Ready (nOf P) (P .plan .lowers) (P .plan .uppers) (P .plan .starts) (P .plan .cols) (P .plan .coeffs) (P .plan .ops) (P .kept) (firstState P u w)
+  pub budget-most : budget ≤ maxBudget
