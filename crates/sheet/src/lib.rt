@@ -1,7 +1,8 @@
 // The audit sheet's public calls. They ask nothing: whatever is lent, the answer and every lent cell afterwards are settled.
 ghost use mathlib.Core.Path.{_≡_};
 ghost use Rattle.sheet_rules.specs.Sheet.{planOf, keptOf, sheetOf};
-ghost use Rattle.sheet_rules.specs.Promises.{Opens, Judges};
+ghost use Rattle.sheet_rules.specs.Promises.{Opens, Edits, Judges};
+use sheet_rules::Edit;
 use sheet_rules::Verdict;
 use sheet_terms::is_zero;
 
@@ -48,6 +49,83 @@ pub fn open(
     );
     if refusal == 0 {
         sheet_open::write_kept(
+            rows,
+            columns,
+            coefs,
+            costs,
+            lowers,
+            uppers,
+            lower_marks,
+            upper_marks,
+            rights,
+            ops,
+            amounts,
+            mults,
+            r,
+            d,
+            c,
+            b,
+            counts,
+        );
+    }
+    refusal
+}
+
+// Edits a sheet: 11 to 16 and nothing changed, or 0, the edited cell written and every touched kept number moved.
+pub fn edit(
+    kind: usize,
+    row: usize,
+    column: usize,
+    number: i64,
+    rows: usize,
+    columns: usize,
+    coefs: &mut [i64],
+    costs: &mut [i64],
+    lowers: &mut [i64],
+    uppers: &mut [i64],
+    lower_marks: &mut [u8],
+    upper_marks: &mut [u8],
+    rights: &mut [i64],
+    ops: &[u8],
+    amounts: &mut [i64],
+    mults: &mut [i64],
+    r: &mut [i64],
+    d: &mut [i64],
+    c: &mut [i64],
+    b: &mut [i64],
+    counts: &mut [i64],
+) -> usize
+    ensures { λ z. ⌜ Edits (sheetOf (planOf rows columns (now (coefs .entry)) (now (costs .entry)) (now (lowers .entry)) (now (uppers .entry)) (now («lower_marks» .entry)) (now («upper_marks» .entry)) (now (rights .entry)) (now (ops .entry)) (now (amounts .entry)) (now (mults .entry))) (keptOf (now (r .entry)) (now (d .entry)) (now (c .entry)) (now (b .entry)) (now (counts .entry)))) (record { kind = kind; row = row; column = column; number = number }) z (sheetOf (planOf rows columns (now (coefs .exit)) (now (costs .exit)) (now (lowers .exit)) (now (uppers .exit)) (now («lower_marks» .exit)) (now («upper_marks» .exit)) (now (rights .exit)) (now (ops .entry)) (now (amounts .exit)) (now (mults .exit))) (keptOf (now (r .exit)) (now (d .exit)) (now (c .exit)) (now (b .exit)) (now (counts .exit)))) ⌝ }
+{
+    let e = Edit {
+        kind: kind,
+        row: row,
+        column: column,
+        number: number,
+    };
+    let refusal = sheet_edit::edit_refusal(
+        e,
+        rows,
+        columns,
+        coefs,
+        costs,
+        lowers,
+        uppers,
+        lower_marks,
+        upper_marks,
+        rights,
+        ops,
+        amounts,
+        mults,
+        r,
+        d,
+        c,
+        b,
+        counts,
+    );
+    if refusal == 0 {
+        sheet_apply::apply_edit(
+            e,
             rows,
             columns,
             coefs,

@@ -42,7 +42,7 @@ pub fn totals_after(
     let kind = e.kind;
     let j = e.column;
     match kind {
-        1 => sheet_moves::amount_totals(
+        1 => sheet_by_column::amount_totals(
             e,
             rows,
             columns,
@@ -62,7 +62,7 @@ pub fn totals_after(
             b,
             counts,
         ),
-        2 => sheet_moves::cost_totals(
+        2 => sheet_by_column::cost_totals(
             e,
             rows,
             columns,
@@ -82,7 +82,7 @@ pub fn totals_after(
             b,
             counts,
         ),
-        3 => sheet_moves::bound_totals(
+        3 => sheet_by_column::bound_totals(
             e,
             e.number,
             uppers[j],
@@ -106,7 +106,7 @@ pub fn totals_after(
             b,
             counts,
         ),
-        4 => sheet_moves::bound_totals(
+        4 => sheet_by_column::bound_totals(
             e,
             lowers[j],
             e.number,
@@ -130,7 +130,7 @@ pub fn totals_after(
             b,
             counts,
         ),
-        5 => sheet_moves::right_totals(
+        5 => sheet_by_row::right_totals(
             e,
             rows,
             columns,
@@ -150,7 +150,7 @@ pub fn totals_after(
             b,
             counts,
         ),
-        6 => sheet_moves::coef_totals(
+        6 => sheet_by_row::coef_totals(
             e,
             rows,
             columns,
@@ -170,7 +170,7 @@ pub fn totals_after(
             b,
             counts,
         ),
-        7 => sheet_moves::mult_totals(
+        7 => sheet_by_row::mult_totals(
             e,
             rows,
             columns,
@@ -190,7 +190,7 @@ pub fn totals_after(
             b,
             counts,
         ),
-        8 => sheet_moves::bound_totals(
+        8 => sheet_by_column::bound_totals(
             e,
             0,
             uppers[j],
@@ -214,7 +214,7 @@ pub fn totals_after(
             b,
             counts,
         ),
-        9 => sheet_moves::bound_totals(
+        9 => sheet_by_column::bound_totals(
             e,
             lowers[j],
             0,

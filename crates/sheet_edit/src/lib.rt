@@ -1,18 +1,12 @@
-// What an edit is refused for, and what it makes of each kept number. All functions read only.
+// What an edit is refused for, and its cell as it was. All functions read only.
 ghost use mathlib.Core.Path.{_≡_};
 ghost use mathlib.Core.Bool.{not, _||_};
-ghost use Prim.Native.Nat.{_≤_, _<_};
-ghost use lib.IntN.{natAbs, _+ℤ_};
-ghost use Rattle.doubles.specs.Limits.{maxR, maxD};
-ghost use Rattle.doubles.specs.Loop.{all};
+ghost use Prim.Native.Nat.{_<_};
 ghost use Rattle.sheet_rules.specs.Sheet.{planOf, keptOf, sheetOf};
-ghost use Rattle.sheet_rules.specs.Opening.{within};
 ghost use Rattle.sheet_rules.specs.Words.{Sized, Index, NumberIn};
-ghost use Rattle.sheet_rules.specs.Edit.{usesColumn, usesRow, indexFine, bothFine, columnFine, rowFine, soundAt, editRefusal, movedR, movedD};
+ghost use Rattle.sheet_rules.specs.Edit.{usesColumn, usesRow, indexFine, bothFine, columnFine, rowFine, soundAt, editRefusal};
 ghost use Rattle.sheet_tests.specs.Sized.{PlanSized};
-ghost use Rattle.sheet_moves.specs.After.{Ready, totalsAfter};
-ghost use Rattle.sheet_edit.specs.Rules.{ruleOf};
-use sheet_moves::Totals;
+ghost use Rattle.sheet_edit.specs.Rules.{ruleOf, cellAt};
 use sheet_rules::Edit;
 use sheet_terms::size;
 
@@ -20,6 +14,12 @@ use sheet_terms::size;
 pub struct Rule {
     pub refusal: usize,
     pub limit: u64,
+}
+
+// A cell's number and mark; one that isn't a bound counts as present.
+pub struct Cell {
+    pub number: i64,
+    pub mark: u8,
 }
 
 // Kinds 8 and 9 take any number: no i64 is larger in size.
@@ -351,4 +351,204 @@ fn sound(
             mults,
         )
         & sheet_tests::kept_fine(rows, columns, r, d, c, b, counts)
+}
+
+// The edited cell as it is before the edit.
+pub fn old_cell(
+    e: Edit,
+    rows: usize,
+    columns: usize,
+    coefs: &[i64],
+    costs: &[i64],
+    lowers: &[i64],
+    uppers: &[i64],
+    lower_marks: &[u8],
+    upper_marks: &[u8],
+    rights: &[i64],
+    ops: &[u8],
+    amounts: &[i64],
+    mults: &[i64],
+) -> Cell
+    requires { ⌜ PlanSized (planOf rows columns (now coefs) (now costs) (now lowers) (now uppers) (now «lower_marks») (now «upper_marks») (now rights) (now ops) (now amounts) (now mults)) × Index (planOf rows columns (now coefs) (now costs) (now lowers) (now uppers) (now «lower_marks») (now «upper_marks») (now rights) (now ops) (now amounts) (now mults)) e ⌝ }
+    ensures { λ z. ⌜ z ≡ cellAt (planOf rows columns (now (coefs .entry)) (now (costs .entry)) (now (lowers .entry)) (now (uppers .entry)) (now («lower_marks» .entry)) (now («upper_marks» .entry)) (now (rights .entry)) (now (ops .entry)) (now (amounts .entry)) (now (mults .entry))) e ⌝ }
+{
+    let kind = e.kind;
+    let i = e.row;
+    let j = e.column;
+    match kind {
+        1 => Cell {
+            number: amounts[j],
+            mark: 1,
+        },
+        2 => Cell {
+            number: costs[j],
+            mark: 1,
+        },
+        3 => Cell {
+            number: lowers[j],
+            mark: lower_marks[j],
+        },
+        4 => Cell {
+            number: uppers[j],
+            mark: upper_marks[j],
+        },
+        5 => Cell {
+            number: rights[i],
+            mark: 1,
+        },
+        6 => Cell {
+            number: coefs[i * columns + j],
+            mark: 1,
+        },
+        7 => Cell {
+            number: mults[i],
+            mark: 1,
+        },
+        8 => Cell {
+            number: lowers[j],
+            mark: lower_marks[j],
+        },
+        9 => Cell {
+            number: uppers[j],
+            mark: upper_marks[j],
+        },
+        _ => Cell { number: 0, mark: 1 },
+    }
+}
+
+// The number of the refusal, or 0. 01: "Order: 16, 15, then 11 as at opening or a bad index, 12 number, 13 .., 14 ..".
+pub fn edit_refusal(
+    e: Edit,
+    rows: usize,
+    columns: usize,
+    coefs: &[i64],
+    costs: &[i64],
+    lowers: &[i64],
+    uppers: &[i64],
+    lower_marks: &[u8],
+    upper_marks: &[u8],
+    rights: &[i64],
+    ops: &[u8],
+    amounts: &[i64],
+    mults: &[i64],
+    r: &[i64],
+    d: &[i64],
+    c: &[i64],
+    b: &[i64],
+    counts: &[i64],
+) -> usize
+    ensures { λ z. ⌜ z ≡ editRefusal (sheetOf (planOf rows columns (now (coefs .entry)) (now (costs .entry)) (now (lowers .entry)) (now (uppers .entry)) (now («lower_marks» .entry)) (now («upper_marks» .entry)) (now (rights .entry)) (now (ops .entry)) (now (amounts .entry)) (now (mults .entry))) (keptOf (now (r .entry)) (now (d .entry)) (now (c .entry)) (now (b .entry)) (now (counts .entry)))) e ⌝ }
+{
+    let rule = kind_rule(e.kind);
+    if rule.refusal != 0 {
+        return rule.refusal;
+    }
+    if !sheet_tests::sizes_fine(
+        rows,
+        columns,
+        coefs,
+        costs,
+        lowers,
+        uppers,
+        lower_marks,
+        upper_marks,
+        rights,
+        ops,
+        amounts,
+        mults,
+        r,
+        d,
+        c,
+        b,
+        counts,
+    ) {
+        return 11;
+    }
+    if !index_fine(
+        e,
+        rows,
+        columns,
+        coefs,
+        costs,
+        lowers,
+        uppers,
+        lower_marks,
+        upper_marks,
+        rights,
+        ops,
+        amounts,
+        mults,
+    ) {
+        return 11;
+    }
+    if size(e.number) > rule.limit {
+        return 12;
+    }
+    if !both_fine(
+        e,
+        rows,
+        columns,
+        coefs,
+        costs,
+        lowers,
+        uppers,
+        lower_marks,
+        upper_marks,
+        rights,
+        ops,
+        amounts,
+        mults,
+        r,
+        d,
+        c,
+        b,
+        counts,
+    ) {
+        return 13;
+    }
+    if !sound(
+        e,
+        rows,
+        columns,
+        coefs,
+        costs,
+        lowers,
+        uppers,
+        lower_marks,
+        upper_marks,
+        rights,
+        ops,
+        amounts,
+        mults,
+        r,
+        d,
+        c,
+        b,
+        counts,
+    ) {
+        return 14;
+    }
+    if !sheet_after::moved_fine(
+        e,
+        rows,
+        columns,
+        coefs,
+        costs,
+        lowers,
+        uppers,
+        lower_marks,
+        upper_marks,
+        rights,
+        ops,
+        amounts,
+        mults,
+        r,
+        d,
+        c,
+        b,
+        counts,
+    ) {
+        return 14;
+    }
+    0
 }

@@ -11,10 +11,9 @@ use Rattle.sheet_terms.proofs.Laws.{turn}
 use mathlib.Core.Bool.{true}
 use borrow.Author.Tests.{le-leb, lt-leb}
 use Rattle.doubles.specs.Loop.{all}
-use Rattle.doubles.proofs.Loops.{all-next, all-fails}
+use Rattle.doubles.proofs.Loops.{all-next, all-fails, all-done}
 use Rattle.sheet_rules.specs.Opening.{within}
 use Rattle.sheet_rules.specs.Sheet.{Sheet, planOf, keptOf, sheetOf}
-use Rattle.sheet_terms.proofs.Laws.{all-done}
 use Rattle.sheet_rules.specs.Edit.{movedR}
 use Rattle.sheet_after.specs.Change.{PlanReady, rowChange}
 use Rattle.sheet_after.proofs.activities_stay.Statement.{statement}

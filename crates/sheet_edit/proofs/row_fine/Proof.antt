@@ -12,11 +12,10 @@ use Rattle.sheet_terms.proofs.Laws.{turn}
 use mathlib.Core.Bool.{true}
 use borrow.Author.Tests.{le-leb, lt-leb}
 use Rattle.doubles.specs.Loop.{all}
-use Rattle.doubles.proofs.Loops.{all-next, all-fails}
+use Rattle.doubles.proofs.Loops.{all-next, all-fails, all-done}
 use Rattle.sheet_rules.specs.Opening.{within}
 use Rattle.sheet_rules.specs.Edit.{rowFine}
 use Rattle.sheet_rules.proofs.Local.{place-in}
-use Rattle.sheet_terms.proofs.Laws.{all-done}
 use Rattle.sheet_edit.proofs.row_fine.Statement.{statement}
 use Rattle.sheet_edit.proofs.row_fine.Tie as tie
 

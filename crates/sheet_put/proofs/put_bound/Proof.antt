@@ -1,0 +1,46 @@
+-- `sheet_put::put_bound` meets its contract. Assumes nothing.
+use mathlib.Core.Path.{ap, _∙_}
+use mathlib.Core.List.{List}
+use Prim.Native.Nat.{ℕ}
+use lib.IntN.{ℤ, pos}
+use borrow.Author.Needs.{needs}
+use Rattle.sheet_rules.specs.Edit.{put}
+use Rattle.sheet_terms.proofs.Machine.{of-word}
+use Rattle.sheet_put.proofs.put_bound.Statement.{statement}
+use Rattle.sheet_put.proofs.put_bound.Tie as tie
+
+put-number-requires : tie.Need-put-number-requires
+put-number-requires c κs = λ t. (c .before .before) .pre .0 t .0
+
+put-number-requires-2 : tie.Need-put-number-requires-2
+put-number-requires-2 c κs = λ t. rw ((c .before .before) .put-number .kept .1 .1 .1 .0) ((c .before .before .before .before .before) .pre .1 t .0)
+
+put-mark-requires : tie.Need-put-mark-requires
+put-mark-requires c κs = λ t. (c .before .before .before .before .before .before .before .before) .pre .0 t .1
+
+put-mark-requires-2 : tie.Need-put-mark-requires-2
+put-mark-requires-2 c κs = λ t. rw ((c .before .before .before) .put-mark .kept .1 .1 .1 .0) ((c .before .before .before .before .before .before .before .before .before .before .before .before) .pre .1 t .1)
+
+same-length : tie.Need-same-length
+same-length c = search needs
+
+same-length-2 : tie.Need-same-length-2
+same-length-2 c = search needs
+
+returns : tie.Need-returns
+returns c =
+    let s = (c .before .before .before .before .before .before .before .before .before .before .before .before .before .before .before) in
+    let taken = (c .before .before .before .before .before .before .before .before .before .before .before .before) .put-number .ensures ∙ ap (λ (z : ℤ). put (s .args .take) (s .args .j) z (s .args .xs .now)) (of-word (s .fits .v)) in
+    ((c .before .before .before .before .before .before .before .before .before) .put-number2 .ensures ∙ ap (λ (l : List ℤ). put (s .args .drop) (s .args .j) (pos 0) l) taken, (c .before .before) .put-mark2 .ensures ∙ ap (λ (l : List ℕ). put (s .args .drop) (s .args .j) 0 l) ((c .before .before .before .before .before .before) .put-mark .ensures))
+
+pub put-bound-spec : {M : Type 1} → statement M
+put-bound-spec =
+    tie.close
+    (tie.spec
+    put-number-requires
+    put-number-requires-2
+    put-mark-requires
+    put-mark-requires-2
+    same-length
+    same-length-2
+    returns)

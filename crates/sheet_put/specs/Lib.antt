@@ -1,0 +1,2 @@
+-- What the writing half of an edit stores. Assumes nothing.
+pub mod Cells

@@ -1,0 +1,2 @@
+-- The places that an edit moves.
+pub mod Span
