@@ -6,7 +6,12 @@ ghost use mathlib.Core.List.{[]};
 ghost use lib.Dec.{eqb};
 ghost use Rattle.lu_solve.specs.Solve.{tri};
 ghost use Rattle.lu.specs.Result.{result, solveSparse, solveDense};
-ghost use Rattle.tevalumi.specs.Face.{triAnswer, triResult};
+ghost use Rattle.sheet_rules.specs.Promises.{Opens, Edits};
+ghost use Rattle.sheet_rules.specs.Sheet.{planOf, keptOf, sheetOf};
+ghost use Rattle.sheet_rules.specs.Verdict.{verdict, verdictNumbers};
+ghost use Rattle.rules.specs.Parts as Parts;
+ghost use Rattle.rules.specs.Solve.{solvePlan};
+ghost use Rattle.tevalumi.specs.Face.{triAnswer, triResult, sheetNumbers, answer, answerNumbers, faced, facedBy};
 
 // 01's number of a triangle solve, and how many places are listed afterwards.
 #[repr(C)]
@@ -163,4 +168,316 @@ pub extern "C" fn tevalumi_upper_dense(
         values,
     );
     tri_answer(a)
+}
+
+// 01's number of a verdict, its kind (0 not a plan, 1 no floor, 2 gap), and the gap.
+#[repr(C)]
+pub struct SheetVerdict {
+    pub status: usize,
+    pub kind: usize,
+    pub value: i64,
+}
+
+fn sheet_verdict(v: sheet_rules::Verdict) -> SheetVerdict
+    ensures { λ z. ⌜ sheetNumbers z ≡ verdictNumbers v ⌝ }
+{
+    match v {
+        sheet_rules::Verdict::NotPlan => SheetVerdict {
+            status: 0,
+            kind: 0,
+            value: 0,
+        },
+        sheet_rules::Verdict::NoFloor => SheetVerdict {
+            status: 0,
+            kind: 1,
+            value: 0,
+        },
+        sheet_rules::Verdict::Gap(gap) => SheetVerdict {
+            status: 0,
+            kind: 2,
+            value: gap,
+        },
+        sheet_rules::Verdict::Refused(number) => SheetVerdict {
+            status: number,
+            kind: 0,
+            value: 0,
+        },
+    }
+}
+
+// Works the kept numbers out afresh.
+#[no_mangle]
+pub extern "C" fn tevalumi_open(
+    rows: usize,
+    columns: usize,
+    coefs: &[i64],
+    costs: &[i64],
+    lowers: &[i64],
+    uppers: &[i64],
+    lower_marks: &[u8],
+    upper_marks: &[u8],
+    rights: &[i64],
+    ops: &[u8],
+    amounts: &[i64],
+    mults: &[i64],
+    r: &mut [i64],
+    d: &mut [i64],
+    c: &mut [i64],
+    b: &mut [i64],
+    counts: &mut [i64],
+) -> usize
+    ensures { λ z. ⌜ Opens (sheetOf (planOf rows columns (now (coefs .entry)) (now (costs .entry)) (now (lowers .entry)) (now (uppers .entry)) (now («lower_marks» .entry)) (now («upper_marks» .entry)) (now (rights .entry)) (now (ops .entry)) (now (amounts .entry)) (now (mults .entry))) (keptOf (now (r .entry)) (now (d .entry)) (now (c .entry)) (now (b .entry)) (now (counts .entry)))) z (sheetOf (planOf rows columns (now (coefs .entry)) (now (costs .entry)) (now (lowers .entry)) (now (uppers .entry)) (now («lower_marks» .entry)) (now («upper_marks» .entry)) (now (rights .entry)) (now (ops .entry)) (now (amounts .entry)) (now (mults .entry))) (keptOf (now (r .exit)) (now (d .exit)) (now (c .exit)) (now (b .exit)) (now (counts .exit)))) ⌝ }
+{
+    sheet::open(
+        rows,
+        columns,
+        coefs,
+        costs,
+        lowers,
+        uppers,
+        lower_marks,
+        upper_marks,
+        rights,
+        ops,
+        amounts,
+        mults,
+        r,
+        d,
+        c,
+        b,
+        counts,
+    )
+}
+
+// One edit, by its kind.
+#[no_mangle]
+pub extern "C" fn tevalumi_edit(
+    kind: usize,
+    row: usize,
+    column: usize,
+    number: i64,
+    rows: usize,
+    columns: usize,
+    coefs: &mut [i64],
+    costs: &mut [i64],
+    lowers: &mut [i64],
+    uppers: &mut [i64],
+    lower_marks: &mut [u8],
+    upper_marks: &mut [u8],
+    rights: &mut [i64],
+    ops: &[u8],
+    amounts: &mut [i64],
+    mults: &mut [i64],
+    r: &mut [i64],
+    d: &mut [i64],
+    c: &mut [i64],
+    b: &mut [i64],
+    counts: &mut [i64],
+) -> usize
+    ensures { λ z. ⌜ Edits (sheetOf (planOf rows columns (now (coefs .entry)) (now (costs .entry)) (now (lowers .entry)) (now (uppers .entry)) (now («lower_marks» .entry)) (now («upper_marks» .entry)) (now (rights .entry)) (now (ops .entry)) (now (amounts .entry)) (now (mults .entry))) (keptOf (now (r .entry)) (now (d .entry)) (now (c .entry)) (now (b .entry)) (now (counts .entry)))) (record { kind = kind; row = row; column = column; number = number }) z (sheetOf (planOf rows columns (now (coefs .exit)) (now (costs .exit)) (now (lowers .exit)) (now (uppers .exit)) (now («lower_marks» .exit)) (now («upper_marks» .exit)) (now (rights .exit)) (now (ops .entry)) (now (amounts .exit)) (now (mults .exit))) (keptOf (now (r .exit)) (now (d .exit)) (now (c .exit)) (now (b .exit)) (now (counts .exit)))) ⌝ }
+{
+    sheet::edit(
+        kind,
+        row,
+        column,
+        number,
+        rows,
+        columns,
+        coefs,
+        costs,
+        lowers,
+        uppers,
+        lower_marks,
+        upper_marks,
+        rights,
+        ops,
+        amounts,
+        mults,
+        r,
+        d,
+        c,
+        b,
+        counts,
+    )
+}
+
+// Reads only.
+#[no_mangle]
+pub extern "C" fn tevalumi_verdict(
+    rows: usize,
+    columns: usize,
+    coefs: &[i64],
+    costs: &[i64],
+    lowers: &[i64],
+    uppers: &[i64],
+    lower_marks: &[u8],
+    upper_marks: &[u8],
+    rights: &[i64],
+    ops: &[u8],
+    amounts: &[i64],
+    mults: &[i64],
+    r: &[i64],
+    d: &[i64],
+    c: &[i64],
+    b: &[i64],
+    counts: &[i64],
+) -> SheetVerdict
+    ensures { λ z. ⌜ sheetNumbers z ≡ verdictNumbers (verdict (sheetOf (planOf rows columns (now (coefs .entry)) (now (costs .entry)) (now (lowers .entry)) (now (uppers .entry)) (now («lower_marks» .entry)) (now («upper_marks» .entry)) (now (rights .entry)) (now (ops .entry)) (now (amounts .entry)) (now (mults .entry))) (keptOf (now (r .entry)) (now (d .entry)) (now (c .entry)) (now (b .entry)) (now (counts .entry))))) ⌝ }
+{
+    let v = sheet::verdict(
+        rows,
+        columns,
+        coefs,
+        costs,
+        lowers,
+        uppers,
+        lower_marks,
+        upper_marks,
+        rights,
+        ops,
+        amounts,
+        mults,
+        r,
+        d,
+        c,
+        b,
+        counts,
+    );
+    sheet_verdict(v)
+}
+
+// 01's answer of a solve. `place` says what `at` is: 0 nothing, 1 the row of an entry, whose place in that row is
+// `within`, 2 a column, 3 a row, 4 a value, 5 a kept row.
+#[repr(C)]
+pub struct TevalumiAnswer {
+    pub status: usize,
+    pub objective: f64,
+    pub steps: usize,
+    pub place: usize,
+    pub at: usize,
+    pub within: usize,
+}
+
+fn answer(
+    status: usize,
+    objective: f64,
+    steps: usize,
+    place: usize,
+    at: usize,
+    within: usize,
+) -> TevalumiAnswer
+    ensures { λ r. ⌜ r ≡ answer status objective steps place at within ⌝ }
+{
+    TevalumiAnswer {
+        status,
+        objective,
+        steps,
+        place,
+        at,
+        within,
+    }
+}
+
+fn solve_answer(a: rules::Answer) -> TevalumiAnswer
+    ensures { λ r. ⌜ r ≡ answerNumbers a ⌝ }
+{
+    match a {
+        rules::Answer::Optimal { objective, steps } => answer(0, objective, steps, 0, 0, 0),
+        rules::Answer::BadSize => answer(1, 0.0, 0, 0, 0, 0),
+        rules::Answer::BadNumber => answer(2, 0.0, 0, 0, 0, 0),
+        rules::Answer::BadEntry { row, place } => answer(3, 0.0, 0, 1, row, place),
+        rules::Answer::BadBounds { column } => answer(4, 0.0, 0, 2, column, 0),
+        rules::Answer::FalseRow { row } => answer(5, 0.0, 0, 3, row, 0),
+        rules::Answer::StartNotFinite => answer(6, 0.0, 0, 0, 0, 0),
+        rules::Answer::SlackOutside => answer(7, 0.0, 0, 0, 0, 0),
+        rules::Answer::Unbounded { objective, steps } => answer(20, objective, steps, 0, 0, 0),
+        rules::Answer::Spent { objective, steps } => answer(21, objective, steps, 0, 0, 0),
+        rules::Answer::StoreFull { objective, steps } => answer(22, objective, steps, 0, 0, 0),
+        rules::Answer::NotFinite { objective, steps } => answer(23, objective, steps, 0, 0, 0),
+        rules::Answer::ValueRejected {
+            objective,
+            steps,
+            value,
+        } => answer(24, objective, steps, 4, value, 0),
+        rules::Answer::RowRejected {
+            objective,
+            steps,
+            row,
+        } => answer(24, objective, steps, 5, row, 0),
+    }
+}
+
+#[no_mangle]
+pub extern "C" fn tevalumi_solve(
+    columns: usize,
+    rows: usize,
+    entries: usize,
+    budget: usize,
+    tolerance: f64,
+    costs: &[f64],
+    lowers: &[f64],
+    uppers: &[f64],
+    starts: &[usize],
+    cols: &[usize],
+    coeffs: &[f64],
+    ops: &[u8],
+    rhs: &[f64],
+    values: &mut [f64],
+    kept: &mut [usize],
+    basic_vars: &mut [usize],
+    basic_var_vals: &mut [f64],
+    nb_vars: &mut [usize],
+    nb_var_vals: &mut [f64],
+    nb_var_obj_coeffs: &mut [f64],
+    primal_edge_sq_norms: &mut [f64],
+    nb_var_states: &mut [u8],
+    var_states: &mut [usize],
+    eta_leaving: &mut [usize],
+    eta_starts: &mut [usize],
+    eta_rows: &mut [usize],
+    eta_coeffs: &mut [f64],
+    counts: &mut [usize],
+    objective: &mut [f64],
+) -> TevalumiAnswer
+    ensures { λ r. ⌜ faced r (Parts.memoryOf (now (values .exit)) (now (kept .exit)) (Parts.workspaceOf (now («basic_vars» .exit)) (now («basic_var_vals» .exit)) (now («nb_vars» .exit)) (now («nb_var_vals» .exit))
+        (now («nb_var_obj_coeffs» .exit)) (now («primal_edge_sq_norms» .exit)) (now («nb_var_states» .exit)) (now («var_states» .exit))
+        (Parts.etasOf (now («eta_leaving» .exit)) (now («eta_starts» .exit)) (now («eta_rows» .exit)) (now («eta_coeffs» .exit)))) (now (counts .exit)) (now (objective .exit)))
+        ≡ facedBy (solvePlan (Parts.planOf columns rows entries budget tolerance (now (costs .entry)) (now (lowers .entry)) (now (uppers .entry))
+        (now (starts .entry)) (now (cols .entry)) (now (coeffs .entry)) (now (ops .entry)) (now (rhs .entry)))
+        (Parts.memoryOf (now (values .entry)) (now (kept .entry)) (Parts.workspaceOf (now («basic_vars» .entry)) (now («basic_var_vals» .entry)) (now («nb_vars» .entry)) (now («nb_var_vals» .entry))
+        (now («nb_var_obj_coeffs» .entry)) (now («primal_edge_sq_norms» .entry)) (now («nb_var_states» .entry)) (now («var_states» .entry))
+        (Parts.etasOf (now («eta_leaving» .entry)) (now («eta_starts» .entry)) (now («eta_rows» .entry)) (now («eta_coeffs» .entry)))) (now (counts .entry)) (now (objective .entry)))) ⌝ }
+{
+    let a = solve::solve(
+        columns,
+        rows,
+        entries,
+        budget,
+        tolerance,
+        costs,
+        lowers,
+        uppers,
+        starts,
+        cols,
+        coeffs,
+        ops,
+        rhs,
+        values,
+        kept,
+        basic_vars,
+        basic_var_vals,
+        nb_vars,
+        nb_var_vals,
+        nb_var_obj_coeffs,
+        primal_edge_sq_norms,
+        nb_var_states,
+        var_states,
+        eta_leaving,
+        eta_starts,
+        eta_rows,
+        eta_coeffs,
+        counts,
+        objective,
+    );
+    solve_answer(a)
 }

@@ -1,0 +1,156 @@
+/* The library's face as a C program sees it: one triangle, and night case N5's sheet with its edits. */
+#include <stdio.h>
+#include <string.h>
+
+#include "tevalumi.h"
+
+#define LEN(a) (sizeof(a) / sizeof((a)[0]))
+#define ARRAY(a) (a), LEN(a)
+
+static int passed;
+static int failed;
+
+static void check(int holds, const char *what) {
+    if (holds) {
+        passed++;
+    } else {
+        failed++;
+        printf("FAILED: %s\n", what);
+    }
+}
+
+/* 2 x0 = 6 and 2 x0 + 4 x1 = 0, by columns; cells past the second are marked. */
+static void triangle(void) {
+    const size_t starts[] = {0, 1, 1};
+    const size_t rows[] = {1};
+    const double vals[] = {2.0};
+    const double diag[] = {2.0, 4.0};
+    size_t list[] = {0, 77, 77};
+    double values[] = {6.0, 99.0, 99.0};
+    TriAnswer a = tevalumi_lower_sparse(2, 1, ARRAY(starts), ARRAY(rows), ARRAY(vals), 1, ARRAY(diag), ARRAY(list), 1, ARRAY(values));
+    check(a.status == 0 && a.places == 2, "the sparse solve's answer");
+    check(list[0] == 0 && list[1] == 1 && list[2] == 77, "the list, and the cell past it");
+    check(values[0] == 3.0 && values[1] == -1.5 && values[2] == 99.0, "the values, and the cell past them");
+
+    double dense[] = {6.0, 0.0};
+    a = tevalumi_lower_dense(2, 1, ARRAY(starts), ARRAY(rows), ARRAY(vals), 1, ARRAY(diag), ARRAY(dense));
+    check(a.status == 0 && a.places == 2, "the dense solve's answer");
+    check(dense[0] == 3.0 && dense[1] == -1.5, "the dense values");
+
+    /* no diagonal lent: all ones */
+    double ones[] = {6.0, 0.0};
+    a = tevalumi_lower_dense(2, 1, ARRAY(starts), ARRAY(rows), ARRAY(vals), 0, NULL, 0, ARRAY(ones));
+    check(a.status == 0 && ones[0] == 6.0 && ones[1] == -12.0, "a diagonal of ones");
+
+    /* row 1 isn't above column 0 */
+    a = tevalumi_upper_dense(2, 1, ARRAY(starts), ARRAY(rows), ARRAY(vals), 1, ARRAY(diag), ARRAY(dense));
+    check(a.status == 1 && a.places == 0 && dense[0] == 3.0, "1, and nothing changed");
+    size_t twice[] = {0, 0};
+    double two[] = {6.0, 0.0};
+    a = tevalumi_lower_sparse(2, 1, ARRAY(starts), ARRAY(rows), ARRAY(vals), 1, ARRAY(diag), ARRAY(twice), 2, ARRAY(two));
+    check(a.status == 3 && two[0] == 6.0, "3, and nothing changed");
+    const size_t upper_starts[] = {0, 0, 1};
+    const size_t upper_rows[] = {0};
+    size_t last[] = {1, 77};
+    double upper[] = {99.0, 8.0};
+    a = tevalumi_upper_sparse(2, 1, ARRAY(upper_starts), ARRAY(upper_rows), ARRAY(vals), 1, ARRAY(diag), ARRAY(last), 1, ARRAY(upper));
+    check(a.status == 0 && last[1] == 0 && upper[1] == 2.0 && upper[0] == -2.0, "an upper triangle");
+}
+
+/* N2's plan: costs -3, -1; bounds 0 to none, 0 to 2; x0 + x1 <= 4. */
+typedef struct {
+    int64_t coefs[2], costs[2], lowers[2], uppers[2];
+    uint8_t lower_marks[2], upper_marks[2];
+    int64_t rights[1];
+    uint8_t ops[1];
+    int64_t amounts[2], mults[1];
+    int64_t r[1], d[3], c[1], b[1], counts[4];
+} Sheet;
+
+static Sheet n2(int64_t amount, int64_t mult) {
+    Sheet s = {{1, 1}, {-3, -1}, {0, 0}, {0, 2}, {1, 1}, {0, 1}, {4}, {0}, {amount, 0}, {mult}, {9}, {9, 9, 9}, {9}, {9}, {9, 9, 9, 9}};
+    return s;
+}
+
+#define PLAN(s) \
+    ARRAY((s)->coefs), ARRAY((s)->costs), ARRAY((s)->lowers), ARRAY((s)->uppers), ARRAY((s)->lower_marks), ARRAY((s)->upper_marks), \
+        ARRAY((s)->rights), ARRAY((s)->ops), ARRAY((s)->amounts), ARRAY((s)->mults)
+#define KEPT(s) ARRAY((s)->r), ARRAY((s)->d), ARRAY((s)->c), ARRAY((s)->b), ARRAY((s)->counts)
+
+static size_t open_sheet(Sheet *s) {
+    return tevalumi_open(1, 2, PLAN(s), KEPT(s));
+}
+
+static size_t edit(Sheet *s, size_t kind, size_t row, size_t column, int64_t number) {
+    return tevalumi_edit(kind, row, column, number, 1, 2, PLAN(s), KEPT(s));
+}
+
+static SheetVerdict judge(const Sheet *s) {
+    return tevalumi_verdict(1, 2, PLAN(s), KEPT(s));
+}
+
+static int is(SheetVerdict v, size_t status, size_t kind, int64_t value) {
+    return v.status == status && v.kind == kind && v.value == value;
+}
+
+static void sheet(void) {
+    Sheet s = n2(4, -3072);
+    check(open_sheet(&s) == 0, "opening");
+    check(s.r[0] == 4 && s.d[0] == 0 && s.d[1] == 2048 && s.c[0] == -12 && s.b[0] == -12288, "R, D, C, B");
+    check(s.counts[0] == 0 && s.counts[1] == 0 && s.counts[2] == 0 && s.counts[3] == 0, "the counts");
+    check(s.d[2] == 9, "a cell past the needed length");
+    check(is(judge(&s), 0, 2, 0), "N5: gap 0");
+
+    s = n2(4, -4096);
+    check(open_sheet(&s) == 0 && is(judge(&s), 0, 2, 4096), "N5: gap 4096");
+    s = n2(4, -2048);
+    check(open_sheet(&s) == 0 && is(judge(&s), 0, 1, 0), "N5: no floor");
+    s = n2(3, -3072);
+    check(open_sheet(&s) == 0 && is(judge(&s), 0, 2, 3072), "N5: gap 3072");
+    s = n2(5, -3072);
+    check(open_sheet(&s) == 0 && is(judge(&s), 0, 0, 0), "N5: not a plan");
+    s.c[0] = INT64_MAX;
+    check(is(judge(&s), 14, 0, 0), "14: a kept number over its size");
+    check(is(tevalumi_verdict(2, 2, PLAN(&s), KEPT(&s)), 11, 0, 0), "11: arrays too short");
+
+    s = n2(65537, 0);
+    check(open_sheet(&s) == 12 && s.r[0] == 9 && s.counts[3] == 9, "12, and nothing changed");
+    s = n2(4, 0);
+    s.lowers[1] = 3;
+    check(open_sheet(&s) == 13 && s.b[0] == 9, "13, and nothing changed");
+}
+
+static void edits(void) {
+    Sheet s = n2(4, -3072);
+    check(open_sheet(&s) == 0, "opening");
+    check(edit(&s, 7, 0, 0, -4096) == 0 && s.mults[0] == -4096, "a multiplier");
+    check(s.d[0] == 1024 && s.d[1] == 3072 && s.b[0] == -16384 && s.d[2] == 9, "its D and B");
+    check(is(judge(&s), 0, 2, 4096), "N5: gap 4096, by an edit");
+    check(edit(&s, 7, 0, 0, -2048) == 0 && is(judge(&s), 0, 1, 0), "N5: no floor, by an edit");
+    check(edit(&s, 7, 0, 0, -3072) == 0 && is(judge(&s), 0, 2, 0), "and back");
+    check(edit(&s, 1, 0, 0, 3) == 0 && s.r[0] == 3 && s.c[0] == -9, "an amount, its R and C");
+    check(is(judge(&s), 0, 2, 3072), "N5: gap 3072, by an edit");
+    check(edit(&s, 1, 0, 0, 5) == 0 && is(judge(&s), 0, 0, 0), "N5: not a plan, by an edit");
+    check(edit(&s, 5, 0, 0, 5) == 0 && s.rights[0] == 5 && s.counts[0] == 0, "a right side");
+    check(edit(&s, 9, 0, 1, 77) == 0 && s.uppers[1] == 0 && s.upper_marks[1] == 0, "an upper bound dropped");
+    check(edit(&s, 4, 0, 1, 2) == 0 && s.uppers[1] == 2 && s.upper_marks[1] == 1, "and set again");
+
+    Sheet before;
+    memcpy(&before, &s, sizeof s);
+    check(edit(&s, 0, 9, 9, 0) == 16 && edit(&s, 32, 9, 9, 0) == 16, "16");
+    check(edit(&s, 10, 9, 9, 0) == 15 && edit(&s, 31, 9, 9, 0) == 15, "15");
+    check(edit(&s, 1, 9, 2, 0) == 11 && edit(&s, 5, 1, 0, 0) == 11, "11");
+    check(edit(&s, 2, 0, 0, 1048577) == 12, "12");
+    check(edit(&s, 3, 0, 1, 3) == 13, "13");
+    check(memcmp(&s, &before, sizeof s) == 0, "a refused edit changes nothing");
+    s.c[0] = INT64_MIN;
+    check(edit(&s, 1, 0, 0, 4) == 14 && s.amounts[0] == 5, "14");
+}
+
+int main(void) {
+    triangle();
+    sheet();
+    edits();
+    printf("%d passed, %d failed\n", passed, failed);
+    return failed != 0;
+}

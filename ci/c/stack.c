@@ -1,0 +1,109 @@
+/* How many bytes of stack a call needs: it runs on a stack of our own that was painted before, and the paint that is left is counted.
+ * The numbers that include/tevalumi.h and docs/SCRATCH.md give are held to what is seen. */
+#define _POSIX_C_SOURCE 200809L
+#include <math.h>
+#include <pthread.h>
+#include <stdio.h>
+#include <stdlib.h>
+#include <string.h>
+
+#include "tevalumi.h"
+
+#define LEN(a) (sizeof(a) / sizeof((a)[0]))
+#define ARRAY(a) (a), LEN(a)
+
+enum { STACK = 1 << 20, PAINT = 0x5a, COLUMNS = 128, ROWS = 64, ENTRIES = 2048, ETA_COLUMNS = 256, ETA_ENTRIES = 4096 };
+
+static int passed;
+static int failed;
+
+static void *idle(void *nothing) { return nothing; }
+
+/* N2: an exchange and a flip, then the final check. */
+static void *solve(void *answer) {
+    static const double costs[] = {-3, -1}, lowers[] = {0, 0}, coeffs[] = {1, 1}, rhs[] = {4};
+    const double uppers[] = {INFINITY, 2};
+    static const size_t starts[] = {0, 2}, cols[] = {0, 1};
+    static const uint8_t ops[] = {0};
+    static double values[COLUMNS + ROWS], basic_var_vals[ROWS], nb_var_vals[COLUMNS], prices[COLUMNS], norms[COLUMNS], eta_coeffs[ETA_ENTRIES], objective[1];
+    static size_t kept[ROWS], basic_vars[ROWS], nb_vars[COLUMNS], var_states[COLUMNS + ROWS], eta_leaving[ETA_COLUMNS], eta_starts[ETA_COLUMNS + 1],
+        eta_rows[ETA_ENTRIES], counts[5];
+    static uint8_t flags[COLUMNS];
+    TevalumiAnswer a = tevalumi_solve(2, 1, 2, 10, 1e-9, ARRAY(costs), ARRAY(lowers), ARRAY(uppers), ARRAY(starts), ARRAY(cols), ARRAY(coeffs), ARRAY(ops),
+        ARRAY(rhs), ARRAY(values), ARRAY(kept), ARRAY(basic_vars), ARRAY(basic_var_vals), ARRAY(nb_vars), ARRAY(nb_var_vals), ARRAY(prices), ARRAY(norms),
+        ARRAY(flags), ARRAY(var_states), ARRAY(eta_leaving), ARRAY(eta_starts), ARRAY(eta_rows), ARRAY(eta_coeffs), ARRAY(counts), ARRAY(objective));
+    *(int *)answer = a.status == 0 && a.steps == 2 && a.objective == -12;
+    return NULL;
+}
+
+/* A chain of 64 places: the walk is as deep as it can be. */
+static void *triangle(void *answer) {
+    static size_t starts[65], rows[63], list[64];
+    static double vals[63], values[64];
+    for (size_t j = 0; j < 63; j++) {
+        starts[j] = j;
+        rows[j] = j + 1;
+        vals[j] = 1;
+    }
+    starts[63] = starts[64] = 63;
+    values[0] = 1;
+    TriAnswer a = tevalumi_lower_sparse(64, 63, ARRAY(starts), ARRAY(rows), ARRAY(vals), 0, NULL, 0, ARRAY(list), 1, ARRAY(values));
+    *(int *)answer = a.status == 0 && a.places == 64;
+    return NULL;
+}
+
+/* A multiplier moves on a sheet of every size. */
+static void *edit(void *answer) {
+    static int64_t coefs[ROWS * COLUMNS], costs[COLUMNS], lowers[COLUMNS], uppers[COLUMNS], rights[ROWS], amounts[COLUMNS], mults[ROWS], r[ROWS], d[COLUMNS],
+        c[1], b[1], counts[4];
+    static uint8_t low[COLUMNS], up[COLUMNS], ops[ROWS];
+    size_t opened = tevalumi_open(ROWS, COLUMNS, ARRAY(coefs), ARRAY(costs), ARRAY(lowers), ARRAY(uppers), ARRAY(low), ARRAY(up), ARRAY(rights), ARRAY(ops),
+        ARRAY(amounts), ARRAY(mults), ARRAY(r), ARRAY(d), ARRAY(c), ARRAY(b), ARRAY(counts));
+    size_t edited = tevalumi_edit(7, 3, 0, -5, ROWS, COLUMNS, ARRAY(coefs), ARRAY(costs), ARRAY(lowers), ARRAY(uppers), ARRAY(low), ARRAY(up), ARRAY(rights),
+        ARRAY(ops), ARRAY(amounts), ARRAY(mults), ARRAY(r), ARRAY(d), ARRAY(c), ARRAY(b), ARRAY(counts));
+    *(int *)answer = opened == 0 && edited == 0 && mults[3] == -5;
+    return NULL;
+}
+
+/* The bytes that a thread touched of its painted stack. */
+static size_t touched(void *(*body)(void *), int *answer) {
+    unsigned char *stack = aligned_alloc(4096, STACK);
+    pthread_attr_t attr;
+    pthread_t thread;
+    if (stack == NULL) {
+        abort();
+    }
+    memset(stack, PAINT, STACK);
+    pthread_attr_init(&attr);
+    if (pthread_attr_setstack(&attr, stack, STACK) != 0 || pthread_create(&thread, &attr, body, answer) != 0) {
+        abort();
+    }
+    pthread_join(thread, NULL);
+    size_t left = 0;
+    while (left < STACK && stack[left] == PAINT) {
+        left++;
+    }
+    free(stack);
+    return STACK - left;
+}
+
+static void measure(const char *name, void *(*body)(void *), size_t limit) {
+    int answer = 0;
+    int nothing = 0;
+    size_t bytes = touched(body, &answer) - touched(idle, &nothing);
+    int holds = answer && bytes <= limit;
+    printf("%s: %zu bytes of stack, at most %zu\n", name, bytes, limit);
+    if (holds) {
+        passed++;
+    } else {
+        failed++;
+    }
+}
+
+int main(void) {
+    measure("tevalumi_solve", solve, 96 << 10);
+    measure("tevalumi_lower_sparse", triangle, 16 << 10);
+    measure("tevalumi_open and tevalumi_edit", edit, 8 << 10);
+    printf("%d passed, %d failed\n", passed, failed);
+    return failed != 0;
+}

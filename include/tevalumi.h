@@ -1,0 +1,248 @@
+/* Tevalumi: plans (linear programs), triangle solves and the audit sheet.
+ *
+ * Each call answers whatever it is lent, keeps no pointer and takes no memory of its own.
+ * An array goes over as a pointer and its number of cells. It may be longer than needed: cells past
+ * the needed length are neither read nor written. Where a length is 0 the pointer isn't used.
+ * An array that a call writes overlaps no other array of that call. A refusal changes no cell. */
+#ifndef TEVALUMI_H
+#define TEVALUMI_H
+
+#include <stddef.h>
+#include <stdint.h>
+
+#ifdef __cplusplus
+extern "C" {
+#endif
+
+/* ---- Plans ----
+ * Minimise the sum of costs * values, each value within its bounds and each row's sum <=, = or >= its
+ * right side.
+ *
+ * status     0 optimal; refused, the lowest number that applies, objective 0.0 and 0 steps:
+ *            1 a size or the budget over its limit, an array too short, bad row starts
+ *            2 NaN; an infinite cost, coefficient or right side; a lower bound of +inf or an upper of
+ *              -inf; a tolerance outside 0 to 1; a comparison above 2
+ *            3 a column number that is too large or doesn't rise     4 lower > upper
+ *            5 an empty row that is false                            6 a start that isn't finite
+ *            7 a slack that starts outside its bounds
+ *            ended with the state after the last whole step, and the values left alone:
+ *            20 unbounded   21 the budget is spent   22 the eta store is full
+ *            23 a number of the step isn't finite    24 the final check rejects
+ * objective  of that state
+ * steps      taken, at most the budget
+ * place      what at and within name: 0 nothing; 1 a row (at) and a place in it (within), with status
+ *            3; 2 a column (4); 3 a row (5); 4 a value, columns before slacks (24); 5 a kept row (24) */
+typedef struct {
+    size_t status;
+    double objective;
+    size_t steps;
+    size_t place;
+    size_t at;
+    size_t within;
+} TevalumiAnswer;
+
+/* columns 0 to 128, rows 0 to 64, entries 0 to 2,048, budget 0 to 10,000, tolerance 0 to 1.
+ * Read:
+ *   costs, lowers, uppers          columns cells; a bound may be -inf or +inf
+ *   starts                         rows + 1: the entries of row i are starts[i] up to starts[i + 1]
+ *   cols, coeffs                   entries; column numbers rise within a row
+ *   ops, rhs                       rows; 0 is <=, 1 is =, 2 is >=
+ * Written on status 0:
+ *   values                         columns + rows: the columns' values, then the kept rows' slacks
+ * Written on status 0 and 20 to 24, the state:
+ *   kept                           rows: the plan's numbers of its kept (not empty) rows
+ *   basic_vars, basic_var_vals     rows; variable columns + k is the slack of kept row k
+ *   nb_vars, nb_var_vals, nb_var_obj_coeffs, primal_edge_sq_norms, nb_var_states
+ *                                  columns; a state is 1 at its lower bound + 2 at its upper bound
+ *   var_states                     columns + rows: a variable's place, columns + row where it is basic
+ *   eta_leaving, eta_starts        256 and 257: a column's leaving row, and where its entries start
+ *   eta_rows, eta_coeffs           4,096
+ *   counts                         5: kept rows, eta columns, eta entries, steps, status
+ *   objective                      1 */
+TevalumiAnswer tevalumi_solve(
+    size_t columns, size_t rows, size_t entries, size_t budget, double tolerance,
+    const double *costs, size_t costs_len,
+    const double *lowers, size_t lowers_len,
+    const double *uppers, size_t uppers_len,
+    const size_t *starts, size_t starts_len,
+    const size_t *cols, size_t cols_len,
+    const double *coeffs, size_t coeffs_len,
+    const uint8_t *ops, size_t ops_len,
+    const double *rhs, size_t rhs_len,
+    double *values, size_t values_len,
+    size_t *kept, size_t kept_len,
+    size_t *basic_vars, size_t basic_vars_len,
+    double *basic_var_vals, size_t basic_var_vals_len,
+    size_t *nb_vars, size_t nb_vars_len,
+    double *nb_var_vals, size_t nb_var_vals_len,
+    double *nb_var_obj_coeffs, size_t nb_var_obj_coeffs_len,
+    double *primal_edge_sq_norms, size_t primal_edge_sq_norms_len,
+    uint8_t *nb_var_states, size_t nb_var_states_len,
+    size_t *var_states, size_t var_states_len,
+    size_t *eta_leaving, size_t eta_leaving_len,
+    size_t *eta_starts, size_t eta_starts_len,
+    size_t *eta_rows, size_t eta_rows_len,
+    double *eta_coeffs, size_t eta_coeffs_len,
+    size_t *counts, size_t counts_len,
+    double *objective, size_t objective_len);
+
+/* ---- Triangles ----
+ * Solves a triangle that is stored by columns.
+ *
+ * status  0 solved; refused, the lowest number that applies:
+ *         1 a bad size or start, an array too short, an off-diagonal row too large or on the wrong
+ *           side, a diagonal of 0
+ *         2 a number that isn't finite     3 a listed place too large or repeated (sparse alone)
+ * places  how many places are listed afterwards; size after a dense solve; 0 where refused */
+typedef struct {
+    size_t status;
+    size_t places;
+} TriAnswer;
+
+/* size 0 to 64, entries 0 to 2,048.
+ * Read:
+ *   starts       size + 1: the entries of column j are starts[j] up to starts[j + 1]
+ *   rows, vals   entries: off-diagonal rows below (lower) or above (upper), in any order
+ *   diag         size, read where with_diag isn't 0; else the diagonal is all ones
+ * Written where solved:
+ *   list         size, sparse alone: before, the first listed cells are places whose values count, all
+ *                others counting as 0.0; afterwards the newly visited ones follow
+ *   values       size */
+TriAnswer tevalumi_lower_sparse(
+    size_t size, size_t entries,
+    const size_t *starts, size_t starts_len,
+    const size_t *rows, size_t rows_len,
+    const double *vals, size_t vals_len,
+    size_t with_diag,
+    const double *diag, size_t diag_len,
+    size_t *list, size_t list_len,
+    size_t listed,
+    double *values, size_t values_len);
+
+TriAnswer tevalumi_upper_sparse(
+    size_t size, size_t entries,
+    const size_t *starts, size_t starts_len,
+    const size_t *rows, size_t rows_len,
+    const double *vals, size_t vals_len,
+    size_t with_diag,
+    const double *diag, size_t diag_len,
+    size_t *list, size_t list_len,
+    size_t listed,
+    double *values, size_t values_len);
+
+TriAnswer tevalumi_lower_dense(
+    size_t size, size_t entries,
+    const size_t *starts, size_t starts_len,
+    const size_t *rows, size_t rows_len,
+    const double *vals, size_t vals_len,
+    size_t with_diag,
+    const double *diag, size_t diag_len,
+    double *values, size_t values_len);
+
+TriAnswer tevalumi_upper_dense(
+    size_t size, size_t entries,
+    const size_t *starts, size_t starts_len,
+    const size_t *rows, size_t rows_len,
+    const double *vals, size_t vals_len,
+    size_t with_diag,
+    const double *diag, size_t diag_len,
+    double *values, size_t values_len);
+
+/* ---- The audit sheet ----
+ * rows 0 to 64, columns 0 to 128, whole numbers, with their limits in size.
+ *   coefs                      rows * columns, row by row; 4,096
+ *   costs                      columns; 2^20
+ *   lowers, uppers             columns; 2^16; 0 where the bound is absent
+ *   lower_marks, upper_marks   columns; 0 absent, 1 present
+ *   rights                     rows; 2^31
+ *   ops                        rows; 0 is <=, 1 is =, 2 is >=
+ *   amounts                    columns; 2^16
+ *   mults                      rows, in 1/1024; 2^20
+ * Kept:
+ *   r        rows: each row's sum of coefficient * amount; 2^35
+ *   d        columns: 1024 * cost less the sum of coefficient * multiplier; 2^39
+ *   c        1: the cost of the amounts; 2^43
+ *   b        1: the floor, in 1/1024; 2^62
+ *   counts   4: rows broken, amounts out of bounds, wrong signs, absent bounds needed */
+
+/* Works the kept numbers out afresh. 0, or refused, the lowest that applies: 11 a size or an array too
+ * short, 12 a number over its limit or an unknown comparison or mark, 13 lower > upper, both present. */
+size_t tevalumi_open(
+    size_t rows, size_t columns,
+    const int64_t *coefs, size_t coefs_len,
+    const int64_t *costs, size_t costs_len,
+    const int64_t *lowers, size_t lowers_len,
+    const int64_t *uppers, size_t uppers_len,
+    const uint8_t *lower_marks, size_t lower_marks_len,
+    const uint8_t *upper_marks, size_t upper_marks_len,
+    const int64_t *rights, size_t rights_len,
+    const uint8_t *ops, size_t ops_len,
+    const int64_t *amounts, size_t amounts_len,
+    const int64_t *mults, size_t mults_len,
+    int64_t *r, size_t r_len,
+    int64_t *d, size_t d_len,
+    int64_t *c, size_t c_len,
+    int64_t *b, size_t b_len,
+    int64_t *counts, size_t counts_len);
+
+/* status  0, or 11 as at opening, or 14 a kept number over its size
+ * kind    0 not a plan: a row is broken or an amount out of bounds; 1 no floor: a sign is wrong or an
+ *         absent bound needed; 2 a gap
+ * value   the gap 1024 * c - b: where the kept numbers are true, no plan is cheaper than these amounts by
+ *         more than value / 1024 */
+typedef struct {
+    size_t status;
+    size_t kind;
+    int64_t value;
+} SheetVerdict;
+
+SheetVerdict tevalumi_verdict(
+    size_t rows, size_t columns,
+    const int64_t *coefs, size_t coefs_len,
+    const int64_t *costs, size_t costs_len,
+    const int64_t *lowers, size_t lowers_len,
+    const int64_t *uppers, size_t uppers_len,
+    const uint8_t *lower_marks, size_t lower_marks_len,
+    const uint8_t *upper_marks, size_t upper_marks_len,
+    const int64_t *rights, size_t rights_len,
+    const uint8_t *ops, size_t ops_len,
+    const int64_t *amounts, size_t amounts_len,
+    const int64_t *mults, size_t mults_len,
+    const int64_t *r, size_t r_len,
+    const int64_t *d, size_t d_len,
+    const int64_t *c, size_t c_len,
+    const int64_t *b, size_t b_len,
+    const int64_t *counts, size_t counts_len);
+
+/* Edits one number of an opened sheet, and moves the kept numbers with it. Kinds, with what they use:
+ *   1 amount of column   2 cost of column   3 lower of column   4 upper of column   5 right side of row
+ *   6 coefficient at row and column   7 multiplier of row
+ *   8 drop the lower of column   9 drop the upper of column (whatever the number)
+ * 0, or refused, the first in this order: 16 kind 0 or above 31, 15 kinds 10 to 31, 11 as at opening or a
+ * bad index, 12 the number over its limit, 13 two present bounds would cross, 14 before or after the edit
+ * a number or mark in any array but coefs, in the edited row's or column's coefficients, or among the kept
+ * numbers breaks its limit (never where the sheet was opened and changed by edits alone). */
+size_t tevalumi_edit(
+    size_t kind, size_t row, size_t column, int64_t number,
+    size_t rows, size_t columns,
+    int64_t *coefs, size_t coefs_len,
+    int64_t *costs, size_t costs_len,
+    int64_t *lowers, size_t lowers_len,
+    int64_t *uppers, size_t uppers_len,
+    uint8_t *lower_marks, size_t lower_marks_len,
+    uint8_t *upper_marks, size_t upper_marks_len,
+    int64_t *rights, size_t rights_len,
+    const uint8_t *ops, size_t ops_len,
+    int64_t *amounts, size_t amounts_len,
+    int64_t *mults, size_t mults_len,
+    int64_t *r, size_t r_len,
+    int64_t *d, size_t d_len,
+    int64_t *c, size_t c_len,
+    int64_t *b, size_t b_len,
+    int64_t *counts, size_t counts_len);
+
+#ifdef __cplusplus
+}
+#endif
+
+#endif
