@@ -1,0 +1,330 @@
+// Reads plans from standard input, solves each, and writes docs/EXCHANGE.md's answer line with the state, without its name. The oracle's
+// answers are the file `stdout` beside this folder.
+// The input is words (crate words): how many plans; then for each its columns, rows, entries, budget and tolerance, and the eight arrays of
+// the plan in their order, each with its length. What the solve writes is lent longer than needed.
+use rules::Answer;
+
+// Room past the limits: a plan may say that it is too large.
+const COLUMNS: usize = doubles::MAX_COLUMNS + 16;
+
+const ROWS: usize = doubles::MAX_ROWS + 16;
+
+const ENTRIES: usize = doubles::MAX_ENTRIES + 16;
+
+const VALUES: usize = doubles::VARS + 32;
+
+const STORE: usize = doubles::ETA_COLUMNS + 16;
+
+const STORE_ENTRIES: usize = doubles::ETA_ENTRIES + 16;
+
+// What a line shows after the answer.
+enum Shown {
+    Nothing,
+    State,
+    ValuesToo,
+}
+
+fn refused(number_and_place: &[u8]) -> Shown {
+    words::text(number_and_place);
+    words::text(b" 0000000000000000 0");
+    Shown::Nothing
+}
+
+// A refusal that names a place.
+fn refused_at(number_and_place: &[u8], at: usize) -> Shown {
+    words::text(number_and_place);
+    words::decimal(at as u64);
+    words::text(b" 0000000000000000 0");
+    Shown::Nothing
+}
+
+fn refused_entry(row: usize, place: usize) -> Shown {
+    words::text(b"3 e:");
+    words::decimal(row as u64);
+    words::text(b":");
+    words::decimal(place as u64);
+    words::text(b" 0000000000000000 0");
+    Shown::Nothing
+}
+
+fn ended(number_and_place: &[u8], objective: f64, steps: usize) -> Shown {
+    words::text(number_and_place);
+    words::double(objective);
+    words::place(steps);
+    Shown::State
+}
+
+// The final check's rejection.
+fn rejected(number_and_place: &[u8], at: usize, objective: f64, steps: usize) -> Shown {
+    words::text(number_and_place);
+    words::decimal(at as u64);
+    words::double(objective);
+    words::place(steps);
+    Shown::State
+}
+
+fn optimal(objective: f64, steps: usize) -> Shown {
+    words::text(b"0 -");
+    words::double(objective);
+    words::place(steps);
+    Shown::ValuesToo
+}
+
+fn show_answer(answer: Answer) -> Shown {
+    match answer {
+        Answer::Optimal { objective, steps } => optimal(objective, steps),
+        Answer::BadSize => refused(b"1 -"),
+        Answer::BadNumber => refused(b"2 -"),
+        Answer::BadEntry { row, place } => refused_entry(row, place),
+        Answer::BadBounds { column } => refused_at(b"4 c:", column),
+        Answer::FalseRow { row } => refused_at(b"5 r:", row),
+        Answer::StartNotFinite => refused(b"6 -"),
+        Answer::SlackOutside => refused(b"7 -"),
+        Answer::Unbounded { objective, steps } => ended(b"20 -", objective, steps),
+        Answer::Spent { objective, steps } => ended(b"21 -", objective, steps),
+        Answer::StoreFull { objective, steps } => ended(b"22 -", objective, steps),
+        Answer::NotFinite { objective, steps } => ended(b"23 -", objective, steps),
+        Answer::ValueRejected {
+            objective,
+            steps,
+            value,
+        } => rejected(b"24 v:", value, objective, steps),
+        Answer::RowRejected {
+            objective,
+            steps,
+            row,
+        } => rejected(b"24 k:", row, objective, steps),
+    }
+}
+
+fn show_values(columns: usize, kept_rows: usize, values: &[f64; VALUES]) {
+    let n = words::least(columns, doubles::MAX_COLUMNS)
+        + words::least(kept_rows, doubles::MAX_ROWS);
+    words::place(n);
+    words::doubles(values, n);
+}
+
+// One start more than there are eta columns.
+fn starts_shown(etas: usize) -> usize {
+    words::least(etas, doubles::ETA_COLUMNS) + 1
+}
+
+fn show_state(
+    columns: usize,
+    kept: &[usize; ROWS],
+    basic_vars: &[usize; ROWS],
+    basic_var_vals: &[f64; ROWS],
+    nb_vars: &[usize; COLUMNS],
+    nb_var_vals: &[f64; COLUMNS],
+    nb_var_obj_coeffs: &[f64; COLUMNS],
+    primal_edge_sq_norms: &[f64; COLUMNS],
+    nb_var_states: &[u8; COLUMNS],
+    eta_leaving: &[usize; STORE],
+    eta_starts: &[usize; STORE],
+    eta_rows: &[usize; STORE_ENTRIES],
+    eta_coeffs: &[f64; STORE_ENTRIES],
+    counts: &[usize; doubles::COUNT_CELLS],
+) {
+    let m = counts[0];
+    let etas = counts[1];
+    let entries = counts[2];
+    words::text(b" | kept");
+    words::places(kept, m);
+    words::text(b" basic");
+    words::places(basic_vars, m);
+    words::text(b" nonbasic");
+    words::places(nb_vars, columns);
+    words::text(b" bval");
+    words::doubles(basic_var_vals, m);
+    words::text(b" nval");
+    words::doubles(nb_var_vals, columns);
+    words::text(b" price");
+    words::doubles(nb_var_obj_coeffs, columns);
+    words::text(b" norm");
+    words::doubles(primal_edge_sq_norms, columns);
+    words::text(b" flags");
+    words::bytes(nb_var_states, columns);
+    words::text(b" etarow");
+    words::places(eta_leaving, etas);
+    words::text(b" etaptr");
+    words::places(eta_starts, starts_shown(etas));
+    words::text(b" etaidx");
+    words::places(eta_rows, entries);
+    words::text(b" etaval");
+    words::doubles(eta_coeffs, entries);
+}
+
+fn show(
+    answer: Answer,
+    columns: usize,
+    values: &[f64; VALUES],
+    kept: &[usize; ROWS],
+    basic_vars: &[usize; ROWS],
+    basic_var_vals: &[f64; ROWS],
+    nb_vars: &[usize; COLUMNS],
+    nb_var_vals: &[f64; COLUMNS],
+    nb_var_obj_coeffs: &[f64; COLUMNS],
+    primal_edge_sq_norms: &[f64; COLUMNS],
+    nb_var_states: &[u8; COLUMNS],
+    eta_leaving: &[usize; STORE],
+    eta_starts: &[usize; STORE],
+    eta_rows: &[usize; STORE_ENTRIES],
+    eta_coeffs: &[f64; STORE_ENTRIES],
+    counts: &[usize; doubles::COUNT_CELLS],
+) {
+    let shown = show_answer(answer);
+    match shown {
+        Shown::Nothing => {
+            words::text(b" 0");
+            return;
+        }
+        Shown::State => words::text(b" 0"),
+        Shown::ValuesToo => show_values(columns, counts[0], values),
+    }
+    show_state(
+        columns,
+        kept,
+        basic_vars,
+        basic_var_vals,
+        nb_vars,
+        nb_var_vals,
+        nb_var_obj_coeffs,
+        primal_edge_sq_norms,
+        nb_var_states,
+        eta_leaving,
+        eta_starts,
+        eta_rows,
+        eta_coeffs,
+        counts,
+    );
+}
+
+fn solved(
+    columns: usize,
+    rows: usize,
+    entries: usize,
+    budget: usize,
+    tolerance: f64,
+    costs: &[f64],
+    lowers: &[f64],
+    uppers: &[f64],
+    starts: &[usize],
+    cols: &[usize],
+    coeffs: &[f64],
+    ops: &[u8],
+    rhs: &[f64],
+) {
+    let mut values = [0.0; VALUES];
+    let mut kept = [0usize; ROWS];
+    let mut basic_vars = [0usize; ROWS];
+    let mut basic_var_vals = [0.0; ROWS];
+    let mut nb_vars = [0usize; COLUMNS];
+    let mut nb_var_vals = [0.0; COLUMNS];
+    let mut nb_var_obj_coeffs = [0.0; COLUMNS];
+    let mut primal_edge_sq_norms = [0.0; COLUMNS];
+    let mut nb_var_states = [0u8; COLUMNS];
+    let mut var_states = [0usize; VALUES];
+    let mut eta_leaving = [0usize; STORE];
+    let mut eta_starts = [0usize; STORE];
+    let mut eta_rows = [0usize; STORE_ENTRIES];
+    let mut eta_coeffs = [0.0; STORE_ENTRIES];
+    let mut counts = [0usize; doubles::COUNT_CELLS];
+    let mut objective = [0.0; 1];
+    let answer = solve::solve(
+        columns,
+        rows,
+        entries,
+        budget,
+        tolerance,
+        costs,
+        lowers,
+        uppers,
+        starts,
+        cols,
+        coeffs,
+        ops,
+        rhs,
+        &mut values,
+        &mut kept,
+        &mut basic_vars,
+        &mut basic_var_vals,
+        &mut nb_vars,
+        &mut nb_var_vals,
+        &mut nb_var_obj_coeffs,
+        &mut primal_edge_sq_norms,
+        &mut nb_var_states,
+        &mut var_states,
+        &mut eta_leaving,
+        &mut eta_starts,
+        &mut eta_rows,
+        &mut eta_coeffs,
+        &mut counts,
+        &mut objective,
+    );
+    show(
+        answer,
+        columns,
+        &values,
+        &kept,
+        &basic_vars,
+        &basic_var_vals,
+        &nb_vars,
+        &nb_var_vals,
+        &nb_var_obj_coeffs,
+        &primal_edge_sq_norms,
+        &nb_var_states,
+        &eta_leaving,
+        &eta_starts,
+        &eta_rows,
+        &eta_coeffs,
+        &counts,
+    );
+    words::end_line();
+}
+
+fn plan() {
+    let mut costs = [0.0; COLUMNS];
+    let mut lowers = [0.0; COLUMNS];
+    let mut uppers = [0.0; COLUMNS];
+    let mut starts = [0usize; ROWS];
+    let mut cols = [0usize; ENTRIES];
+    let mut coeffs = [0.0; ENTRIES];
+    let mut ops = [0u8; ROWS];
+    let mut rhs = [0.0; ROWS];
+    let columns = words::next_place();
+    let rows = words::next_place();
+    let entries = words::next_place();
+    let budget = words::next_place();
+    let tolerance = words::next_double();
+    let n_costs = words::read_doubles(&mut costs);
+    let n_lowers = words::read_doubles(&mut lowers);
+    let n_uppers = words::read_doubles(&mut uppers);
+    let n_starts = words::read_places(&mut starts);
+    let n_cols = words::read_places(&mut cols);
+    let n_coeffs = words::read_doubles(&mut coeffs);
+    let n_ops = words::read_bytes(&mut ops);
+    let n_rhs = words::read_doubles(&mut rhs);
+    solved(
+        columns,
+        rows,
+        entries,
+        budget,
+        tolerance,
+        &costs[..n_costs],
+        &lowers[..n_lowers],
+        &uppers[..n_uppers],
+        &starts[..n_starts],
+        &cols[..n_cols],
+        &coeffs[..n_coeffs],
+        &ops[..n_ops],
+        &rhs[..n_rhs],
+    );
+}
+
+fn main() {
+    let mut left = words::next();
+    while 0 < left {
+        plan();
+        left -= 1;
+    }
+}

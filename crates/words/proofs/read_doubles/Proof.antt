@@ -1,0 +1,26 @@
+-- `words::read_doubles` meets its contract. Assumes nothing.
+use native.Mathlib.Omega.{arith}
+use borrow.Author.Needs.{needs}
+use Rattle.words.proofs.Counting.{counts}
+use Rattle.words.proofs.read_doubles.Statement.{statement}
+use Rattle.words.proofs.read_doubles.Tie as tie
+
+next-place-requires : tie.Need-next-place-requires
+next-place-requires c κs = search needs
+
+least-requires : tie.Need-least-requires
+least-requires c κs = search needs
+
+fill-doubles-requires : tie.Need-fill-doubles-requires
+fill-doubles-requires c κs = search needs
+
+same-length : tie.Need-same-length
+same-length c = search needs
+
+returns : tie.Need-returns
+returns c = counts _ _ (omega arith)
+
+pub read-doubles-spec : {M : Type 1} → statement M
+read-doubles-spec =
+    tie.close
+    (tie.spec next-place-requires least-requires fill-doubles-requires same-length returns)
