@@ -366,35 +366,60 @@ pub fn disturb(sheet: &mut Sheet, step: &Step) {
     }
 }
 
+/// The three calls: the reference's, or those of a library that is compared with it.
+pub trait Calls {
+    fn open(&mut self, sheet: &mut Sheet) -> u8;
+    fn edit(&mut self, sheet: &mut Sheet, edit: Edit) -> u8;
+    fn verdict(&mut self, sheet: &Sheet) -> Verdict;
+}
+
+pub struct Reference;
+
+impl Calls for Reference {
+    fn open(&mut self, sheet: &mut Sheet) -> u8 {
+        reference::open(sheet)
+    }
+
+    fn edit(&mut self, sheet: &mut Sheet, edit: Edit) -> u8 {
+        reference::edit(sheet, edit)
+    }
+
+    fn verdict(&mut self, sheet: &Sheet) -> Verdict {
+        reference::verdict(sheet)
+    }
+}
+
 /// Plays a block on the reference and shows every moment of it.
 pub fn play(block: &Block, see: &mut dyn FnMut(Moment)) {
+    play_on(&mut Reference, block, &mut |_, moment| see(moment));
+}
+
+fn play_on<C: Calls>(calls: &mut C, block: &Block, see: &mut dyn FnMut(&mut C, Moment)) {
     let mut sheet = block.sheet.clone();
-    let status = reference::open(&mut sheet);
-    see(Moment::Opened(status, &sheet));
+    let status = calls.open(&mut sheet);
+    see(calls, Moment::Opened(status, &sheet));
     if status != 0 {
         return;
     }
     for step in &block.steps {
         match step {
-            Step::Edit(edit) => match reference::tried(&sheet, *edit) {
-                Ok(after) => {
-                    see(Moment::Edited(&sheet, *edit, 0, &after));
-                    sheet = after;
-                }
-                Err(status) => see(Moment::Edited(&sheet, *edit, status, &sheet)),
-            },
+            Step::Edit(edit) => {
+                let before = sheet.clone();
+                let status = calls.edit(&mut sheet, *edit);
+                see(calls, Moment::Edited(&before, *edit, status, &sheet));
+            }
             other => disturb(&mut sheet, other),
         }
     }
-    see(Moment::Ended(&sheet));
+    see(calls, Moment::Ended(&sheet));
 }
 
-fn print_kept(sheet: &Sheet, out: &mut String) {
+fn print_kept(sheet: &Sheet, verdict: Verdict, out: &mut String) {
     for array in KEPT_ARRAYS {
         write!(out, " {}", array.name()).unwrap();
         print_cells(sheet, array, out);
     }
-    match reference::verdict(sheet) {
+    match verdict {
         Verdict::Refused(status) => write!(out, " verdict {status}"),
         Verdict::NoPlan => write!(out, " verdict no-plan"),
         Verdict::NoFloor => write!(out, " verdict no-floor"),
@@ -412,32 +437,26 @@ fn print_plan(sheet: &Sheet, out: &mut String) {
 
 /// The answer lines of a block. With `cells`, every line but the last also carries all plan cells
 /// as they then stand, after a bar, so that no change between two edits can hide.
-pub fn answer(block: &Block, cells: bool, out: &mut String) {
-    play(block, &mut |moment| match moment {
-        Moment::Opened(status, sheet) => {
-            write!(out, "{} open {status}", block.id).unwrap();
-            if status == 0 {
-                print_kept(sheet, out);
-                if cells {
-                    out.push_str(" |");
-                    print_plan(sheet, out);
-                }
+pub fn answer<C: Calls>(calls: &mut C, block: &Block, cells: bool, out: &mut String) {
+    play_on(calls, block, &mut |calls, moment| {
+        let (what, status, sheet) = match moment {
+            Moment::Opened(status, sheet) => ("open", status, sheet),
+            Moment::Edited(_, _, status, sheet) => ("edit", status, sheet),
+            Moment::Ended(sheet) => {
+                write!(out, "{} end", block.id).unwrap();
+                print_plan(sheet, out);
+                out.push('\n');
+                return;
             }
-            out.push('\n');
-        }
-        Moment::Edited(_, _, status, sheet) => {
-            write!(out, "{} edit {status}", block.id).unwrap();
-            print_kept(sheet, out);
+        };
+        write!(out, "{} {what} {status}", block.id).unwrap();
+        if what == "edit" || status == 0 {
+            print_kept(sheet, calls.verdict(sheet), out);
             if cells {
                 out.push_str(" |");
                 print_plan(sheet, out);
             }
-            out.push('\n');
         }
-        Moment::Ended(sheet) => {
-            write!(out, "{} end", block.id).unwrap();
-            print_plan(sheet, out);
-            out.push('\n');
-        }
+        out.push('\n');
     });
 }

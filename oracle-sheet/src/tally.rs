@@ -530,7 +530,7 @@ impl Tally {
     }
 }
 
-fn needed(sheet: &Sheet, array: Array) -> usize {
+pub fn needed(sheet: &Sheet, array: Array) -> usize {
     let (m, n) = (sheet.rows as usize, sheet.columns as usize);
     match array {
         Array::Coef => m * n,

@@ -2,7 +2,7 @@
 //! enough to be worth replaying.
 
 use oracle_sheet::generate::{night_sheet, NIGHT};
-use oracle_sheet::{answer, parse, play, Moment};
+use oracle_sheet::{answer, parse, play, Moment, Reference};
 use std::collections::BTreeSet;
 
 const SHEETS: &str = include_str!("../fixed-sheets.txt");
@@ -12,7 +12,7 @@ const ANSWERS: &str = include_str!("../fixed-sheets.answers");
 fn the_reference_gives_the_listed_answers() {
     let mut out = String::new();
     for block in parse(SHEETS).unwrap() {
-        answer(&block, false, &mut out);
+        answer(&mut Reference, &block, false, &mut out);
     }
     for (number, (ours, listed)) in out.lines().zip(ANSWERS.lines()).enumerate() {
         assert_eq!(ours, listed, "line {}", number + 1);

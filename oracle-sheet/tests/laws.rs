@@ -3,7 +3,9 @@
 use oracle_sheet::generate::{blocks, night_sheet, WHOLE};
 use oracle_sheet::reference::{self as rf, Edit, Kept, Sheet, Verdict, EQ, GE, LE};
 use oracle_sheet::tally::{changed, report, short_targets, targets, touches, Tally};
-use oracle_sheet::{answer, parse, play, print, Array, Block, Moment, Step, PLAN_ARRAYS};
+use oracle_sheet::{
+    answer, parse, play, print, Array, Block, Moment, Reference, Step, PLAN_ARRAYS,
+};
 
 fn at(kind: u64, row: u64, column: u64, number: i64) -> Edit {
     Edit {
@@ -615,7 +617,7 @@ fn answer_lines_have_the_exchange_form() {
         c open 11\n";
     let mut out = String::new();
     for block in parse(text).unwrap() {
-        answer(&block, false, &mut out);
+        answer(&mut Reference, &block, false, &mut out);
     }
     assert_eq!(out, expected);
 }

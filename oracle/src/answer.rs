@@ -78,6 +78,9 @@ pub enum Rejected {
     Row(usize),
 }
 
+/// No number of 01's: where the shown text would have panicked.
+pub const PANICKED: usize = 99;
+
 /// Every answer of a call, 0 to 7 and 20 to 24.
 #[derive(Clone, Copy, Debug, PartialEq, Eq, Hash)]
 pub enum Outcome {
@@ -126,7 +129,7 @@ impl Outcome {
             Outcome::NoRoom(_) => 22,
             Outcome::NotFinite { .. } => 23,
             Outcome::Rejected(_) => 24,
-            Outcome::Panicked => 99,
+            Outcome::Panicked => PANICKED as u8,
         }
     }
 

@@ -7,7 +7,7 @@ use std::fmt::{self, Write as _};
 use std::io::{self, BufRead};
 
 use crate::{
-    answer::{Answer, Outcome, Rejected},
+    answer::{Answer, Outcome, Rejected, State, PANICKED},
     plan::{Lent, Plan},
     tri::{Tri, TriAnswer},
 };
@@ -254,48 +254,108 @@ pub struct Extras {
     pub why: bool,
 }
 
-/// `ID STATUS PLACE OBJECTIVE STEPS COUNT hex*`, then ` why NAME` and ` | ` with the state where
-/// they are wanted.
-pub fn answer_line(id: &str, answer: &Answer, extras: Extras) -> String {
-    let mut line = format!("{} ", id);
-    match answer.outcome {
-        Outcome::Panicked => line.push_str("panic"),
-        outcome => push(&mut line, outcome.number()),
-    }
-    match answer.outcome {
-        Outcome::BadEntry { row, place } => push(&mut line, format_args!(" e:{}:{}", row, place)),
-        Outcome::CrossedBounds { column } => push(&mut line, format_args!(" c:{}", column)),
-        Outcome::FalseEmptyRow { row } => push(&mut line, format_args!(" r:{}", row)),
-        Outcome::Rejected(Rejected::Value(var)) => push(&mut line, format_args!(" v:{}", var)),
-        Outcome::Rejected(Rejected::Row(row)) => push(&mut line, format_args!(" k:{}", row)),
-        _ => line.push_str(" -"),
-    }
-    push_doubles(&mut line, &[answer.objective]);
-    push(
-        &mut line,
-        format_args!(" {} {}", answer.steps, answer.values.len()),
-    );
-    push_doubles(&mut line, &answer.values);
+/// What stands in a plan's answer line.
+#[derive(Clone, Debug)]
+pub struct Line<'a> {
+    pub status: usize,
+    pub place: Place,
+    pub objective: f64,
+    pub steps: usize,
+    pub values: &'a [f64],
+    pub why: Option<&'a str>,
+    pub state: Option<&'a State>,
+}
 
-    if let (true, Some(why)) = (extras.why, answer.outcome.why()) {
-        push(&mut line, format_args!(" why {}", why));
+/// The place that an answer names.
+#[derive(Clone, Copy, Debug, PartialEq, Eq)]
+pub enum Place {
+    Nowhere,
+    Entry { row: usize, place: usize },
+    Column(usize),
+    Row(usize),
+    Value(usize),
+    Kept(usize),
+}
+
+impl fmt::Display for Place {
+    fn fmt(&self, f: &mut fmt::Formatter<'_>) -> fmt::Result {
+        match self {
+            Place::Nowhere => f.write_str("-"),
+            Place::Entry { row, place } => write!(f, "e:{}:{}", row, place),
+            Place::Column(column) => write!(f, "c:{}", column),
+            Place::Row(row) => write!(f, "r:{}", row),
+            Place::Value(var) => write!(f, "v:{}", var),
+            Place::Kept(row) => write!(f, "k:{}", row),
+        }
     }
-    if let (true, Some(state)) = (extras.state, &answer.state) {
-        line.push_str(" |");
-        push_list(&mut line, "kept", &state.kept);
-        push_list(&mut line, "basic", &state.basic);
-        push_list(&mut line, "nonbasic", &state.nonbasic);
-        push_double_list(&mut line, "bval", &state.bval);
-        push_double_list(&mut line, "nval", &state.nval);
-        push_double_list(&mut line, "price", &state.price);
-        push_double_list(&mut line, "norm", &state.norm);
-        push_list(&mut line, "flags", &state.flags);
-        push_list(&mut line, "etarow", &state.etarow);
-        push_list(&mut line, "etaptr", &state.etaptr);
-        push_list(&mut line, "etaidx", &state.etaidx);
-        push_double_list(&mut line, "etaval", &state.etaval);
+}
+
+impl From<Outcome> for Place {
+    fn from(outcome: Outcome) -> Place {
+        match outcome {
+            Outcome::BadEntry { row, place } => Place::Entry { row, place },
+            Outcome::CrossedBounds { column } => Place::Column(column),
+            Outcome::FalseEmptyRow { row } => Place::Row(row),
+            Outcome::Rejected(Rejected::Value(var)) => Place::Value(var),
+            Outcome::Rejected(Rejected::Row(row)) => Place::Kept(row),
+            _ => Place::Nowhere,
+        }
     }
-    line
+}
+
+/// The oracle's answer as a line.
+pub fn answer_line(id: &str, answer: &Answer, extras: Extras) -> String {
+    let line = Line {
+        status: answer.outcome.number() as usize,
+        place: answer.outcome.into(),
+        objective: answer.objective,
+        steps: answer.steps as usize,
+        values: &answer.values,
+        why: answer.outcome.why().filter(|_| extras.why),
+        state: answer.state.as_ref().filter(|_| extras.state),
+    };
+    line.text(id)
+}
+
+impl Line<'_> {
+    /// `ID STATUS PLACE OBJECTIVE STEPS COUNT hex*`, then ` why NAME` and ` | ` with the state where
+    /// they are there.
+    pub fn text(&self, id: &str) -> String {
+        let mut line = match self.status {
+            PANICKED => format!("{} panic {}", id, self.place),
+            status => format!("{} {} {}", id, status, self.place),
+        };
+        push_doubles(&mut line, &[self.objective]);
+        push(
+            &mut line,
+            format_args!(" {} {}", self.steps, self.values.len()),
+        );
+        push_doubles(&mut line, self.values);
+
+        if let Some(why) = self.why {
+            push(&mut line, format_args!(" why {}", why));
+        }
+        if let Some(state) = self.state {
+            push_state(&mut line, state);
+        }
+        line
+    }
+}
+
+fn push_state(line: &mut String, state: &State) {
+    line.push_str(" |");
+    push_list(line, "kept", &state.kept);
+    push_list(line, "basic", &state.basic);
+    push_list(line, "nonbasic", &state.nonbasic);
+    push_double_list(line, "bval", &state.bval);
+    push_double_list(line, "nval", &state.nval);
+    push_double_list(line, "price", &state.price);
+    push_double_list(line, "norm", &state.norm);
+    push_list(line, "flags", &state.flags);
+    push_list(line, "etarow", &state.etarow);
+    push_list(line, "etaptr", &state.etaptr);
+    push_list(line, "etaidx", &state.etaidx);
+    push_double_list(line, "etaval", &state.etaval);
 }
 
 /// `ID STATUS` and, where STATUS is 0, `list dec* sparse hex* dense hex*`.

@@ -13,6 +13,8 @@ use crate::{
     ComparisonOp,
 };
 
+pub mod etas;
+
 // ours: "EPS is the double nearest 1e-8".
 const EPS: f64 = 1e-8;
 
@@ -372,10 +374,10 @@ impl Solver {
             if let Some(pivot_info) = self.choose_pivot()? {
                 // ours: "20 to 24 leave the values array alone; the workspace then holds the state
                 // after the last whole step", so a step with a number that isn't finite is undone.
-                let before = self.clone();
+                let before = (!self.options.no_copies).then(|| self.clone());
                 self.pivot(&pivot_info)?;
                 if let Some(named) = self.not_finite {
-                    *self = before;
+                    *self = before.expect("a plan that answers 23 is run with copies");
                     return Err(Outcome::NotFinite {
                         named,
                         flip: pivot_info.elem.is_none(),

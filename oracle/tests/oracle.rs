@@ -7,6 +7,7 @@ use oracle::exchange::{answer_line, tri_answer_line, Extras, Item, Reader};
 use oracle::families;
 use oracle::fresh;
 use oracle::gate;
+use oracle::night;
 use oracle::plan::Plan;
 use oracle::shown::{Correction, Options};
 use oracle::tri::{self, Tri};
@@ -54,36 +55,15 @@ fn assert_answers(text: &str, answers: &str) {
 
 #[test]
 fn night_cases_in_the_words_of_01() {
-    // Name, answer, objective, steps, values, leaving rows.
-    type Case = (&'static str, u8, f64, u64, &'static [f64], &'static [usize]);
-    let cases: [Case; 14] = [
-        ("N1", 0, -4.0, 1, &[4.0, 0.0], &[0]),
-        ("N1-budget-0", 21, 0.0, 0, &[], &[]),
-        // An exchange, then a flip: one leaving row, two steps.
-        ("N2", 0, -12.0, 2, &[4.0, 0.0, 0.0], &[0]),
-        ("N2-budget-1", 21, -8.0, 1, &[], &[0]),
-        ("N3", 20, 0.0, 0, &[], &[]),
-        ("N4-at-least-1", 7, 0.0, 0, &[], &[]),
-        ("N4-at-least-0", 0, 0.0, 0, &[0.0, 0.0], &[]),
-        ("bounds-3-to-2", 4, 0.0, 0, &[], &[]),
-        ("bounds-3-to-3", 0, 3.0, 0, &[3.0], &[]),
-        ("empty-eq-minus-zero", 0, 0.0, 0, &[0.0], &[]),
-        ("empty-ge-minus-1", 0, 0.0, 0, &[0.0], &[]),
-        ("empty-le-minus-1", 5, 0.0, 0, &[], &[]),
-        ("N1-two-rows-1-leaves", 0, -4.0, 1, &[4.0, 0.0, 0.0], &[1]),
-        ("N1-same-row-0-leaves", 0, -4.0, 1, &[4.0, 0.0, 0.0], &[0]),
-    ];
-    let plans = plans(include_str!("../night.txt"));
-    assert_eq!(plans.len(), cases.len());
-    for (plan, (name, number, objective, steps, values, leaving)) in plans.iter().zip(cases) {
-        let answer = gate::solve(plan, Options::default());
-        assert_eq!(plan.id, name);
-        assert_eq!(answer.outcome.number(), number, "{}", name);
-        assert_eq!(answer.objective, objective, "{}", name);
-        assert_eq!(answer.steps, steps, "{}", name);
-        assert_eq!(answer.values, values, "{}", name);
+    for (plan, case) in night::cases() {
+        let answer = gate::solve(&plan, Options::default());
+        let name = case.name;
+        assert_eq!(answer.outcome.number(), case.number, "{}", name);
+        assert_eq!(answer.objective, case.objective, "{}", name);
+        assert_eq!(answer.steps, case.steps, "{}", name);
+        assert_eq!(answer.values, case.values, "{}", name);
         let rows = answer.state.map_or(vec![], |state| state.etarow);
-        assert_eq!(rows, leaving, "{}", name);
+        assert_eq!(rows, case.leaving, "{}", name);
     }
 }
 

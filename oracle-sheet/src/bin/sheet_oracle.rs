@@ -1,6 +1,7 @@
 //! Reads sheet blocks on standard input and writes the reference's answer lines on standard
 //! output. With `--cells` each line also carries the plan cells.
 
+use oracle_sheet::Reference;
 use std::io::{Read, Write};
 use std::process::ExitCode;
 
@@ -31,7 +32,7 @@ fn main() -> ExitCode {
     let mut out = String::new();
     for block in &blocks {
         out.clear();
-        oracle_sheet::answer(block, cells, &mut out);
+        oracle_sheet::answer(&mut Reference, block, cells, &mut out);
         if stdout.write_all(out.as_bytes()).is_err() {
             return ExitCode::from(2);
         }

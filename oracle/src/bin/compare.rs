@@ -1,21 +1,25 @@
 //! Feeds the same text to two programs and compares their answer lines.
 //!
 //! compare COMMAND COMMAND FILE..
-//!     Prints the first differing pairs of lines and ends with `N passed, M failed`.
+//!     Prints the first differing pairs of lines and how often the first program gave each answer,
+//!     and ends with `N passed, M failed`. The files are gone through at the same time.
 //! compare --shown ORACLE FILE..
 //!     Prints how many answers each `--shown` switch of the oracle changes.
 //!
 //! A command is a program and its arguments, parted by spaces: "build/oracle --state".
 
+use std::collections::BTreeMap;
 use std::fs::File;
 use std::hash::{DefaultHasher, Hash, Hasher};
 use std::io::{BufRead, BufReader, Lines};
 use std::process::{Child, ChildStdout, Command, ExitCode, Stdio};
+use std::sync::Mutex;
+use std::thread;
 
 use oracle::shown::Correction;
 
 /// How many differing pairs are printed.
-const PRINTED: usize = 5;
+const PRINTED: u64 = 5;
 
 fn main() -> ExitCode {
     let args: Vec<String> = std::env::args().skip(1).collect();
@@ -94,29 +98,66 @@ fn pairs(
     programs.into_iter().try_for_each(Program::finish)
 }
 
+/// What a comparison has seen.
+#[derive(Default)]
+struct Tally {
+    passed: u64,
+    failed: u64,
+    answers: BTreeMap<(String, Option<u64>), u64>,
+}
+
 fn compare(first: &str, second: &str, files: &[&str]) -> Result<bool, String> {
-    let (mut passed, mut failed) = (0, 0);
-    for file in files {
-        pairs(first, second, file, |ours, theirs| {
-            if ours == theirs {
-                passed += 1;
-                return;
-            }
-            failed += 1;
-            if failed <= PRINTED {
-                let text = |line: Option<String>| line.unwrap_or("(no line)".into());
-                println!("{}:", file);
-                println!("  {}: {}", first, text(ours));
-                println!("  {}: {}", second, text(theirs));
-            }
-        })?;
-    }
+    let tally = Mutex::new(Tally::default());
+    thread::scope(|scope| {
+        let compared: Vec<_> = files
+            .iter()
+            .map(|file| scope.spawn(|| compare_file(first, second, file, &tally)))
+            .collect();
+        compared.into_iter().try_for_each(|file| {
+            let result = file.join();
+            result.unwrap_or_else(|_| Err("a comparison panicked".into()))
+        })
+    })?;
+    let tally = tally.into_inner().map_err(|err| err.to_string())?;
     // Nothing compared shows nothing.
-    if passed + failed == 0 {
+    if tally.passed + tally.failed == 0 {
         return Err("no answer lines".into());
     }
-    println!("{} passed, {} failed", passed, failed);
-    Ok(failed == 0)
+    for ((what, number), count) in tally.answers {
+        let number = number.map_or(String::new(), |number| format!(" {}", number));
+        println!("{}{}: {} lines", what, number, count);
+    }
+    println!("{} passed, {} failed", tally.passed, tally.failed);
+    Ok(tally.failed == 0)
+}
+
+fn compare_file(first: &str, second: &str, file: &str, tally: &Mutex<Tally>) -> Result<(), String> {
+    pairs(first, second, file, |ours, theirs| {
+        let mut tally = tally.lock().expect("no comparison panics");
+        *tally.answers.entry(kind(ours.as_deref())).or_default() += 1;
+        if ours == theirs {
+            tally.passed += 1;
+            return;
+        }
+        tally.failed += 1;
+        if tally.failed <= PRINTED {
+            let text = |line: Option<String>| line.unwrap_or("(no line)".into());
+            println!("{}:", file);
+            println!("  {}: {}", first, text(ours));
+            println!("  {}: {}", second, text(theirs));
+        }
+    })
+}
+
+/// What a line answers, and by which number: `ID 20 ..` for plans and triangles, `ID edit 14 ..` or
+/// `ID end ..` for sheets.
+fn kind(line: Option<&str>) -> (String, Option<u64>) {
+    let words: Vec<&str> = line.unwrap_or_default().splitn(4, ' ').collect();
+    let number = |at: usize| words.get(at).and_then(|word| word.parse().ok());
+    match number(1) {
+        Some(answer) => ("answer".into(), Some(answer)),
+        None => (words.get(1).unwrap_or(&"none").to_string(), number(2)),
+    }
 }
 
 /// Every answer's name and the hash of its line.
