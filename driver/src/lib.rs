@@ -1,0 +1,48 @@
+//! The proved library behind the exchange text, so that its answers can be compared with the
+//! oracles' line by line.
+//!
+//! Arrays that a call writes are lent longer than needed, by a seeded number of marked cells. Where
+//! a call changes a cell that it must leave, its line says so and so differs from the oracle's.
+
+pub mod lent;
+pub mod library;
+pub mod plans;
+pub mod sheets;
+pub mod triangles;
+
+use oracle::exchange::{Item, Reader};
+use oracle::rng::Rng;
+
+/// Under so many cells more than needed are lent.
+pub const EXTRA: usize = 6;
+
+/// What the answer lines show besides the answers.
+#[derive(Clone, Copy, Debug, Default)]
+pub struct Shown {
+    /// A plan's state.
+    pub state: bool,
+    /// All cells of a sheet after every edit.
+    pub cells: bool,
+}
+
+/// The answer lines of a block of the exchange text.
+pub fn answers(block: &str, shown: Shown, rng: &mut Rng) -> Result<String, String> {
+    let mut out = String::new();
+    if block.trim_start().starts_with("sheet") {
+        for script in oracle_sheet::parse(block)? {
+            sheets::lines(&script, shown.cells, rng, &mut out);
+        }
+        return Ok(out);
+    }
+    for item in Reader::new(block.as_bytes()) {
+        out += &match item? {
+            Item::Plan(plan) => {
+                let lengths = plans::Lengths::told(&plan, rng);
+                plans::line(&plan, &lengths, shown.state)
+            }
+            Item::Tri(tri) => triangles::line(&tri, rng),
+        };
+        out.push('\n');
+    }
+    Ok(out)
+}
