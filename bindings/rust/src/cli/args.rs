@@ -1,0 +1,238 @@
+//! The command line.
+
+use std::ffi::{OsStr, OsString};
+
+use super::plan::shown;
+use super::source::Format;
+
+#[derive(Clone, Debug)]
+pub enum Command {
+    /// The help text of a command, or of the program.
+    Help(&'static str),
+    Version,
+    Solve(Request),
+    Audit(Request),
+    Night(Night),
+}
+
+#[derive(Clone, Debug)]
+pub struct Request {
+    pub file: OsString,
+    pub format: Format,
+    pub relax: bool,
+    pub maximise: Option<bool>,
+    pub budget: Option<usize>,
+    pub tolerance: Option<f64>,
+    pub bits: bool,
+    pub json: bool,
+}
+
+#[derive(Clone, Debug, Default)]
+pub struct Night {
+    pub ascii: bool,
+    pub sheets: bool,
+}
+
+pub const HELP: &str = "\
+tevalumi: small linear programs, solved and audited by a library whose every function is proved.
+
+usage: tevalumi solve FILE    solve a plan and print its values
+       tevalumi audit FILE    solve a plan in whole numbers and say how much cheaper another could be
+       tevalumi night         the bundled frost night, once with each set of costs
+       tevalumi COMMAND --help
+
+exit status: 0 Optimal; 1 refused (answers 1 to 7); 3 not solved (answers 20 to 24);
+             2 the command line or the file is wrong
+";
+
+pub const HELP_SOLVE: &str = "\
+usage: tevalumi solve [OPTIONS] FILE
+
+Solves the plan in FILE (- is standard input) and prints the status with its number and a
+sentence, the objective, the steps, and the values by name. At most 128 columns, 64 rows and
+2,048 entries.
+
+The run begins with each column at the bound that its cost wants: below 0 the upper one, else the
+lower one; the other where that is infinite, 0 where both are. A plan with a row that isn't kept
+there is refused with 7, though it may have a solution.
+
+formats: MPS, free or fixed, as GLPK, Clp and HiGHS write it; CPLEX-LP; the project's own text
+         (docs/EXCHANGE.md). Which one is told by the content.
+
+options:
+  --format F   auto, mps, free-mps, fixed-mps, lp or text
+  --max, --min maximise or minimise, whatever the file says (GLPK and Clp don't write it)
+  --relax      allow fractions where the file wants whole numbers; without it they are refused
+  --budget N   take at most N steps (0 to 10000; 10000 where the file says none)
+  --tol X      the final check's tolerance (0 to 1; 1e-8 where the file says none)
+  --bits       print the 16 hex digits of each double too
+  --json       print one JSON object a plan, on one line
+
+in MPS: a negative UP without a lower bound means no lower bound; bounds of 1e20 and more mean
+        none; a range becomes two rows; N rows after the first are left out; the objective's right
+        side is a constant with its sign turned (in files of glpsol, as glpsol does, not turned)
+
+exit status: 0 Optimal; 1 refused (answers 1 to 7); 3 not solved (answers 20 to 24);
+             2 the command line or the file is wrong
+";
+
+pub const HELP_AUDIT: &str = "\
+usage: tevalumi audit [OPTIONS] FILE
+
+Solves the plan in FILE as `tevalumi solve` does, rounds its amounts to whole numbers (nearest,
+ties to even) and its prices to multipliers of 1/1024, opens the audit sheet with them, and prints
+the sheet and its verdict. The verdict is the sheet's: a proposal that was rounded badly only makes
+it worse, never prettier. A plan with a number that isn't whole or is over the sheet's limits is
+said to be so, and no sheet is shown.
+
+limits: coefficients 4,096, costs 2^20, right sides 2^31, bounds and amounts 2^16, multipliers 1,024
+
+options: --format, --max, --min, --relax, --budget, --tol, --json as for `tevalumi solve`
+
+exit status: 0 Optimal, whatever the verdict; 1 refused (answers 1 to 7); 3 not solved (answers 20
+             to 24); 2 the command line or the file is wrong, or the plan isn't in whole numbers
+";
+
+pub const HELP_NIGHT: &str = "\
+usage: tevalumi night [--ascii] [--sheets]
+
+Tells the bundled frost night: alarms and soil reports share the air of a quarter hour. The same
+plan is solved and audited twice, with the costs that lost the alarms and with alarms priced first.
+
+options:
+  --ascii    draw the bars with # and .
+  --sheets   print both audit sheets in full, as `tevalumi audit` would
+
+exit status: 0
+";
+
+/// What is wrong with the command line.
+pub type Usage = String;
+
+pub fn parse(args: &[OsString]) -> Result<Command, Usage> {
+    let Some((command, rest)) = args.split_first() else {
+        return Err("expected a command: solve, audit or night".to_string());
+    };
+    let help = match command.to_str() {
+        Some("solve") => HELP_SOLVE,
+        Some("audit") => HELP_AUDIT,
+        Some("night") => HELP_NIGHT,
+        Some("--help" | "-h") => return Ok(Command::Help(HELP)),
+        Some("--version" | "-V") => return Ok(Command::Version),
+        Some("help") => {
+            return match rest.first() {
+                None => Ok(Command::Help(HELP)),
+                Some(topic) => parse(&[topic.clone(), "--help".into()]),
+            }
+        }
+        _ => {
+            return Err(format!(
+                "expected solve, audit or night, found `{}`",
+                text(command)
+            ))
+        }
+    };
+    if rest.iter().any(|arg| arg == "--help" || arg == "-h") {
+        return Ok(Command::Help(help));
+    }
+    match command.to_str() {
+        Some("night") => night(rest).map(Command::Night),
+        Some("audit") => request(rest, false).map(Command::Audit),
+        _ => request(rest, true).map(Command::Solve),
+    }
+}
+
+fn text(arg: &OsStr) -> String {
+    shown(&arg.to_string_lossy())
+}
+
+fn night(args: &[OsString]) -> Result<Night, Usage> {
+    let mut options = Night::default();
+    for arg in args {
+        match arg.to_str() {
+            Some("--ascii") => options.ascii = true,
+            Some("--sheets") => options.sheets = true,
+            _ => {
+                return Err(format!(
+                    "expected --ascii or --sheets, found `{}`",
+                    text(arg)
+                ))
+            }
+        }
+    }
+    Ok(options)
+}
+
+fn request(args: &[OsString], solve: bool) -> Result<Request, Usage> {
+    let mut file = None;
+    let mut request = Request {
+        file: OsString::new(),
+        format: Format::Auto,
+        relax: false,
+        maximise: None,
+        budget: None,
+        tolerance: None,
+        bits: false,
+        json: false,
+    };
+    let mut args = args.iter();
+    let mut only_files = false;
+    while let Some(arg) = args.next() {
+        let word = arg.to_str().unwrap_or("");
+        if only_files || !word.starts_with('-') || word == "-" {
+            if file.replace(arg.clone()).is_some() {
+                return Err(format!("expected one file, found `{}` too", text(arg)));
+            }
+            continue;
+        }
+        let (option, given) = match word.split_once('=') {
+            Some((option, value)) => (option, Some(value.to_string())),
+            None => (word, None),
+        };
+        let mut value = || match given.clone() {
+            Some(value) => Ok(value),
+            None => args
+                .next()
+                .map(|value| value.to_string_lossy().into_owned())
+                .ok_or(format!("expected a value behind {option}")),
+        };
+        match option {
+            "--" => only_files = true,
+            "--format" => request.format = format(&value()?)?,
+            "--budget" => request.budget = Some(budget(&value()?)?),
+            "--tol" => request.tolerance = Some(tolerance(&value()?)?),
+            "--max" => request.maximise = Some(true),
+            "--min" => request.maximise = Some(false),
+            "--relax" => request.relax = true,
+            "--json" => request.json = true,
+            "--bits" if solve => request.bits = true,
+            _ => return Err(format!("there is no option `{}` here", text(arg))),
+        }
+    }
+    request.file = file.ok_or("expected a file (- is standard input)")?;
+    Ok(request)
+}
+
+fn format(name: &str) -> Result<Format, Usage> {
+    let found = Format::NAMES.into_iter().find(|&(n, _)| n == name);
+    found.map(|(_, format)| format).ok_or(format!(
+        "expected auto, mps, free-mps, fixed-mps, lp or text behind --format, found `{}`",
+        shown(name)
+    ))
+}
+
+/// Over its limit it is the library's to refuse.
+fn budget(word: &str) -> Result<usize, Usage> {
+    let wrong = |_| {
+        format!(
+            "expected a whole number behind --budget, found `{}`",
+            shown(word)
+        )
+    };
+    word.parse().map_err(wrong)
+}
+
+fn tolerance(word: &str) -> Result<f64, Usage> {
+    let wrong = |_| format!("expected a number behind --tol, found `{}`", shown(word));
+    word.parse().map_err(wrong)
+}

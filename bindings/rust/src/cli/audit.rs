@@ -1,0 +1,287 @@
+//! From doubles to a sheet in whole numbers. The proposal is made here and needs no trust: the
+//! sheet judges it.
+
+use tevalumi::raw::limits;
+use tevalumi::sheet::{Figures, Sheet, Verdict};
+use tevalumi::ComparisonOp;
+
+use super::engine::Solved;
+use super::plan::{counted, Plan, EQ, GE, LE};
+use super::show::{number, of_1024, quoted, Side, Table};
+
+/// A price of 1 is a multiplier of 1024.
+const UNIT: f64 = 1024.0;
+
+/// Opens the sheet of a solved plan. The error is a sentence that names the first number that
+/// doesn't fit.
+pub fn open(plan: &Plan, solved: &Solved) -> Result<Sheet, String> {
+    let mut figures = figures(plan)?;
+    propose(plan, solved, &mut figures)?;
+    Sheet::open(&figures).map_err(|refusal| format!("the sheet isn't opened: {refusal}"))
+}
+
+/// The plan's own numbers, in the order of the sheet's arrays.
+fn figures(plan: &Plan) -> Result<Figures, String> {
+    let (rows, columns) = (plan.rows, plan.columns);
+    let column = |what: &str, j: usize| format!("the {what} of column {}", plan.column_name(j));
+    let bounds = |what: &str, bounds: &[f64]| -> Result<Vec<Option<i64>>, String> {
+        let bounds = bounds[..columns].iter().enumerate();
+        let present = bounds.map(|(j, &x)| match x.is_finite() {
+            true => whole(x, limits::SHEET_AMOUNT, || column(what, j)).map(Some),
+            false => Ok(None),
+        });
+        present.collect()
+    };
+    let coefs = coefs(plan)?;
+    let costs = plan.costs[..columns].iter().enumerate();
+    let costs = costs.map(|(j, &x)| whole(x, limits::SHEET_COST, || column("cost", j)));
+    let rights = plan.rhs[..rows].iter().enumerate();
+    let rights = rights.map(|(i, &x)| {
+        whole(x, limits::SHEET_RIGHT, || {
+            format!("the right side of row {}", plan.row_name(i))
+        })
+    });
+    let ops = plan.ops[..rows].iter().map(|&op| match op {
+        LE => ComparisonOp::Le,
+        EQ => ComparisonOp::Eq,
+        _ => ComparisonOp::Ge,
+    });
+    Ok(Figures {
+        rows,
+        columns,
+        coefs,
+        costs: costs.collect::<Result<_, _>>()?,
+        lowers: bounds("lower bound", &plan.lowers)?,
+        uppers: bounds("upper bound", &plan.uppers)?,
+        rights: rights.collect::<Result<_, _>>()?,
+        ops: ops.collect(),
+        ..Figures::default()
+    })
+}
+
+/// Coefficients in full, row by row.
+fn coefs(plan: &Plan) -> Result<Vec<i64>, String> {
+    let mut coefs = vec![0; plan.rows * plan.columns];
+    for i in 0..plan.rows {
+        let (cols, coeffs) = plan.row(i).unwrap_or_default();
+        for (&j, &a) in cols.iter().zip(coeffs) {
+            let (row, column) = (plan.row_name(i), plan.column_name(j));
+            coefs[i * plan.columns + j] = whole(a, limits::SHEET_COEFFICIENT, || {
+                format!("the coefficient of column {column} in row {row}")
+            })?;
+        }
+    }
+    Ok(coefs)
+}
+
+/// Whole amounts: the nearest, ties to even. Multipliers: minus the price of the row's slack, 0 for
+/// a basic or dropped one, times 1024, rounded the same way, 0 where the sign is wrong.
+fn propose(plan: &Plan, solved: &Solved, figures: &mut Figures) -> Result<(), String> {
+    for (j, &x) in solved.values[..plan.columns].iter().enumerate() {
+        let amount = whole(x.round_ties_even(), limits::SHEET_AMOUNT, || {
+            format!("the amount of column {}", plan.column_name(j))
+        })?;
+        figures.amounts.push(amount);
+    }
+    figures.mults = vec![0; plan.rows];
+    for (&i, price) in solved.kept.iter().zip(&solved.slack_prices) {
+        let exact = -price.unwrap_or(0.0) * UNIT;
+        let mult = whole(exact.round_ties_even(), limits::SHEET_MULTIPLIER, || {
+            format!(
+                "the multiplier of row {} in units of 1/1024",
+                plan.row_name(i)
+            )
+        })?;
+        let wrong = match plan.ops[i] {
+            LE => mult > 0,
+            GE => mult < 0,
+            _ => false,
+        };
+        figures.mults[i] = if wrong { 0 } else { mult };
+    }
+    Ok(())
+}
+
+fn whole(x: f64, most: i64, what: impl Fn() -> String) -> Result<i64, String> {
+    if x.fract() != 0.0 {
+        return Err(format!("{} is {}", what(), number(x)));
+    }
+    if x.abs() > most as f64 {
+        return Err(format!("{} is {}, over {most}", what(), number(x)));
+    }
+    Ok(x as i64)
+}
+
+/// Rows, columns, cost, floor and gap.
+pub fn tables(plan: &Plan, sheet: &Sheet) -> String {
+    let (rows, columns) = (rows(plan, sheet), columns(plan, sheet));
+    format!("\n{rows}\n{columns}\n{}", totals(plan, sheet))
+}
+
+fn rows(plan: &Plan, sheet: &Sheet) -> Table {
+    let mut table = Table::new(&[
+        ("row", Side::Left),
+        ("activity", Side::Right),
+        ("", Side::Left),
+        ("right side", Side::Right),
+        ("multiplier", Side::Right),
+        ("", Side::Left),
+    ]);
+    for i in 0..sheet.rows() {
+        let (activity, right) = (sheet.activity(i), sheet.right(i));
+        let (sign, kept) = match sheet.op(i) {
+            ComparisonOp::Le => ("<=", activity <= right),
+            ComparisonOp::Eq => ("=", activity == right),
+            ComparisonOp::Ge => (">=", activity >= right),
+        };
+        table.row(vec![
+            plan.row_name(i),
+            activity.to_string(),
+            sign.to_string(),
+            right.to_string(),
+            of_1024(sheet.multiplier(i)),
+            if kept { "" } else { "broken" }.to_string(),
+        ]);
+    }
+    table
+}
+
+fn columns(plan: &Plan, sheet: &Sheet) -> Table {
+    let mut table = Table::new(&[
+        ("column", Side::Left),
+        ("amount", Side::Right),
+        ("lower", Side::Right),
+        ("upper", Side::Right),
+        ("cost", Side::Right),
+        ("price", Side::Right),
+        ("", Side::Left),
+    ]);
+    let bound = |bound: Option<i64>| bound.map_or("none".to_string(), |b| b.to_string());
+    for j in 0..sheet.columns() {
+        table.row(vec![
+            plan.column_name(j),
+            sheet.amount(j).to_string(),
+            bound(sheet.lower(j)),
+            bound(sheet.upper(j)),
+            sheet.cost_of(j).to_string(),
+            of_1024(sheet.price(j)),
+            mark(sheet, j).to_string(),
+        ]);
+    }
+    table
+}
+
+fn mark(sheet: &Sheet, j: usize) -> &'static str {
+    let (amount, price) = (sheet.amount(j), sheet.price(j));
+    let (lower, upper) = (sheet.lower(j), sheet.upper(j));
+    if lower.is_some_and(|l| amount < l) || upper.is_some_and(|u| amount > u) {
+        "out of bounds"
+    } else if price > 0 && lower.is_none() || price < 0 && upper.is_none() {
+        "needs a bound"
+    } else {
+        ""
+    }
+}
+
+/// The sheet minimises: where the plan maximises its costs have their signs turned, and these
+/// three are turned back.
+fn totals(plan: &Plan, sheet: &Sheet) -> String {
+    let (cost, floor) = (sheet.cost(), sheet.floor());
+    let (names, cost, floor) = match plan.maximise {
+        true => (["worth", "ceiling"], -cost, -floor),
+        false => (["cost", "floor"], cost, floor),
+    };
+    let mut out = format!("{:<9}  {cost}\n", names[0]);
+    match sheet.verdict() {
+        Verdict::Gap(gap) => {
+            out += &format!("{:<9}  {}\n", names[1], of_1024(floor));
+            out += &format!("{:<9}  {}\n", "gap", of_1024(gap));
+        }
+        Verdict::NoFloor | Verdict::NotAPlan => out += &format!("{:<9}  none\n", names[1]),
+    }
+    if plan.constant != 0.0 {
+        out += &format!(
+            "The constant {} is in none of these; every plan has it alike.\n",
+            number(plan.constant)
+        );
+    }
+    if plan.maximise {
+        out += "In the tables costs and prices have their signs turned, because the sheet minimises.\n";
+    }
+    out
+}
+
+/// The verdict in one sentence, no prettier than the sheet's.
+pub fn verdict(plan: &Plan, sheet: &Sheet) -> String {
+    let better = match plan.maximise {
+        true => "worth more than this one",
+        false => "cheaper than this one",
+    };
+    match sheet.verdict() {
+        Verdict::Gap(0) => format!("No plan, whole or fractional, is {better}."),
+        Verdict::Gap(gap) => format!(
+            "No plan, whole or fractional, is {better} by more than {}.",
+            of_1024(gap)
+        ),
+        Verdict::NoFloor => format!(
+            "The whole amounts are a plan, but the sheet has no floor ({}), so it doesn't say by how much another could be {}.",
+            listed(&[
+                (sheet.wrong_signs(), "multiplier has the wrong sign", "multipliers have the wrong sign"),
+                (sheet.absent_bounds(), "price needs a bound that is absent", "prices need a bound that is absent"),
+            ]),
+            if plan.maximise { "worth more" } else { "cheaper" }
+        ),
+        Verdict::NotAPlan => format!(
+            "The whole amounts aren't a plan ({}), so the sheet says nothing about other plans.",
+            listed(&[
+                (sheet.rows_broken(), "row is broken", "rows are broken"),
+                (sheet.amounts_out(), "amount is out of its bounds", "amounts are out of their bounds"),
+            ])
+        ),
+    }
+}
+
+fn listed(counts: &[(usize, &str, &str)]) -> String {
+    let some = counts.iter().filter(|&&(n, _, _)| n > 0);
+    let some: Vec<String> = some.map(|&(n, one, more)| counted(n, one, more)).collect();
+    some.join(" and ")
+}
+
+/// What a solve's JSON has beside it in an audit.
+pub fn as_json(plan: &Plan, sheet: &Sheet) -> String {
+    let (name, gap) = match sheet.verdict() {
+        Verdict::Gap(gap) => ("gap", gap.to_string()),
+        Verdict::NoFloor => ("no floor", "null".to_string()),
+        Verdict::NotAPlan => ("not a plan", "null".to_string()),
+    };
+    let list = |of: &dyn Fn(usize) -> i64, n: usize| {
+        let numbers: Vec<String> = (0..n).map(|k| of(k).to_string()).collect();
+        numbers.join(",")
+    };
+    [
+        format!(
+            ",\"sheet\":{{\"amounts\":[{}]",
+            list(&|j| sheet.amount(j), sheet.columns())
+        ),
+        format!(
+            ",\"multipliers_1024\":[{}]",
+            list(&|i| sheet.multiplier(i), sheet.rows())
+        ),
+        format!(
+            ",\"activities\":[{}]",
+            list(&|i| sheet.activity(i), sheet.rows())
+        ),
+        format!(
+            ",\"prices_1024\":[{}]",
+            list(&|j| sheet.price(j), sheet.columns())
+        ),
+        format!(
+            ",\"cost\":{},\"floor_1024\":{}",
+            sheet.cost(),
+            sheet.floor()
+        ),
+        format!(",\"verdict\":\"{name}\",\"gap_1024\":{gap}"),
+        format!(",\"sentence\":{}}}", quoted(&verdict(plan, sheet))),
+    ]
+    .concat()
+}

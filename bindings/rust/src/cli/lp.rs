@@ -1,0 +1,415 @@
+//! CPLEX-LP text: objective, rows, bounds, whole columns.
+
+use std::collections::HashMap;
+
+use super::plan::{bound, shown, Draft, DraftColumn, DraftRow, Fault, END};
+
+/// A word, number or sign with its line.
+#[derive(Clone, Debug)]
+struct Token<'a> {
+    line: usize,
+    text: &'a str,
+}
+
+#[derive(Clone, Copy, Debug, PartialEq)]
+enum Section {
+    Objective(bool),
+    Rows,
+    Bounds,
+    Whole,
+    Binary,
+    End,
+}
+
+pub fn read(text: &str) -> Result<Draft, Fault> {
+    let tokens = tokens(text);
+    let mut reader = Reader {
+        tokens: &tokens,
+        at: 0,
+        draft: Draft::default(),
+        columns: HashMap::new(),
+        rows: HashMap::new(),
+    };
+    let first = reader.section();
+    let Some(Section::Objective(maximise)) = first else {
+        return Err(reader.expected("Minimize or Maximize"));
+    };
+    reader.draft.maximise = maximise;
+    reader.objective()?;
+    loop {
+        match reader.section() {
+            Some(Section::End) => return Ok(reader.draft),
+            Some(Section::Rows) => reader.some(Reader::row)?,
+            Some(Section::Bounds) => reader.some(Reader::bounds)?,
+            Some(Section::Whole) => reader.some(|r| r.whole(false))?,
+            Some(Section::Binary) => reader.some(|r| r.whole(true))?,
+            Some(Section::Objective(_)) | None => {
+                return Err(reader.expected("Subject To, Bounds, Generals, Binaries or End"))
+            }
+        }
+    }
+}
+
+/// A `\` starts a comment. A number's sign is a token of its own, an exponent's is not.
+fn tokens(text: &str) -> Vec<Token<'_>> {
+    let mut tokens = Vec::new();
+    for (i, line) in text.lines().enumerate() {
+        let mut rest = line.split('\\').next().unwrap_or("").trim_start();
+        while let Some(first) = rest.chars().next() {
+            let length = if is_sign(first) {
+                let comparing = |c: char| matches!(c, '<' | '>' | '=');
+                match rest[1..].chars().next() {
+                    Some(c) if comparing(first) && comparing(c) => 2,
+                    _ => 1,
+                }
+            } else {
+                length_of_word(rest)
+            };
+            tokens.push(Token {
+                line: i + 1,
+                text: &rest[..length],
+            });
+            rest = rest[length..].trim_start();
+        }
+    }
+    tokens
+}
+
+fn is_sign(c: char) -> bool {
+    matches!(c, '+' | '-' | '*' | '<' | '>' | '=' | ':' | '[' | ']' | '^')
+}
+
+fn length_of_word(text: &str) -> usize {
+    let number = text.starts_with(|c: char| c.is_ascii_digit() || c == '.');
+    if !number {
+        let end = text.find(|c: char| c.is_whitespace() || is_sign(c));
+        return end.unwrap_or(text.len());
+    }
+    // 3x is a number and a name; 3e2 is a number.
+    let bytes = text.as_bytes();
+    let digit = |i: usize| bytes.get(i).is_some_and(u8::is_ascii_digit);
+    let mut end = 0;
+    while digit(end) || bytes.get(end) == Some(&b'.') {
+        end += 1;
+    }
+    if matches!(bytes.get(end), Some(b'e' | b'E')) {
+        let signed = usize::from(matches!(bytes.get(end + 1), Some(b'+' | b'-')));
+        let mut power = end + 1 + signed;
+        if digit(power) {
+            while digit(power) {
+                power += 1;
+            }
+            end = power;
+        }
+    }
+    end
+}
+
+struct Reader<'a> {
+    tokens: &'a [Token<'a>],
+    at: usize,
+    draft: Draft,
+    columns: HashMap<String, usize>,
+    rows: HashMap<String, usize>,
+}
+
+impl<'a> Reader<'a> {
+    fn peek(&self, ahead: usize) -> &'a str {
+        self.tokens.get(self.at + ahead).map_or("", |t| t.text)
+    }
+
+    fn line(&self) -> usize {
+        let last = self.tokens.last().map_or(0, |t| t.line);
+        self.tokens.get(self.at).map_or(last, |t| t.line)
+    }
+
+    fn expected(&self, wanted: &str) -> Fault {
+        let found = match self.peek(0) {
+            "" => END,
+            text => text,
+        };
+        Fault::expected(self.line(), wanted, found)
+    }
+
+    fn take(&mut self, text: &str) -> bool {
+        let taken = self.peek(0).eq_ignore_ascii_case(text);
+        self.at += usize::from(taken);
+        taken
+    }
+
+    /// The section whose heading stands here, and how many tokens the heading has.
+    fn heading(&self) -> Option<(Section, usize)> {
+        let word = self.peek(0).to_ascii_lowercase();
+        let next = self.peek(1).to_ascii_lowercase();
+        // A row or column of that name, not a heading.
+        if next == ":" {
+            return None;
+        }
+        Some(match word.as_str() {
+            "maximize" | "maximise" | "maximum" | "max" => (Section::Objective(true), 1),
+            "minimize" | "minimise" | "minimum" | "min" => (Section::Objective(false), 1),
+            "subject" if next == "to" => (Section::Rows, 2),
+            "such" if next == "that" => (Section::Rows, 2),
+            "st" | "s.t." | "st." => (Section::Rows, 1),
+            "bounds" | "bound" => (Section::Bounds, 1),
+            "generals" | "general" | "gen" | "integers" | "integer" | "int" => (Section::Whole, 1),
+            "binaries" | "binary" | "bin" => (Section::Binary, 1),
+            "end" => (Section::End, 1),
+            _ => return None,
+        })
+    }
+
+    fn section(&mut self) -> Option<Section> {
+        let (section, length) = self.heading()?;
+        self.at += length;
+        Some(section)
+    }
+
+    /// Reads pieces until the next heading.
+    fn some(&mut self, one: impl Fn(&mut Self) -> Result<(), Fault>) -> Result<(), Fault> {
+        while self.heading().is_none() {
+            if self.at == self.tokens.len() {
+                return Err(self.expected("End"));
+            }
+            one(self)?;
+        }
+        Ok(())
+    }
+
+    fn label(&mut self) -> Option<&'a str> {
+        let name = self.peek(0);
+        (self.peek(1) == ":").then(|| {
+            self.at += 2;
+            name
+        })
+    }
+
+    /// One or more signs.
+    fn sign(&mut self) -> Option<f64> {
+        let mut sign = None;
+        loop {
+            if self.take("+") {
+                sign = Some(sign.unwrap_or(1.0));
+            } else if self.take("-") {
+                sign = Some(-sign.unwrap_or(1.0));
+            } else {
+                return sign;
+            }
+        }
+    }
+
+    fn number(&mut self) -> Option<f64> {
+        let word = self.peek(0);
+        let value = if word.starts_with(|c: char| c.is_ascii_digit() || c == '.') {
+            word.parse().ok()?
+        } else if ["inf", "infinity"].contains(&word.to_ascii_lowercase().as_str()) {
+            f64::INFINITY
+        } else {
+            return None;
+        };
+        self.at += 1;
+        Some(value)
+    }
+
+    fn signed_number(&mut self) -> Option<f64> {
+        let start = self.at;
+        let sign = self.sign().unwrap_or(1.0);
+        let number = self.number().map(|n| sign * n);
+        if number.is_none() {
+            self.at = start;
+        }
+        number
+    }
+
+    /// Names begin with a letter or one of CPLEX's marks.
+    fn name(&mut self) -> Option<&'a str> {
+        let word = self.peek(0);
+        let first = word.chars().next()?;
+        if is_sign(first) || first.is_ascii_digit() || first == '.' || self.heading().is_some() {
+            return None;
+        }
+        self.at += 1;
+        Some(word)
+    }
+
+    fn column(&mut self, name: &str) -> usize {
+        if let Some(&place) = self.columns.get(name) {
+            return place;
+        }
+        let place = self.draft.columns.len();
+        self.columns.insert(name.to_string(), place);
+        self.draft.columns.push(DraftColumn::new(name));
+        place
+    }
+
+    /// Terms and the sum of the numbers that stand alone. Terms of one column are added up.
+    fn sum(&mut self) -> Result<(Vec<(usize, f64)>, f64), Fault> {
+        let mut terms: Vec<(usize, f64)> = Vec::new();
+        let mut alone = 0.0;
+        loop {
+            if self.peek(0) == "[" {
+                return Err(Fault::new(
+                    self.line(),
+                    "a quadratic term is no part of a linear program",
+                ));
+            }
+            let sign = self.sign();
+            let number = self.number();
+            if number.is_some() {
+                self.take("*");
+            }
+            let coeff = sign.unwrap_or(1.0) * number.unwrap_or(1.0);
+            match (number, self.name()) {
+                (_, Some(name)) => terms.push((self.column(name), coeff)),
+                (Some(_), None) => alone += coeff,
+                (None, None) if sign.is_some() => return Err(self.expected("a number or a column")),
+                (None, None) => break,
+            }
+        }
+        terms.sort_by_key(|&(column, _)| column);
+        terms.dedup_by(|next, kept| {
+            let same = next.0 == kept.0;
+            kept.1 += if same { next.1 } else { 0.0 };
+            same
+        });
+        Ok((terms, alone))
+    }
+
+    fn objective(&mut self) -> Result<(), Fault> {
+        self.label();
+        let (terms, alone) = self.sum()?;
+        for (column, cost) in terms {
+            self.draft.columns[column].cost = cost;
+        }
+        self.draft.constant = alone;
+        Ok(())
+    }
+
+    fn comparison(&mut self) -> Option<char> {
+        let sign = match self.peek(0) {
+            "<" | "<=" | "=<" => '<',
+            ">" | ">=" | "=>" => '>',
+            "=" | "==" => '=',
+            _ => return None,
+        };
+        self.at += 1;
+        Some(sign)
+    }
+
+    fn row(&mut self) -> Result<(), Fault> {
+        let line = self.line();
+        let label = self.label().map(str::to_string);
+        let name = label.unwrap_or_else(|| format!("R{}", self.draft.rows.len() + 1));
+        if self.rows.insert(name.clone(), 0).is_some() {
+            return Err(Fault::new(
+                line,
+                format!("row `{}` stands twice", shown(&name)),
+            ));
+        }
+        let (mut low, mut high) = (f64::NEG_INFINITY, f64::INFINITY);
+        let start = self.at;
+        let left = self.signed_number();
+        match (left, self.comparison()) {
+            (Some(number), Some(sign)) => limit(turned(sign), number, &mut low, &mut high),
+            _ => self.at = start,
+        }
+        let two = self.at > start;
+        let (entries, alone) = self.sum()?;
+        match self.comparison() {
+            Some(sign) => {
+                let right = self.signed_number();
+                let right = right.ok_or_else(|| self.expected("a number on the right side"))?;
+                limit(sign, right, &mut low, &mut high);
+            }
+            None if two => {}
+            None => return Err(self.expected("<=, = or >=")),
+        }
+        self.draft.rows.push(DraftRow {
+            name,
+            low: low - alone,
+            high: high - alone,
+            entries,
+        });
+        Ok(())
+    }
+
+    /// `x free`, `x <= 4`, `4 >= x`, `0 <= x <= 4`, `x = 4`.
+    fn bounds(&mut self) -> Result<(), Fault> {
+        let left = self.signed_number();
+        let sign = match left {
+            Some(_) => Some(
+                self.comparison()
+                    .ok_or_else(|| self.expected("<=, = or >="))?,
+            ),
+            None => None,
+        };
+        let column = self.known_column()?;
+        if let (Some(number), Some(sign)) = (left, sign) {
+            self.draft.columns[column].limit(turned(sign), bound(number));
+        } else if self.take("free") {
+            self.draft.columns[column].limit('>', f64::NEG_INFINITY);
+            self.draft.columns[column].limit('<', f64::INFINITY);
+            return Ok(());
+        }
+        match self.comparison() {
+            Some(sign) => {
+                let number = self.signed_number();
+                let number = number.ok_or_else(|| self.expected("a number"))?;
+                self.draft.columns[column].limit(sign, bound(number));
+                Ok(())
+            }
+            None if left.is_some() => Ok(()),
+            None => Err(self.expected("free, <=, = or >=")),
+        }
+    }
+
+    fn known_column(&mut self) -> Result<usize, Fault> {
+        let line = self.line();
+        let name = self.name().ok_or_else(|| self.expected("a column"))?;
+        let place = self.columns.get(name).copied();
+        place.ok_or_else(|| Fault::expected(line, "a column of the objective or a row", name))
+    }
+
+    fn whole(&mut self, binary: bool) -> Result<(), Fault> {
+        let line = self.line();
+        let place = self.known_column()?;
+        let column = &mut self.draft.columns[place];
+        column.whole = column.whole.or(Some(line));
+        if binary {
+            (column.lower, column.upper) = (Some(0.0), Some(1.0));
+        } else if column.upper.is_none() {
+            // Unlike in MPS, a whole column has no upper bound by itself.
+            column.upper = Some(f64::INFINITY);
+        }
+        Ok(())
+    }
+}
+
+impl DraftColumn {
+    fn limit(&mut self, sign: char, number: f64) {
+        if sign != '<' {
+            self.lower = Some(number);
+        }
+        if sign != '>' {
+            self.upper = Some(number);
+        }
+    }
+}
+
+fn limit(sign: char, number: f64, low: &mut f64, high: &mut f64) {
+    if sign != '<' {
+        *low = number;
+    }
+    if sign != '>' {
+        *high = number;
+    }
+}
+
+/// The same comparison seen from the other side.
+fn turned(sign: char) -> char {
+    match sign {
+        '<' => '>',
+        '>' => '<',
+        _ => sign,
+    }
+}

@@ -1,0 +1,169 @@
+//! The calls over the C boundary (`include/tevalumi.h`): the crate's only `unsafe`.
+//!
+//! A call is written here once, with the slices that it borrows. From that line the macro makes
+//! the C declaration, in which a slice is a pointer and a length, and a safe function that takes
+//! the slices themselves. So no length can stand beside another slice's pointer, and every call is
+//! right for the same reasons:
+//!
+//! * A slice goes over as its own pointer and its own length, so the library is told of no cell
+//!   that isn't lent. For an empty slice the pointer dangles but isn't null, and the length is 0.
+//! * What the library writes is `&mut` here, so nothing else reads or writes it meanwhile, and it
+//!   overlaps no other slice of the call. What is `&` here the library only reads.
+//! * No call keeps a pointer: the library has no memory of its own.
+//! * Every bit pattern is a value of the types that go over (`f64`, `i64`, `usize`, `u8`, and
+//!   structs of them), on both sides.
+//! * No call asks anything of its caller: whatever lengths and numbers are handed in, it answers,
+//!   and it neither panics nor unwinds.
+
+#![allow(unsafe_code)]
+#![allow(clippy::too_many_arguments)]
+
+/// What `tevalumi_solve` answers.
+#[repr(C)]
+#[derive(Clone, Copy, Debug)]
+pub(crate) struct Answer {
+    pub status: usize,
+    pub objective: f64,
+    pub steps: usize,
+    pub place: usize,
+    pub at: usize,
+    pub within: usize,
+}
+
+/// What a triangle call answers.
+#[repr(C)]
+#[derive(Clone, Copy, Debug)]
+pub(crate) struct TriAnswer {
+    pub status: usize,
+    pub places: usize,
+}
+
+/// What `tevalumi_verdict` answers.
+#[repr(C)]
+#[derive(Clone, Copy, Debug)]
+pub(crate) struct SheetVerdict {
+    pub status: usize,
+    pub kind: usize,
+    pub value: i64,
+}
+
+/// Makes the safe function of a call. Its arguments move one by one from the last list to three
+/// others: as the function takes them, as C declares them, and as they are handed over.
+macro_rules! call {
+    ($(#[$doc:meta])* fn $name:ident($($args:tt)*) -> $answer:ty) => {
+        call! { @ [$(#[$doc])*] $name $answer; [] [] []; $($args)* }
+    };
+    (@ $doc:tt $name:ident $answer:ty; [$($taken:tt)*] [$($c:tt)*] [$($over:tt)*];
+        $arg:ident: &mut [$cell:ty], $($rest:tt)*) => {
+        call! { @ $doc $name $answer;
+            [$($taken)* $arg: &mut [$cell],]
+            [$($c)* $arg: *mut $cell, _: usize,]
+            [$($over)* $arg.as_mut_ptr(), $arg.len(),];
+            $($rest)* }
+    };
+    (@ $doc:tt $name:ident $answer:ty; [$($taken:tt)*] [$($c:tt)*] [$($over:tt)*];
+        $arg:ident: &[$cell:ty], $($rest:tt)*) => {
+        call! { @ $doc $name $answer;
+            [$($taken)* $arg: &[$cell],]
+            [$($c)* $arg: *const $cell, _: usize,]
+            [$($over)* $arg.as_ptr(), $arg.len(),];
+            $($rest)* }
+    };
+    (@ $doc:tt $name:ident $answer:ty; [$($taken:tt)*] [$($c:tt)*] [$($over:tt)*];
+        $arg:ident: $number:ty, $($rest:tt)*) => {
+        call! { @ $doc $name $answer;
+            [$($taken)* $arg: $number,] [$($c)* $arg: $number,] [$($over)* $arg,]; $($rest)* }
+    };
+    (@ [$(#[$doc:meta])*] $name:ident $answer:ty; [$($taken:tt)*] [$($c:tt)*] [$($over:tt)*];) => {
+        $(#[$doc])*
+        pub(crate) fn $name($($taken)*) -> $answer {
+            extern "C" {
+                fn $name($($c)*) -> $answer;
+            }
+            // SAFETY: each slice goes over as its own pointer and length, those that are written
+            // are borrowed mutably, and the call keeps none of them; see above.
+            unsafe { $name($($over)*) }
+        }
+    };
+}
+
+call! {
+    /// Solves a plan. Reads the plan's eight slices; writes the values and the workspace.
+    fn tevalumi_solve(
+        columns: usize, rows: usize, entries: usize, budget: usize, tolerance: f64,
+        costs: &[f64], lowers: &[f64], uppers: &[f64],
+        starts: &[usize], cols: &[usize], coeffs: &[f64], ops: &[u8], rhs: &[f64],
+        values: &mut [f64], kept: &mut [usize],
+        basic_vars: &mut [usize], basic_var_vals: &mut [f64],
+        nb_vars: &mut [usize], nb_var_vals: &mut [f64], nb_var_obj_coeffs: &mut [f64],
+        primal_edge_sq_norms: &mut [f64], nb_var_states: &mut [u8], var_states: &mut [usize],
+        eta_leaving: &mut [usize], eta_starts: &mut [usize],
+        eta_rows: &mut [usize], eta_coeffs: &mut [f64],
+        counts: &mut [usize], objective: &mut [f64],
+    ) -> Answer
+}
+
+call! {
+    /// Opens a sheet: writes its kept numbers alone.
+    fn tevalumi_open(
+        rows: usize, columns: usize,
+        coefs: &[i64], costs: &[i64], lowers: &[i64], uppers: &[i64],
+        lower_marks: &[u8], upper_marks: &[u8], rights: &[i64], ops: &[u8],
+        amounts: &[i64], mults: &[i64],
+        r: &mut [i64], d: &mut [i64], c: &mut [i64], b: &mut [i64], counts: &mut [i64],
+    ) -> usize
+}
+
+call! {
+    /// Edits a sheet: writes every slice but the comparisons.
+    fn tevalumi_edit(
+        kind: usize, row: usize, column: usize, number: i64, rows: usize, columns: usize,
+        coefs: &mut [i64], costs: &mut [i64], lowers: &mut [i64], uppers: &mut [i64],
+        lower_marks: &mut [u8], upper_marks: &mut [u8], rights: &mut [i64], ops: &[u8],
+        amounts: &mut [i64], mults: &mut [i64],
+        r: &mut [i64], d: &mut [i64], c: &mut [i64], b: &mut [i64], counts: &mut [i64],
+    ) -> usize
+}
+
+call! {
+    /// The verdict on a sheet: writes nothing.
+    fn tevalumi_verdict(
+        rows: usize, columns: usize,
+        coefs: &[i64], costs: &[i64], lowers: &[i64], uppers: &[i64],
+        lower_marks: &[u8], upper_marks: &[u8], rights: &[i64], ops: &[u8],
+        amounts: &[i64], mults: &[i64],
+        r: &[i64], d: &[i64], c: &[i64], b: &[i64], counts: &[i64],
+    ) -> SheetVerdict
+}
+
+call! {
+    /// Solves a lower triangle for the listed places: writes the list and the values.
+    fn tevalumi_lower_sparse(
+        size: usize, entries: usize, starts: &[usize], rows: &[usize], vals: &[f64],
+        with_diag: usize, diag: &[f64], list: &mut [usize], listed: usize, values: &mut [f64],
+    ) -> TriAnswer
+}
+
+call! {
+    /// As `tevalumi_lower_sparse`, for an upper triangle.
+    fn tevalumi_upper_sparse(
+        size: usize, entries: usize, starts: &[usize], rows: &[usize], vals: &[f64],
+        with_diag: usize, diag: &[f64], list: &mut [usize], listed: usize, values: &mut [f64],
+    ) -> TriAnswer
+}
+
+call! {
+    /// Solves a lower triangle for every place: writes the values.
+    fn tevalumi_lower_dense(
+        size: usize, entries: usize, starts: &[usize], rows: &[usize], vals: &[f64],
+        with_diag: usize, diag: &[f64], values: &mut [f64],
+    ) -> TriAnswer
+}
+
+call! {
+    /// As `tevalumi_lower_dense`, for an upper triangle.
+    fn tevalumi_upper_dense(
+        size: usize, entries: usize, starts: &[usize], rows: &[usize], vals: &[f64],
+        with_diag: usize, diag: &[f64], values: &mut [f64],
+    ) -> TriAnswer
+}

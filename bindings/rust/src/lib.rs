@@ -1,0 +1,109 @@
+/*!
+Small linear programs and their audit sheet, over a library whose every function is proved.
+
+[Linear programming](https://en.wikipedia.org/wiki/Linear_programming) is a technique for
+finding the minimum (or maximum) of a linear function of a set of continuous variables
+subject to linear equality and inequality constraints.
+
+The solver is the part of [minilp](https://crates.io/crates/minilp) 0.2.2 that a gateway uses, the
+primal simplex from a feasible slack start, ported and proved to follow its written rules
+(document 01), step by step and bit by bit. It adds a step budget, a final check, and an audit
+sheet in whole numbers that bounds how much cheaper any other plan could be.
+
+| module | for whom |
+|---|---|
+| this one | programs that use minilp: the same [`Problem`], [`LinearExpr`], [`Solution`] |
+| [`sheet`] | whoever must say, after a bad night, whether a plan was the cheapest one |
+| [`raw`], [`triangle`] | firmware: the library's calls over lent memory, without allocation |
+
+# Example
+
+```
+use tevalumi::{Problem, OptimizationDirection, ComparisonOp};
+
+// Maximize an objective function x + 2 * y of two variables x >= 0 and 0 <= y <= 3
+let mut problem = Problem::new(OptimizationDirection::Maximize);
+let x = problem.add_var(1.0, (0.0, f64::INFINITY));
+let y = problem.add_var(2.0, (0.0, 3.0));
+
+// subject to constraints: x + y <= 4 and 2 * x + y >= 2.
+problem.add_constraint(&[(x, 1.0), (y, 1.0)], ComparisonOp::Le, 4.0);
+problem.add_constraint(&[(x, 2.0), (y, 1.0)], ComparisonOp::Ge, 2.0);
+
+// Optimal value is 7, achieved at x = 1 and y = 3.
+let solution = problem.solve().unwrap();
+assert_eq!(solution.objective(), 7.0);
+assert_eq!(solution[x], 1.0);
+assert_eq!(solution[y], 3.0);
+```
+
+# Coming from minilp
+
+Change `use minilp::…` to `use tevalumi::…`. What differs:
+
+| minilp 0.2.2 | here |
+|---|---|
+| any size | at most 128 variables, 64 constraints and 2,048 terms, else error 1 |
+| any start | each constraint must hold where the variables start (below), else error 7 |
+| runs until it is done | at most [`Problem::set_budget`] steps (10,000 unless set), else error 21 |
+| no check of the result | every value and constraint is checked within [`Problem::set_tolerance`] (1e-6 unless set), else error 24 |
+| refactors the basis | a store of 256 exchanges and 4,096 entries; when it is full, error 22 |
+| NaN and overflow go on | errors 2, 6 and 23 |
+| `Error::Infeasible`, `Error::Unbounded` | [`Error::status`] is one of [`Status`]; [`Status::Unbounded`] is 20; [`Status::CrossedBounds`] (4) and [`Status::FalseEmptyRow`] (5) are infeasible, [`Status::SlackOutside`] (7) may be |
+| `add_constraint` panics where a variable stands twice or is of a larger problem | [`Problem::solve`] gives error 3 and names the constraint |
+| `Solution::add_constraint`, `fix_var`, `unfix_var`, `add_gomory_cut`, `MpsFile` | left out; solve a new [`Problem`] |
+
+A variable starts at its fixed value; at 0 if it has no bounds; else at the bound that its
+objective coefficient prefers, or at its other bound if that one is infinite; at its lower bound,
+if there is one, where the coefficient is 0.
+
+# Errors
+
+Every solve answers; none panics, whatever it is given. An [`Error`] carries document 01's number,
+the place, and a sentence:
+
+```
+# use tevalumi::*;
+let mut problem = Problem::new(OptimizationDirection::Minimize);
+let _ = problem.add_var(1.0, (0.0, 9.0));
+let _ = problem.add_var(1.0, (3.0, 2.0));
+let error = problem.solve().unwrap_err();
+assert_eq!(error.number(), 4);
+assert_eq!(error.variable().map(|var| var.idx()), Some(1));
+assert_eq!(error.to_string(), "4: a lower bound is above its upper bound (variable 1)");
+```
+
+# What is proved and what is trusted
+
+Proved: every function of the static library meets its contract, for every input. The contracts
+say what document 01 says: which number is answered when, each step, each written cell.
+Trusted: the library's compiler, the C boundary and this crate around it. Its `unsafe` calls
+stand in one module of the source, `ffi`, with the reason for each.
+
+# Linking
+
+The static library `libtevalumi.a` is looked for in `target/staticlib` of the repository, where
+`rt staticlib tevalumi` writes it, or in the folder that the environment variable
+`TEVALUMI_LIB_DIR` names when the crate is built. It is code for x86-64 Linux.
+*/
+
+#![deny(unsafe_code)]
+#![deny(missing_debug_implementations)]
+#![warn(missing_docs)]
+
+mod ffi;
+mod problem;
+pub mod raw;
+pub mod sheet;
+pub mod triangle;
+
+pub use problem::{
+    ComparisonOp, Error, LinearExpr, LinearTerm, OptimizationDirection, Problem, Solution,
+    SolutionIter, Variable,
+};
+pub use raw::{Place, Status};
+
+/// README's Rust example, run with the other examples.
+#[cfg(doctest)]
+#[doc = include_str!("../../../README.md")]
+struct Readme;

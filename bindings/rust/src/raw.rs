@@ -1,0 +1,704 @@
+//! The library's own calls over memory that the caller lends: nothing here allocates.
+//!
+//! This is the level for firmware. A [`PlanRef`] borrows the plan's arrays, a [`Workspace`] is one
+//! block of fixed arrays that can stand in a `static`, and [`solve_into`] answers an [`Answer`].
+//! A caller with memory of its own layout lends a [`WorkspaceMut`] to [`solve_lent`]. The audit
+//! sheet's arrays are lent as a [`SheetMut`].
+//!
+//! Whatever is handed in is answered: a size over its limit or an array that is too short is
+//! answer 1 (11 for a sheet), never a panic. A refusal (1 to 7, 11 to 16) changes no lent cell.
+//! Lent arrays may be longer than needed; the cells past what is needed are neither read nor
+//! written.
+//!
+//! ```
+//! use tevalumi::raw::{solve_into, PlanRef, Status, Workspace};
+//!
+//! // Minimise -3 x0 - x1 with x0 >= 0, 0 <= x1 <= 2 and x0 + x1 <= 4.
+//! let plan = PlanRef {
+//!     columns: 2,
+//!     rows: 1,
+//!     entries: 2,
+//!     budget: 100,
+//!     tolerance: 1e-6,
+//!     costs: &[-3.0, -1.0],
+//!     lowers: &[0.0, 0.0],
+//!     uppers: &[f64::INFINITY, 2.0],
+//!     starts: &[0, 2],
+//!     cols: &[0, 1],
+//!     coeffs: &[1.0, 1.0],
+//!     ops: &[0],
+//!     rhs: &[4.0],
+//! };
+//! let mut work = Workspace::new();
+//! let mut values = [0.0; 3];
+//! let answer = solve_into(&plan, &mut work, &mut values);
+//! assert_eq!(answer.status, Status::Optimal);
+//! assert_eq!((answer.objective, answer.steps), (-12.0, 2));
+//! assert_eq!(values, [4.0, 0.0, 0.0]); // x0, x1, then the row's slack
+//! ```
+
+use crate::ffi;
+
+/// The limits of document 01, each named once.
+pub mod limits {
+    /// Columns (variables) of a plan or a sheet.
+    pub const COLUMNS: usize = 128;
+    /// Rows (constraints) of a plan or a sheet, empty ones counted.
+    pub const ROWS: usize = 64;
+    /// Stored entries of a plan, stored zeros counted.
+    pub const ENTRIES: usize = 2_048;
+    /// The largest step budget.
+    pub const BUDGET: usize = 10_000;
+    /// The largest tolerance of the final check; the smallest is 0.
+    pub const TOLERANCE: f64 = 1.0;
+    /// Columns of the eta store.
+    pub const ETA_COLUMNS: usize = 256;
+    /// Entries of the eta store.
+    pub const ETA_ENTRIES: usize = 4_096;
+    /// A sheet's coefficients, in size.
+    pub const SHEET_COEFFICIENT: i64 = 4_096;
+    /// A sheet's costs, in size.
+    pub const SHEET_COST: i64 = 1 << 20;
+    /// A sheet's right sides, in size.
+    pub const SHEET_RIGHT: i64 = 1 << 31;
+    /// A sheet's amounts and finite bounds, in size.
+    pub const SHEET_AMOUNT: i64 = 1 << 16;
+    /// A sheet's multipliers (in 1/1024), in size.
+    pub const SHEET_MULTIPLIER: i64 = 1 << 20;
+}
+
+/// The comparison codes of [`PlanRef::ops`] and [`SheetMut::ops`].
+pub mod ops {
+    /// At most the right side.
+    pub const LE: u8 = 0;
+    /// Equal to the right side.
+    pub const EQ: u8 = 1;
+    /// At least the right side.
+    pub const GE: u8 = 2;
+}
+
+/// What a solve ends with: document 01's numbers.
+///
+/// 1 to 7 are refusals: no lent cell has changed. 20 to 24 leave the values alone, and the
+/// workspace holds the state after the last whole step.
+#[derive(Clone, Copy, Debug, PartialEq, Eq, Hash)]
+pub enum Status {
+    /// 0: the plan is solved, the values are written.
+    Optimal = 0,
+    /// 1: a size or the budget passes its limit, a lent array is too short, or the row starts
+    /// don't begin at 0, fall, or don't end at the entry count.
+    BadSize = 1,
+    /// 2: NaN in the plan, an infinite cost, coefficient or right side, a lower bound of +inf or
+    /// an upper bound of -inf, a tolerance outside 0 to 1, or an unknown comparison.
+    BadNumber = 2,
+    /// 3: an entry's column is too large or doesn't rise within its row.
+    BadEntry = 3,
+    /// 4: a column's lower bound is above its upper bound.
+    CrossedBounds = 4,
+    /// 5: a row without entries is false.
+    FalseEmptyRow = 5,
+    /// 6: a start value, the objective's sum or a start norm isn't finite.
+    StartNotFinite = 6,
+    /// 7: a row's slack starts outside its bounds, so the slack start isn't feasible. The plan
+    /// may have a solution all the same.
+    SlackOutside = 7,
+    /// 20: the objective falls without end.
+    Unbounded = 20,
+    /// 21: the budget is spent and a column would still enter.
+    Spent = 21,
+    /// 22: the eta store has no room for the next column.
+    NoRoom = 22,
+    /// 23: a number of the step isn't finite.
+    NotFinite = 23,
+    /// 24: the final check rejects the values.
+    Rejected = 24,
+}
+
+impl Status {
+    /// Every status, in the order of its number.
+    pub const ALL: [Status; 13] = [
+        Status::Optimal,
+        Status::BadSize,
+        Status::BadNumber,
+        Status::BadEntry,
+        Status::CrossedBounds,
+        Status::FalseEmptyRow,
+        Status::StartNotFinite,
+        Status::SlackOutside,
+        Status::Unbounded,
+        Status::Spent,
+        Status::NoRoom,
+        Status::NotFinite,
+        Status::Rejected,
+    ];
+
+    /// Document 01's number.
+    pub const fn number(self) -> u8 {
+        self as u8
+    }
+
+    /// The status with this number, if there is one.
+    pub fn from_number(number: usize) -> Option<Status> {
+        Status::ALL
+            .into_iter()
+            .find(|status| usize::from(status.number()) == number)
+    }
+
+    /// Whether this is a refusal (1 to 7): nothing was solved and no lent cell has changed.
+    pub const fn is_refusal(self) -> bool {
+        matches!(self.number(), 1..=7)
+    }
+
+    /// A plain sentence, without its full stop.
+    pub const fn sentence(self) -> &'static str {
+        match self {
+            Status::Optimal => "optimal: no column would enter, and the final check accepts the values",
+            Status::BadSize => "a size is over its limit or an array is too short",
+            Status::BadNumber => "a number isn't allowed: NaN, an infinity where none may stand, a tolerance outside 0 to 1, or an unknown comparison",
+            Status::BadEntry => "a row names a column twice, out of order, or that isn't there",
+            Status::CrossedBounds => "a lower bound is above its upper bound",
+            Status::FalseEmptyRow => "a row without entries is false",
+            Status::StartNotFinite => "a number of the start isn't finite",
+            Status::SlackOutside => "a row isn't kept at the start, and this solver only begins at plans that keep every row",
+            Status::Unbounded => "unbounded: the cost falls without end",
+            Status::Spent => "the step budget is spent",
+            Status::NoRoom => "the eta store is full",
+            Status::NotFinite => "a number of a step isn't finite",
+            Status::Rejected => "the final check rejects the values",
+        }
+    }
+}
+
+/// Where a status arose.
+#[derive(Clone, Copy, Debug, PartialEq, Eq, Hash)]
+pub enum Place {
+    /// The status has no place.
+    Nowhere,
+    /// Status 3: the first bad entry, by its row and its place within that row, from 0.
+    Entry {
+        /// The plan's row.
+        row: usize,
+        /// The place within that row.
+        within: usize,
+    },
+    /// Status 4: the first column whose bounds cross.
+    Column(usize),
+    /// Status 5: the first false row.
+    Row(usize),
+    /// Status 24: the first rejected value. Columns come first, then the kept rows' slacks.
+    Value(usize),
+    /// Status 24: the first row that the values miss, counted among the kept rows.
+    KeptRow(usize),
+}
+
+/// What a solve answers.
+#[derive(Clone, Copy, Debug, PartialEq)]
+pub struct Answer {
+    /// How it ended.
+    pub status: Status,
+    /// Where, if the status has a place.
+    pub place: Place,
+    /// The running objective after the last whole step; 0.0 on a refusal.
+    pub objective: f64,
+    /// Whole steps taken; 0 on a refusal.
+    pub steps: usize,
+}
+
+impl Answer {
+    fn from_numbers(from: ffi::Answer) -> Answer {
+        let status = Status::from_number(from.status)
+            .expect("the library answers with one of document 01's numbers");
+        let place = match from.place {
+            1 => Place::Entry {
+                row: from.at,
+                within: from.within,
+            },
+            2 => Place::Column(from.at),
+            3 => Place::Row(from.at),
+            4 => Place::Value(from.at),
+            5 => Place::KeptRow(from.at),
+            _ => Place::Nowhere,
+        };
+        Answer {
+            status,
+            place,
+            objective: from.objective,
+            steps: from.steps,
+        }
+    }
+}
+
+/// A plan as it is lent: what the caller says of its sizes, and the arrays.
+///
+/// The plan is: minimise the sum of `costs[j] * x[j]` where `lowers[j] <= x[j] <= uppers[j]` and
+/// each row's sum compares with its right side. Row `i` has the entries from `starts[i]` to
+/// before `starts[i + 1]` of `cols` and `coeffs`; columns rise strictly within a row.
+#[derive(Clone, Copy, Debug)]
+pub struct PlanRef<'a> {
+    /// Columns: at most [`limits::COLUMNS`].
+    pub columns: usize,
+    /// Rows: at most [`limits::ROWS`].
+    pub rows: usize,
+    /// Entries: at most [`limits::ENTRIES`].
+    pub entries: usize,
+    /// The most steps to take: at most [`limits::BUDGET`].
+    pub budget: usize,
+    /// The final check's tolerance: 0 to 1.
+    pub tolerance: f64,
+    /// A cost for each column.
+    pub costs: &'a [f64],
+    /// A lower bound for each column, or `f64::NEG_INFINITY`.
+    pub lowers: &'a [f64],
+    /// An upper bound for each column, or `f64::INFINITY`.
+    pub uppers: &'a [f64],
+    /// Where each row's entries start, and at the end the entry count: `rows + 1` cells.
+    pub starts: &'a [usize],
+    /// The column of each entry.
+    pub cols: &'a [usize],
+    /// The coefficient of each entry.
+    pub coeffs: &'a [f64],
+    /// The comparison of each row, by [`ops`].
+    pub ops: &'a [u8],
+    /// The right side of each row.
+    pub rhs: &'a [f64],
+}
+
+/// The memory of a solve: one block of fixed arrays, room for every plan within the limits.
+///
+/// It is some 76 KB, and it can stand in a `static`:
+///
+/// ```
+/// use std::sync::Mutex;
+/// use tevalumi::raw::Workspace;
+///
+/// static WORK: Mutex<Workspace> = Mutex::new(Workspace::new());
+/// # assert!(WORK.lock().unwrap().counts[0] == 0);
+/// ```
+///
+/// After answers 0 and 20 to 24 it holds the state after the last whole step. The fields keep the
+/// names of minilp's solver.
+#[derive(Clone, Debug)]
+pub struct Workspace {
+    /// The plan's number of each kept row. A row without entries is dropped.
+    pub kept: [usize; limits::ROWS],
+    /// The basic variable of each kept row. Column `j` is variable `j`, the slack of kept row `k`
+    /// is variable `columns + k`.
+    pub basic_vars: [usize; limits::ROWS],
+    /// Their values.
+    pub basic_var_vals: [f64; limits::ROWS],
+    /// The non-basic variables.
+    pub nb_vars: [usize; limits::COLUMNS],
+    /// Their values.
+    pub nb_var_vals: [f64; limits::COLUMNS],
+    /// Their prices (reduced costs).
+    pub nb_var_obj_coeffs: [f64; limits::COLUMNS],
+    /// Their norms, by which the entering column is scored.
+    pub primal_edge_sq_norms: [f64; limits::COLUMNS],
+    /// Their flags: 1 at the lower bound, 2 at the upper bound, 3 at both.
+    pub nb_var_states: [u8; limits::COLUMNS],
+    /// Where each variable stands: below `columns` a non-basic place, from there on a kept row.
+    pub var_states: [usize; limits::COLUMNS + limits::ROWS],
+    /// The leaving row of each eta column.
+    pub eta_leaving: [usize; limits::ETA_COLUMNS],
+    /// Where each eta column starts, and at the end the number of eta entries.
+    pub eta_starts: [usize; limits::ETA_COLUMNS + 1],
+    /// The row of each eta entry.
+    pub eta_rows: [usize; limits::ETA_ENTRIES],
+    /// The coefficient of each eta entry.
+    pub eta_coeffs: [f64; limits::ETA_ENTRIES],
+    /// Kept rows, eta columns, eta entries, steps, and the status number of the last run.
+    pub counts: [usize; 5],
+    /// The running objective.
+    pub objective: [f64; 1],
+}
+
+impl Workspace {
+    /// A workspace with every cell 0.
+    pub const fn new() -> Workspace {
+        Workspace {
+            kept: [0; limits::ROWS],
+            basic_vars: [0; limits::ROWS],
+            basic_var_vals: [0.0; limits::ROWS],
+            nb_vars: [0; limits::COLUMNS],
+            nb_var_vals: [0.0; limits::COLUMNS],
+            nb_var_obj_coeffs: [0.0; limits::COLUMNS],
+            primal_edge_sq_norms: [0.0; limits::COLUMNS],
+            nb_var_states: [0; limits::COLUMNS],
+            var_states: [0; limits::COLUMNS + limits::ROWS],
+            eta_leaving: [0; limits::ETA_COLUMNS],
+            eta_starts: [0; limits::ETA_COLUMNS + 1],
+            eta_rows: [0; limits::ETA_ENTRIES],
+            eta_coeffs: [0.0; limits::ETA_ENTRIES],
+            counts: [0; 5],
+            objective: [0.0; 1],
+        }
+    }
+
+    /// The same memory as borrowed slices.
+    pub fn lend(&mut self) -> WorkspaceMut<'_> {
+        WorkspaceMut {
+            kept: &mut self.kept,
+            basic_vars: &mut self.basic_vars,
+            basic_var_vals: &mut self.basic_var_vals,
+            nb_vars: &mut self.nb_vars,
+            nb_var_vals: &mut self.nb_var_vals,
+            nb_var_obj_coeffs: &mut self.nb_var_obj_coeffs,
+            primal_edge_sq_norms: &mut self.primal_edge_sq_norms,
+            nb_var_states: &mut self.nb_var_states,
+            var_states: &mut self.var_states,
+            eta_leaving: &mut self.eta_leaving,
+            eta_starts: &mut self.eta_starts,
+            eta_rows: &mut self.eta_rows,
+            eta_coeffs: &mut self.eta_coeffs,
+            counts: &mut self.counts,
+            objective: &mut self.objective,
+        }
+    }
+
+    /// How many rows the last run kept.
+    pub const fn kept_rows(&self) -> usize {
+        self.counts[0]
+    }
+}
+
+impl Default for Workspace {
+    fn default() -> Workspace {
+        Workspace::new()
+    }
+}
+
+/// The memory of a solve as the caller lends it; the fields are those of [`Workspace`].
+///
+/// Needed are `rows` cells of `kept`, `basic_vars` and `basic_var_vals`; `columns` cells of the
+/// five `nb_…` and norm arrays; `columns + rows` of `var_states`; the full eta store (256 leaving
+/// rows, 257 starts, 4,096 rows, 4,096 coefficients); 5 counts and 1 objective. One cell less is
+/// answer 1.
+#[derive(Debug)]
+#[allow(missing_docs)] // The fields are Workspace's.
+pub struct WorkspaceMut<'a> {
+    pub kept: &'a mut [usize],
+    pub basic_vars: &'a mut [usize],
+    pub basic_var_vals: &'a mut [f64],
+    pub nb_vars: &'a mut [usize],
+    pub nb_var_vals: &'a mut [f64],
+    pub nb_var_obj_coeffs: &'a mut [f64],
+    pub primal_edge_sq_norms: &'a mut [f64],
+    pub nb_var_states: &'a mut [u8],
+    pub var_states: &'a mut [usize],
+    pub eta_leaving: &'a mut [usize],
+    pub eta_starts: &'a mut [usize],
+    pub eta_rows: &'a mut [usize],
+    pub eta_coeffs: &'a mut [f64],
+    pub counts: &'a mut [usize],
+    pub objective: &'a mut [f64],
+}
+
+/// Solves a plan in a [`Workspace`]. `values` needs `columns + rows` cells; on
+/// [`Status::Optimal`] the columns' values are written there, then the kept rows' slacks.
+pub fn solve_into(plan: &PlanRef<'_>, work: &mut Workspace, values: &mut [f64]) -> Answer {
+    solve_lent(plan, &mut work.lend(), values)
+}
+
+/// As [`solve_into`], with memory of the caller's own layout.
+pub fn solve_lent(plan: &PlanRef<'_>, work: &mut WorkspaceMut<'_>, values: &mut [f64]) -> Answer {
+    Answer::from_numbers(ffi::tevalumi_solve(
+        plan.columns,
+        plan.rows,
+        plan.entries,
+        plan.budget,
+        plan.tolerance,
+        plan.costs,
+        plan.lowers,
+        plan.uppers,
+        plan.starts,
+        plan.cols,
+        plan.coeffs,
+        plan.ops,
+        plan.rhs,
+        values,
+        work.kept,
+        work.basic_vars,
+        work.basic_var_vals,
+        work.nb_vars,
+        work.nb_var_vals,
+        work.nb_var_obj_coeffs,
+        work.primal_edge_sq_norms,
+        work.nb_var_states,
+        work.var_states,
+        work.eta_leaving,
+        work.eta_starts,
+        work.eta_rows,
+        work.eta_coeffs,
+        work.counts,
+        work.objective,
+    ))
+}
+
+/// Why a sheet's call was refused: document 01's numbers. A refused call changes nothing.
+#[derive(Clone, Copy, Debug, PartialEq, Eq, Hash)]
+pub enum Refusal {
+    /// 11: a size over its limit, an array that is too short, or an index outside the sheet.
+    BadSize = 11,
+    /// 12: a number over its limit, an unknown comparison or presence mark.
+    BadNumber = 12,
+    /// 13: a lower bound above its upper bound, both present.
+    CrossedBounds = 13,
+    /// 14: a number or mark of the sheet breaks its limit. A sheet that was opened and only
+    /// edited by these calls never gives it.
+    Damaged = 14,
+    /// 15: an edit kind that is kept for later (10 to 31).
+    KeptForLater = 15,
+    /// 16: an edit kind that isn't known (0, or 32 and up).
+    UnknownKind = 16,
+}
+
+impl Refusal {
+    /// Every refusal, in the order of its number.
+    pub const ALL: [Refusal; 6] = [
+        Refusal::BadSize,
+        Refusal::BadNumber,
+        Refusal::CrossedBounds,
+        Refusal::Damaged,
+        Refusal::KeptForLater,
+        Refusal::UnknownKind,
+    ];
+
+    /// Document 01's number.
+    pub const fn number(self) -> u8 {
+        self as u8
+    }
+
+    /// The refusal with this number, if there is one.
+    pub fn from_number(number: usize) -> Option<Refusal> {
+        Refusal::ALL
+            .into_iter()
+            .find(|refusal| usize::from(refusal.number()) == number)
+    }
+
+    /// A plain sentence, without its full stop.
+    pub const fn sentence(self) -> &'static str {
+        match self {
+            Refusal::BadSize => {
+                "a size is over its limit, an array is too short, or an index is outside the sheet"
+            }
+            Refusal::BadNumber => "a number is over the sheet's limit, or a mark isn't known",
+            Refusal::CrossedBounds => "a lower bound is above its upper bound",
+            Refusal::Damaged => "the sheet is damaged: a number or mark breaks its limit",
+            Refusal::KeptForLater => "this kind of edit is kept for later",
+            Refusal::UnknownKind => "there is no such kind of edit",
+        }
+    }
+
+    fn check(number: usize) -> Result<(), Refusal> {
+        if number == 0 {
+            return Ok(());
+        }
+        Err(Refusal::from_number(number)
+            .expect("the library answers with one of document 01's numbers"))
+    }
+}
+
+impl std::fmt::Display for Refusal {
+    fn fmt(&self, f: &mut std::fmt::Formatter<'_>) -> std::fmt::Result {
+        write!(f, "{}: {}", self.number(), self.sentence())
+    }
+}
+
+impl std::error::Error for Refusal {}
+
+/// What a sheet says of its plan.
+#[derive(Clone, Copy, Debug, PartialEq, Eq, Hash)]
+pub enum Verdict {
+    /// A row is broken or an amount is out of its bounds.
+    NotAPlan,
+    /// The amounts are a plan, but the multipliers give no floor: one has the wrong sign, or a
+    /// price needs a bound that is absent.
+    NoFloor,
+    /// The amounts are a plan, and no plan, whole or fractional, is cheaper by more than this
+    /// many 1/1024 of a cost unit. Never below 0 on a sheet that was opened and only edited by
+    /// these calls.
+    Gap(i64),
+}
+
+/// A sheet's arrays, lent to be opened and edited.
+///
+/// Needed are `rows * columns` coefficients, row by row; `columns` costs, bounds, marks, amounts
+/// and `d`; `rows` right sides, comparisons, multipliers and `r`; 1 cell of `c` and of `b`; 4
+/// counts.
+#[derive(Debug)]
+pub struct SheetMut<'a> {
+    /// Rows: at most [`limits::ROWS`].
+    pub rows: usize,
+    /// Columns: at most [`limits::COLUMNS`].
+    pub columns: usize,
+    /// Coefficients, row by row.
+    pub coefs: &'a mut [i64],
+    /// Costs.
+    pub costs: &'a mut [i64],
+    /// Lower bounds; 0 where absent.
+    pub lowers: &'a mut [i64],
+    /// Upper bounds; 0 where absent.
+    pub uppers: &'a mut [i64],
+    /// 1 where the lower bound is present, 0 where it is absent.
+    pub lower_marks: &'a mut [u8],
+    /// 1 where the upper bound is present, 0 where it is absent.
+    pub upper_marks: &'a mut [u8],
+    /// Right sides.
+    pub rights: &'a mut [i64],
+    /// Comparisons, by [`ops`].
+    pub ops: &'a [u8],
+    /// Amounts.
+    pub amounts: &'a mut [i64],
+    /// Multipliers, in 1/1024.
+    pub mults: &'a mut [i64],
+    /// Kept: each row's activity.
+    pub r: &'a mut [i64],
+    /// Kept: each column's price, in 1/1024.
+    pub d: &'a mut [i64],
+    /// Kept: the cost.
+    pub c: &'a mut [i64],
+    /// Kept: the floor, in 1/1024.
+    pub b: &'a mut [i64],
+    /// Kept: rows broken, amounts out of bounds, wrong signs, absent bounds that a price needs.
+    pub counts: &'a mut [i64],
+}
+
+/// A sheet's arrays, lent to be read; the fields are those of [`SheetMut`].
+#[derive(Clone, Copy, Debug)]
+#[allow(missing_docs)] // The fields are SheetMut's.
+pub struct SheetRef<'a> {
+    pub rows: usize,
+    pub columns: usize,
+    pub coefs: &'a [i64],
+    pub costs: &'a [i64],
+    pub lowers: &'a [i64],
+    pub uppers: &'a [i64],
+    pub lower_marks: &'a [u8],
+    pub upper_marks: &'a [u8],
+    pub rights: &'a [i64],
+    pub ops: &'a [u8],
+    pub amounts: &'a [i64],
+    pub mults: &'a [i64],
+    pub r: &'a [i64],
+    pub d: &'a [i64],
+    pub c: &'a [i64],
+    pub b: &'a [i64],
+    pub counts: &'a [i64],
+}
+
+impl SheetMut<'_> {
+    /// Opens the sheet: reckons its kept numbers from the plan, the amounts and the multipliers.
+    pub fn open(&mut self) -> Result<(), Refusal> {
+        Refusal::check(ffi::tevalumi_open(
+            self.rows,
+            self.columns,
+            self.coefs,
+            self.costs,
+            self.lowers,
+            self.uppers,
+            self.lower_marks,
+            self.upper_marks,
+            self.rights,
+            self.ops,
+            self.amounts,
+            self.mults,
+            self.r,
+            self.d,
+            self.c,
+            self.b,
+            self.counts,
+        ))
+    }
+
+    /// Edits the sheet by 01's kind number. Only the indices that the kind uses are looked at.
+    pub fn edit(
+        &mut self,
+        kind: usize,
+        row: usize,
+        column: usize,
+        number: i64,
+    ) -> Result<(), Refusal> {
+        Refusal::check(ffi::tevalumi_edit(
+            kind,
+            row,
+            column,
+            number,
+            self.rows,
+            self.columns,
+            self.coefs,
+            self.costs,
+            self.lowers,
+            self.uppers,
+            self.lower_marks,
+            self.upper_marks,
+            self.rights,
+            self.ops,
+            self.amounts,
+            self.mults,
+            self.r,
+            self.d,
+            self.c,
+            self.b,
+            self.counts,
+        ))
+    }
+
+    /// The verdict on the sheet as it stands.
+    pub fn verdict(&self) -> Result<Verdict, Refusal> {
+        self.borrow().verdict()
+    }
+
+    /// The same arrays, to be read.
+    pub fn borrow(&self) -> SheetRef<'_> {
+        SheetRef {
+            rows: self.rows,
+            columns: self.columns,
+            coefs: self.coefs,
+            costs: self.costs,
+            lowers: self.lowers,
+            uppers: self.uppers,
+            lower_marks: self.lower_marks,
+            upper_marks: self.upper_marks,
+            rights: self.rights,
+            ops: self.ops,
+            amounts: self.amounts,
+            mults: self.mults,
+            r: self.r,
+            d: self.d,
+            c: self.c,
+            b: self.b,
+            counts: self.counts,
+        }
+    }
+}
+
+impl SheetRef<'_> {
+    /// The verdict on the sheet as it stands.
+    pub fn verdict(&self) -> Result<Verdict, Refusal> {
+        let verdict = ffi::tevalumi_verdict(
+            self.rows,
+            self.columns,
+            self.coefs,
+            self.costs,
+            self.lowers,
+            self.uppers,
+            self.lower_marks,
+            self.upper_marks,
+            self.rights,
+            self.ops,
+            self.amounts,
+            self.mults,
+            self.r,
+            self.d,
+            self.c,
+            self.b,
+            self.counts,
+        );
+        Refusal::check(verdict.status)?;
+        Ok(match verdict.kind {
+            0 => Verdict::NotAPlan,
+            1 => Verdict::NoFloor,
+            _ => Verdict::Gap(verdict.value),
+        })
+    }
+}

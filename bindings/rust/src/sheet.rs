@@ -1,0 +1,384 @@
+//! The audit sheet: is this plan the cheapest one, or by how much could another be cheaper?
+//!
+//! A [`Sheet`] holds a plan in whole numbers, an amount for each column, and a multiplier for each
+//! row. From them it keeps what the plan costs and a floor under what any plan costs; the
+//! [`Verdict`] is the gap between the two. Doubles, rounding and the solver have no part in it: the
+//! amounts and multipliers may come from anywhere, and bad ones only give a larger gap or none.
+//!
+//! ```
+//! use tevalumi::sheet::{Edit, Figures, Sheet, Verdict};
+//! use tevalumi::ComparisonOp;
+//!
+//! // Minimise -3 x0 - x1 with x0 >= 0, 0 <= x1 <= 2 and x0 + x1 <= 4; is 4, 0 the cheapest?
+//! let mut sheet = Sheet::open(&Figures {
+//!     rows: 1,
+//!     columns: 2,
+//!     coefs: vec![1, 1],
+//!     costs: vec![-3, -1],
+//!     lowers: vec![Some(0), Some(0)],
+//!     uppers: vec![None, Some(2)],
+//!     rights: vec![4],
+//!     ops: vec![ComparisonOp::Le],
+//!     amounts: vec![4, 0],
+//!     mults: vec![-3 * 1024],
+//! })?;
+//! assert_eq!(sheet.verdict(), Verdict::Gap(0));
+//!
+//! // With one unit less of x0 the plan costs 3 more, and the sheet says so.
+//! sheet.edit(Edit::Amount { column: 0, to: 3 })?;
+//! assert_eq!(sheet.verdict(), Verdict::Gap(3 * 1024));
+//! assert_eq!(
+//!     sheet.verdict().to_string(),
+//!     "No plan, whole or fractional, is cheaper than this one by more than 3.0."
+//! );
+//!
+//! // Five units don't fit under the row.
+//! sheet.edit(Edit::Amount { column: 0, to: 5 })?;
+//! assert_eq!(sheet.verdict(), Verdict::NotAPlan);
+//! # Ok::<(), tevalumi::sheet::Refusal>(())
+//! ```
+//!
+//! Every sum is exact in 64 bits within the sheet's limits. An edit costs only what it touches, and
+//! a sheet after any edits equals the one that would be opened afresh: that is proved, not tested.
+
+use std::fmt;
+
+use crate::raw::{self, SheetMut, SheetRef};
+use crate::ComparisonOp;
+
+pub use crate::raw::{Refusal, Verdict};
+
+/// A count of 1/1024, as multipliers, prices, floors and gaps are, shown as the decimal that it is.
+///
+/// ```
+/// use tevalumi::sheet::Parts;
+///
+/// assert_eq!(Parts(3072).to_string(), "3.0");
+/// assert_eq!(Parts(-1536).to_string(), "-1.5");
+/// assert_eq!(Parts(1).to_string(), "0.0009765625");
+/// ```
+#[derive(Clone, Copy, Debug, PartialEq, Eq, PartialOrd, Ord, Hash)]
+pub struct Parts(pub i64);
+
+impl fmt::Display for Parts {
+    fn fmt(&self, f: &mut fmt::Formatter<'_>) -> fmt::Result {
+        // 1/1024 is 9,765,625 of 10^-10, so ten digits say all.
+        let (whole, rest) = (self.0.unsigned_abs() / 1024, self.0.unsigned_abs() % 1024);
+        let digits = format!("{:010}", rest * 9_765_625);
+        let digits = digits.trim_end_matches('0');
+        let digits = if digits.is_empty() { "0" } else { digits };
+        f.pad_integral(self.0 >= 0, "", &format!("{whole}.{digits}"))
+    }
+}
+
+impl fmt::Display for Verdict {
+    fn fmt(&self, f: &mut fmt::Formatter<'_>) -> fmt::Result {
+        match self {
+            Verdict::NotAPlan => f.write_str(
+                "These amounts are no plan: a row is broken or an amount is out of its bounds.",
+            ),
+            Verdict::NoFloor => f.write_str(
+                "These amounts are a plan, but the multipliers say nothing about cheaper ones.",
+            ),
+            Verdict::Gap(gap) => write!(
+                f,
+                "No plan, whole or fractional, is cheaper than this one by more than {}.",
+                Parts(*gap)
+            ),
+        }
+    }
+}
+
+/// What a sheet is opened with: a plan in whole numbers, amounts, and multipliers.
+#[derive(Clone, Debug, Default, PartialEq, Eq)]
+pub struct Figures {
+    /// Rows: at most 64.
+    pub rows: usize,
+    /// Columns: at most 128.
+    pub columns: usize,
+    /// Coefficients, row by row: `rows * columns` of them, each at most 4,096 in size.
+    pub coefs: Vec<i64>,
+    /// A cost for each column, at most 2^20 in size.
+    pub costs: Vec<i64>,
+    /// A lower bound for each column, at most 2^16 in size, or none.
+    pub lowers: Vec<Option<i64>>,
+    /// An upper bound for each column, at most 2^16 in size, or none.
+    pub uppers: Vec<Option<i64>>,
+    /// A right side for each row, at most 2^31 in size.
+    pub rights: Vec<i64>,
+    /// A comparison for each row.
+    pub ops: Vec<ComparisonOp>,
+    /// An amount for each column, at most 2^16 in size.
+    pub amounts: Vec<i64>,
+    /// A multiplier for each row, in 1/1024, at most 2^20 in size.
+    pub mults: Vec<i64>,
+}
+
+/// One change of one number of a sheet.
+#[derive(Clone, Copy, Debug, PartialEq, Eq, Hash)]
+#[allow(missing_docs)] // The fields are what their names say.
+pub enum Edit {
+    /// Kind 1: a column's amount.
+    Amount { column: usize, to: i64 },
+    /// Kind 2: a column's cost.
+    Cost { column: usize, to: i64 },
+    /// Kind 3: a column's lower bound, which is present afterwards.
+    Lower { column: usize, to: i64 },
+    /// Kind 4: a column's upper bound, which is present afterwards.
+    Upper { column: usize, to: i64 },
+    /// Kind 5: a row's right side.
+    Right { row: usize, to: i64 },
+    /// Kind 6: a coefficient.
+    Coefficient { row: usize, column: usize, to: i64 },
+    /// Kind 7: a row's multiplier, in 1/1024.
+    Multiplier { row: usize, to: i64 },
+    /// Kind 8: drops a column's lower bound; accepted where it is absent already.
+    DropLower { column: usize },
+    /// Kind 9: drops a column's upper bound; accepted where it is absent already.
+    DropUpper { column: usize },
+}
+
+impl Edit {
+    /// Document 01's kind number.
+    pub const fn kind(self) -> usize {
+        self.numbers().0
+    }
+
+    /// Kind, row, column and number, as they go over.
+    const fn numbers(self) -> (usize, usize, usize, i64) {
+        match self {
+            Edit::Amount { column, to } => (1, 0, column, to),
+            Edit::Cost { column, to } => (2, 0, column, to),
+            Edit::Lower { column, to } => (3, 0, column, to),
+            Edit::Upper { column, to } => (4, 0, column, to),
+            Edit::Right { row, to } => (5, row, 0, to),
+            Edit::Coefficient { row, column, to } => (6, row, column, to),
+            Edit::Multiplier { row, to } => (7, row, 0, to),
+            Edit::DropLower { column } => (8, 0, column, 0),
+            Edit::DropUpper { column } => (9, 0, column, 0),
+        }
+    }
+}
+
+/// An open sheet. It owns its numbers, so only [`edit`](Sheet::edit) changes them.
+#[derive(Clone, Debug, PartialEq, Eq)]
+pub struct Sheet {
+    rows: usize,
+    columns: usize,
+    coefs: Vec<i64>,
+    costs: Vec<i64>,
+    lowers: Vec<i64>,
+    uppers: Vec<i64>,
+    lower_marks: Vec<u8>,
+    upper_marks: Vec<u8>,
+    rights: Vec<i64>,
+    ops: Vec<u8>,
+    amounts: Vec<i64>,
+    mults: Vec<i64>,
+    r: Vec<i64>,
+    d: Vec<i64>,
+    c: [i64; 1],
+    b: [i64; 1],
+    counts: [i64; 4],
+}
+
+impl Sheet {
+    /// Opens a sheet.
+    ///
+    /// # Errors
+    ///
+    /// [`Refusal::BadSize`] (11), [`Refusal::BadNumber`] (12) or [`Refusal::CrossedBounds`] (13),
+    /// the lowest that applies.
+    pub fn open(figures: &Figures) -> Result<Sheet, Refusal> {
+        let number = |bounds: &[Option<i64>]| bounds.iter().map(|b| b.unwrap_or(0)).collect();
+        let mark = |bounds: &[Option<i64>]| bounds.iter().map(|b| b.is_some().into()).collect();
+        let mut sheet = Sheet {
+            rows: figures.rows,
+            columns: figures.columns,
+            coefs: figures.coefs.clone(),
+            costs: figures.costs.clone(),
+            lowers: number(&figures.lowers),
+            uppers: number(&figures.uppers),
+            lower_marks: mark(&figures.lowers),
+            upper_marks: mark(&figures.uppers),
+            rights: figures.rights.clone(),
+            ops: figures.ops.iter().map(|op| op.code()).collect(),
+            amounts: figures.amounts.clone(),
+            mults: figures.mults.clone(),
+            // No larger than an accepted sheet needs, whatever is said.
+            r: vec![0; figures.rows.min(raw::limits::ROWS)],
+            d: vec![0; figures.columns.min(raw::limits::COLUMNS)],
+            c: [0],
+            b: [0],
+            counts: [0; 4],
+        };
+        sheet.lend().open()?;
+        Ok(sheet)
+    }
+
+    /// Changes one number, and with it only the kept numbers that depend on it.
+    ///
+    /// # Errors
+    ///
+    /// [`Refusal::BadSize`] (11) for an index outside the sheet, [`Refusal::BadNumber`] (12) for a
+    /// number over its limit, [`Refusal::CrossedBounds`] (13) where two present bounds would cross.
+    /// A refused edit changes nothing.
+    pub fn edit(&mut self, edit: Edit) -> Result<(), Refusal> {
+        let (kind, row, column, number) = edit.numbers();
+        self.lend().edit(kind, row, column, number)
+    }
+
+    /// What the sheet says of its plan.
+    ///
+    /// No panic can be reached: an opened sheet that was only edited by these calls is true, and a
+    /// true sheet is never refused a verdict.
+    pub fn verdict(&self) -> Verdict {
+        self.lent()
+            .verdict()
+            .expect("an opened sheet that was only edited is never refused a verdict")
+    }
+
+    fn lend(&mut self) -> SheetMut<'_> {
+        SheetMut {
+            rows: self.rows,
+            columns: self.columns,
+            coefs: &mut self.coefs,
+            costs: &mut self.costs,
+            lowers: &mut self.lowers,
+            uppers: &mut self.uppers,
+            lower_marks: &mut self.lower_marks,
+            upper_marks: &mut self.upper_marks,
+            rights: &mut self.rights,
+            ops: &self.ops,
+            amounts: &mut self.amounts,
+            mults: &mut self.mults,
+            r: &mut self.r,
+            d: &mut self.d,
+            c: &mut self.c,
+            b: &mut self.b,
+            counts: &mut self.counts,
+        }
+    }
+
+    fn lent(&self) -> SheetRef<'_> {
+        SheetRef {
+            rows: self.rows,
+            columns: self.columns,
+            coefs: &self.coefs,
+            costs: &self.costs,
+            lowers: &self.lowers,
+            uppers: &self.uppers,
+            lower_marks: &self.lower_marks,
+            upper_marks: &self.upper_marks,
+            rights: &self.rights,
+            ops: &self.ops,
+            amounts: &self.amounts,
+            mults: &self.mults,
+            r: &self.r,
+            d: &self.d,
+            c: &self.c,
+            b: &self.b,
+            counts: &self.counts,
+        }
+    }
+}
+
+/// The sheet's numbers, for tables. Rows and columns count from 0; one that the sheet doesn't have
+/// panics, as an index of a slice does.
+impl Sheet {
+    /// Rows.
+    pub fn rows(&self) -> usize {
+        self.rows
+    }
+
+    /// Columns.
+    pub fn columns(&self) -> usize {
+        self.columns
+    }
+
+    /// The coefficient of a row and a column.
+    pub fn coefficient(&self, row: usize, column: usize) -> i64 {
+        assert!(row < self.rows && column < self.columns);
+        self.coefs[row * self.columns + column]
+    }
+
+    /// A column's cost.
+    pub fn cost_of(&self, column: usize) -> i64 {
+        self.costs[column]
+    }
+
+    /// A column's lower bound.
+    pub fn lower(&self, column: usize) -> Option<i64> {
+        (self.lower_marks[column] == 1).then_some(self.lowers[column])
+    }
+
+    /// A column's upper bound.
+    pub fn upper(&self, column: usize) -> Option<i64> {
+        (self.upper_marks[column] == 1).then_some(self.uppers[column])
+    }
+
+    /// A row's right side.
+    pub fn right(&self, row: usize) -> i64 {
+        self.rights[row]
+    }
+
+    /// A row's comparison.
+    pub fn op(&self, row: usize) -> ComparisonOp {
+        match self.ops[row] {
+            raw::ops::LE => ComparisonOp::Le,
+            raw::ops::EQ => ComparisonOp::Eq,
+            _ => ComparisonOp::Ge,
+        }
+    }
+
+    /// A column's amount.
+    pub fn amount(&self, column: usize) -> i64 {
+        self.amounts[column]
+    }
+
+    /// A row's multiplier Y, in 1/1024.
+    pub fn multiplier(&self, row: usize) -> i64 {
+        self.mults[row]
+    }
+
+    /// A row's activity R: the sum of coefficient times amount.
+    pub fn activity(&self, row: usize) -> i64 {
+        self.r[row]
+    }
+
+    /// A column's price D, in 1/1024: 1024 times its cost, less the sum of coefficient times
+    /// multiplier.
+    pub fn price(&self, column: usize) -> i64 {
+        self.d[column]
+    }
+
+    /// The cost C: the sum of cost times amount.
+    pub fn cost(&self) -> i64 {
+        self.c[0]
+    }
+
+    /// The floor B, in 1/1024. It bounds the cost of other plans only where the verdict is a gap.
+    pub fn floor(&self) -> i64 {
+        self.b[0]
+    }
+
+    /// Rows whose activity breaks their comparison.
+    pub fn rows_broken(&self) -> usize {
+        self.counts[0] as usize
+    }
+
+    /// Amounts that are out of their bounds.
+    pub fn amounts_out(&self) -> usize {
+        self.counts[1] as usize
+    }
+
+    /// Multipliers of the wrong sign: above 0 for "at most", below 0 for "at least".
+    pub fn wrong_signs(&self) -> usize {
+        self.counts[2] as usize
+    }
+
+    /// Absent bounds that a price needs.
+    pub fn absent_bounds(&self) -> usize {
+        self.counts[3] as usize
+    }
+}

@@ -1,0 +1,610 @@
+//! Every answer of the solver, through the problem and through the raw call.
+
+mod common;
+
+use common::Rng;
+use std::collections::BTreeSet;
+use tevalumi::raw::{limits, solve_into, solve_lent, PlanRef, Workspace};
+use tevalumi::{
+    ComparisonOp, Error, LinearExpr, OptimizationDirection, Place, Problem, Status, Variable,
+};
+
+const INF: f64 = f64::INFINITY;
+const LE: ComparisonOp = ComparisonOp::Le;
+const EQ: ComparisonOp = ComparisonOp::Eq;
+const GE: ComparisonOp = ComparisonOp::Ge;
+
+fn minimise() -> Problem {
+    Problem::new(OptimizationDirection::Minimize)
+}
+
+/// One column and rows over it.
+fn one_column(cost: f64, bounds: (f64, f64), rows: &[(f64, ComparisonOp, f64)]) -> Problem {
+    let mut problem = minimise();
+    let x = problem.add_var(cost, bounds);
+    for &(coeff, op, rhs) in rows {
+        problem.add_constraint([(x, coeff)], op, rhs);
+    }
+    problem
+}
+
+fn error(problem: &Problem) -> Error {
+    problem.solve().unwrap_err()
+}
+
+/// Many rows and many steps: each exchange adds up to 64 entries to the store.
+fn crowded() -> Problem {
+    let mut rng = Rng(1);
+    let mut problem = minimise();
+    let vars: Vec<Variable> = (0..100)
+        .map(|_| problem.add_var(rng.between(-20, -1) as f64, (0.0, INF)))
+        .collect();
+    for _ in 0..limits::ROWS {
+        let mut expr = LinearExpr::empty();
+        for &var in &vars {
+            if rng.below(5) == 0 {
+                expr.add(var, rng.between(-6, 9) as f64 + rng.unit());
+            }
+        }
+        problem.add_constraint(expr, LE, rng.between(100, 500) as f64);
+    }
+    problem
+}
+
+/// x <= 1 and 1000 x <= 1000.000001: the second is met, and the first is missed by a billionth.
+fn nearly(tolerance: f64) -> Problem {
+    let rows = [(1.0, LE, 1.0), (1000.0, LE, 1000.000001)];
+    let mut problem = one_column(-1.0, (0.0, INF), &rows);
+    problem.set_tolerance(tolerance);
+    problem
+}
+
+/// Tenths: a row is missed by the last digit of its sum.
+fn rounded() -> Problem {
+    let mut problem = minimise();
+    let x = problem.add_var(-1.0, (0.0, INF));
+    let y = problem.add_var(-1.0, (0.0, INF));
+    problem.add_constraint([(x, 0.1), (y, 0.4)], LE, 0.4);
+    problem.add_constraint([(x, 0.6), (y, 0.1)], LE, 0.8);
+    problem.set_tolerance(0.0);
+    problem
+}
+
+/// A problem for each number.
+fn reaching(status: Status) -> Problem {
+    let n1 = || one_column(-1.0, (0.0, INF), &[(1.0, LE, 4.0)]);
+    match status {
+        Status::Optimal => n1(),
+        Status::BadSize => {
+            let mut problem = n1();
+            problem.set_budget(limits::BUDGET + 1);
+            problem
+        }
+        Status::BadNumber => one_column(f64::NAN, (0.0, INF), &[]),
+        Status::BadEntry => {
+            let mut problem = minimise();
+            let x = problem.add_var(1.0, (0.0, 1.0));
+            let y = problem.add_var(1.0, (0.0, 1.0));
+            problem.add_constraint([(x, 1.0)], LE, 1.0);
+            problem.add_constraint([(y, 1.0), (x, 1.0), (y, 2.0)], LE, 1.0);
+            problem
+        }
+        Status::CrossedBounds => one_column(1.0, (3.0, 2.0), &[]),
+        Status::FalseEmptyRow => {
+            let mut problem = n1();
+            problem.add_constraint(LinearExpr::empty(), EQ, 0.0);
+            problem.add_constraint(LinearExpr::empty(), LE, -1.0);
+            problem
+        }
+        Status::StartNotFinite => one_column(0.0, (1e200, 1e200), &[(1e200, LE, 0.0)]),
+        Status::SlackOutside => one_column(1.0, (0.0, INF), &[(1.0, GE, 1.0)]),
+        Status::Unbounded => one_column(-1.0, (0.0, INF), &[(-1.0, LE, 4.0)]),
+        Status::Spent => {
+            let mut problem = n1();
+            problem.set_budget(0);
+            problem
+        }
+        Status::NoRoom => crowded(),
+        Status::NotFinite => one_column(-1e308, (0.0, INF), &[(1.0, LE, 100.0)]),
+        Status::Rejected => nearly(0.0),
+    }
+}
+
+#[test]
+fn every_number_is_reached_by_a_problem() {
+    for status in Status::ALL {
+        let problem = reaching(status);
+        match problem.solve() {
+            Ok(_) => assert_eq!(status, Status::Optimal),
+            Err(error) => {
+                assert_eq!(error.status(), status, "{error}");
+                assert_eq!(error.number(), status.number());
+                assert!(error
+                    .to_string()
+                    .starts_with(&format!("{}: ", status.number())));
+                assert!(!status.is_refusal() || error.steps() == 0);
+                let _: &dyn std::error::Error = &error;
+            }
+        }
+    }
+}
+
+#[test]
+fn every_number_is_reached_by_the_raw_call() {
+    let mut work = Workspace::new();
+    for status in Status::ALL {
+        let problem = reaching(status);
+        let plan = problem.plan();
+        let mut values = [7.5; limits::COLUMNS + limits::ROWS];
+        let answer = solve_into(&plan, &mut work, &mut values);
+        assert_eq!(answer.status, status);
+        assert_eq!(Status::from_number(status.number().into()), Some(status));
+        if status != Status::Optimal {
+            assert!(values.iter().all(|&value| value == 7.5));
+        }
+        if status.is_refusal() {
+            assert_eq!((answer.objective.to_bits(), answer.steps), (0, 0));
+        } else {
+            assert_eq!(work.counts[3], answer.steps);
+            assert_eq!(work.counts[4], usize::from(status.number()));
+            assert_eq!(work.objective[0].to_bits(), answer.objective.to_bits());
+        }
+    }
+}
+
+#[test]
+fn numbers_and_sentences_are_told_apart() {
+    let numbers: Vec<u8> = Status::ALL.iter().map(|status| status.number()).collect();
+    assert_eq!(numbers, [0, 1, 2, 3, 4, 5, 6, 7, 20, 21, 22, 23, 24]);
+    let sentences: BTreeSet<&str> = Status::ALL.iter().map(|status| status.sentence()).collect();
+    assert_eq!(sentences.len(), Status::ALL.len());
+    for number in (8..20).chain(25..40) {
+        assert_eq!(Status::from_number(number), None);
+    }
+}
+
+#[test]
+fn each_limit_is_named() {
+    let mut problem = minimise();
+    let vars: Vec<Variable> = (0..128).map(|_| problem.add_var(0.0, (0.0, 1.0))).collect();
+    assert!(problem.solve().is_ok());
+    let _ = problem.add_var(0.0, (0.0, 1.0));
+    assert_eq!(
+        error(&problem).to_string(),
+        "1: 129 variables are too many, at most 128 are allowed"
+    );
+
+    let mut problem = minimise();
+    for _ in 0..64 {
+        problem.add_constraint(LinearExpr::empty(), LE, 0.0);
+    }
+    assert!(problem.solve().is_ok());
+    problem.add_constraint(LinearExpr::empty(), LE, 0.0);
+    assert_eq!(
+        error(&problem).to_string(),
+        "1: 65 constraints are too many, at most 64 are allowed"
+    );
+
+    let mut problem = minimise();
+    for _ in &vars {
+        let _ = problem.add_var(0.0, (0.0, 1.0));
+    }
+    for _ in 0..16 {
+        problem.add_constraint(vars.iter().map(|&var| (var, 1.0)), LE, 1.0);
+    }
+    assert!(problem.solve().is_ok());
+    problem.add_constraint([(vars[0], 1.0)], LE, 1.0);
+    assert_eq!(
+        error(&problem).to_string(),
+        "1: 2049 terms are too many, at most 2048 are allowed"
+    );
+
+    assert_eq!(
+        error(&reaching(Status::BadSize)).to_string(),
+        "1: 10001 steps of budget are too many, at most 10000 are allowed"
+    );
+
+    // Far over every limit.
+    let mut problem = minimise();
+    for _ in 0..1_000 {
+        let x = problem.add_var(1.0, (0.0, 1.0));
+        problem.add_constraint([(x, 1.0), (x, f64::NAN)], GE, INF);
+    }
+    assert_eq!(error(&problem).status(), Status::BadSize);
+}
+
+#[test]
+fn every_bad_number_is_2() {
+    for cost in [f64::NAN, INF, -INF] {
+        assert_eq!(error(&one_column(cost, (0.0, 1.0), &[])).number(), 2);
+    }
+    for bounds in [(f64::NAN, 1.0), (0.0, f64::NAN), (INF, INF), (-INF, -INF)] {
+        assert_eq!(error(&one_column(1.0, bounds, &[])).number(), 2);
+    }
+    for bad in [f64::NAN, INF, -INF] {
+        let row = one_column(1.0, (0.0, 1.0), &[(bad, LE, 1.0)]);
+        assert_eq!(error(&row).number(), 2);
+        let row = one_column(1.0, (0.0, 1.0), &[(1.0, LE, bad)]);
+        assert_eq!(error(&row).number(), 2);
+    }
+    for tolerance in [f64::NAN, -1e-300, 1.0000000000000002, INF] {
+        let mut problem = one_column(1.0, (0.0, 1.0), &[]);
+        problem.set_tolerance(tolerance);
+        assert_eq!(error(&problem).number(), 2);
+    }
+    for tolerance in [0.0, -0.0, 1.0] {
+        let mut problem = one_column(1.0, (0.0, 1.0), &[]);
+        problem.set_tolerance(tolerance);
+        assert!(problem.solve().is_ok());
+    }
+}
+
+#[test]
+fn places_are_said_in_the_callers_numbers() {
+    // The terms were written y, x, y; sorted, the second y stands at place 2.
+    let repeated = error(&reaching(Status::BadEntry));
+    assert_eq!(repeated.place(), Place::Entry { row: 1, within: 2 });
+    assert_eq!(repeated.constraint(), Some(1));
+    assert_eq!(repeated.variable().map(|var| var.idx()), Some(1));
+
+    // A variable of a larger problem.
+    let mut larger = minimise();
+    let strangers = [(); 3].map(|()| larger.add_var(0.0, (0.0, 1.0)));
+    let mut problem = minimise();
+    let x = problem.add_var(0.0, (0.0, 1.0));
+    problem.add_constraint([(strangers[2], 1.0), (x, 1.0)], LE, 1.0);
+    let stranger = error(&problem);
+    assert_eq!(stranger.place(), Place::Entry { row: 0, within: 1 });
+    assert_eq!(stranger.variable(), Some(strangers[2]));
+
+    let crossed = error(&reaching(Status::CrossedBounds));
+    assert_eq!(crossed.place(), Place::Column(0));
+    assert_eq!(crossed.variable().map(|var| var.idx()), Some(0));
+    assert_eq!(crossed.constraint(), None);
+
+    let empty = error(&reaching(Status::FalseEmptyRow));
+    assert_eq!(empty.place(), Place::Row(2));
+    assert_eq!((empty.constraint(), empty.variable()), (Some(2), None));
+    assert_eq!(
+        empty.to_string(),
+        "5: a row without entries is false (constraint 2)"
+    );
+
+    let outside = error(&reaching(Status::SlackOutside));
+    assert_eq!(outside.place(), Place::Nowhere);
+    assert_eq!((outside.constraint(), outside.variable()), (None, None));
+}
+
+#[test]
+fn the_final_check_names_values_slacks_and_rows() {
+    // The slack of constraint 0 is below 0 by a billionth.
+    assert!(nearly(1e-6).solve().is_ok());
+    let slack = error(&nearly(0.0));
+    assert_eq!(slack.place(), Place::Value(1));
+    assert_eq!((slack.constraint(), slack.variable()), (Some(0), None));
+    assert_eq!(slack.steps(), 1);
+
+    // Behind a dropped row, the same place is constraint 1.
+    let mut behind = minimise();
+    let x = behind.add_var(-1.0, (0.0, INF));
+    behind.add_constraint(LinearExpr::empty(), EQ, 0.0);
+    behind.add_constraint([(x, 1.0)], LE, 1.0);
+    behind.add_constraint([(x, 1000.0)], LE, 1000.000001);
+    behind.set_tolerance(0.0);
+    let slack = error(&behind);
+    assert_eq!(slack.place(), Place::Value(1));
+    assert_eq!(slack.constraint(), Some(1));
+    assert_eq!(
+        slack.to_string(),
+        "24: the final check rejects the values (constraint 1)"
+    );
+
+    // A column below its own lower bound: x enters first, then y drives it out by a billionth.
+    let mut past = minimise();
+    let x = past.add_var(-1.0, (0.0, INF));
+    let y = past.add_var(-3.0, (0.0, INF));
+    past.add_constraint([(x, 1.0), (y, 1.0)], LE, 1.0);
+    past.add_constraint([(y, 1000.0)], LE, 1000.000001);
+    past.set_tolerance(0.0);
+    let value = error(&past);
+    assert_eq!(value.place(), Place::Value(0));
+    assert_eq!((value.constraint(), value.variable()), (None, Some(x)));
+
+    let row = error(&rounded());
+    assert_eq!(row.place(), Place::KeptRow(1));
+    assert_eq!((row.constraint(), row.variable()), (Some(1), None));
+}
+
+#[test]
+fn the_night_cases() {
+    let n1 = one_column(-1.0, (0.0, INF), &[(1.0, LE, 4.0)]);
+    let solution = n1.solve().unwrap();
+    assert_eq!((solution.objective(), solution.steps()), (-4.0, 1));
+    assert_eq!(solution.slack(0), Some(0.0));
+
+    let n2 = || {
+        let mut problem = minimise();
+        let x = problem.add_var(-3.0, (0.0, INF));
+        let y = problem.add_var(-1.0, (0.0, 2.0));
+        problem.add_constraint([(x, 1.0), (y, 1.0)], LE, 4.0);
+        problem
+    };
+    let solution = n2().solve().unwrap();
+    assert_eq!((solution.objective(), solution.steps()), (-12.0, 2));
+    assert!(solution.iter().map(|(_, &value)| value).eq([4.0, 0.0]));
+    let mut spent = n2();
+    spent.set_budget(1);
+    let spent = error(&spent);
+    assert_eq!((spent.number(), spent.steps()), (21, 1));
+    assert_eq!(spent.objective(), -8.0);
+
+    assert_eq!(error(&reaching(Status::Unbounded)).steps(), 0);
+    let n4 = one_column(1.0, (0.0, INF), &[(1.0, GE, 0.0)]);
+    assert_eq!(n4.solve().unwrap().objective(), 0.0);
+
+    let fixed = one_column(1.0, (3.0, 3.0), &[]);
+    assert_eq!(fixed.solve().unwrap().objective(), 3.0);
+}
+
+#[test]
+fn maximising_negates() {
+    let mut problem = Problem::new(OptimizationDirection::Maximize);
+    let x = problem.add_var(3.0, (0.0, INF));
+    let y = problem.add_var(1.0, (0.0, 2.0));
+    problem.add_constraint([(x, 1.0), (y, 1.0)], LE, 4.0);
+    assert_eq!(problem.plan().costs, [-3.0, -1.0]);
+    let solution = problem.solve().unwrap();
+    assert_eq!(solution.objective(), 12.0);
+    // One more on the right side brings 3 more; each unit of y loses 2.
+    assert_eq!(solution.multiplier(0), 3.0);
+    assert_eq!(solution.price(y), -2.0);
+    assert_eq!(solution.price(x), 0.0);
+
+    let mut spent = problem.clone();
+    spent.set_budget(1);
+    assert_eq!(error(&spent).objective(), 8.0);
+}
+
+/// Prices are costs less the multipliers' sums, and the objective is what the multipliers make of
+/// the right sides and the prices of the bounds.
+#[test]
+fn prices_and_multipliers_belong_together() {
+    let mut rng = Rng(2);
+    let mut work = Workspace::new();
+    let mut solved = 0;
+    for _ in 0..400 {
+        let maximise = rng.below(2) == 0;
+        let mut problem = Problem::new(match maximise {
+            true => OptimizationDirection::Maximize,
+            false => OptimizationDirection::Minimize,
+        });
+        let columns = rng.between(1, 12) as usize;
+        let costs: Vec<f64> = (0..columns).map(|_| rng.between(-9, 9) as f64).collect();
+        let vars: Vec<Variable> = costs
+            .iter()
+            .map(|&cost| problem.add_var(cost, (0.0, [INF, INF, 5.0][rng.below(3)])))
+            .collect();
+        let mut rows = vec![];
+        for _ in 0..rng.between(1, 10) {
+            let coeffs: Vec<f64> = (0..columns).map(|_| rng.between(-2, 6) as f64).collect();
+            let rhs = rng.between(0, 50) as f64;
+            let terms = vars.iter().copied().zip(coeffs.iter().copied());
+            problem.add_constraint(terms, LE, rhs);
+            rows.push((coeffs, rhs));
+        }
+        let Ok(solution) = problem.solve_in(&mut work) else {
+            continue;
+        };
+        solved += 1;
+        let close = |a: f64, b: f64| (a - b).abs() < 1e-6;
+        let mut dual = 0.0;
+        for (row, (coeffs, rhs)) in rows.iter().enumerate() {
+            let sum: f64 = vars.iter().zip(coeffs).map(|(&v, c)| c * solution[v]).sum();
+            assert!(close(solution.slack(row).unwrap(), rhs - sum));
+            dual += solution.multiplier(row) * rhs;
+        }
+        for (col, &var) in vars.iter().enumerate() {
+            let sum: f64 = rows
+                .iter()
+                .enumerate()
+                .map(|(row, (coeffs, _))| coeffs[col] * solution.multiplier(row))
+                .sum();
+            assert!(close(solution.price(var), costs[col] - sum));
+            dual += solution.price(var) * solution[var];
+        }
+        assert!(close(dual, solution.objective()));
+    }
+    assert!(solved > 100, "{solved}");
+}
+
+/// The same plan with one array a cell too short, or with a cell more than needed.
+#[test]
+fn a_short_array_is_1_and_a_long_one_is_fine() {
+    let problem = reaching(Status::Optimal);
+    let plan = problem.plan();
+    let mut work = Workspace::new();
+    let mut values = [7.5; 3];
+    let answer = solve_into(&plan, &mut work, &mut values);
+    assert_eq!(answer.status, Status::Optimal);
+    assert_eq!(values, [4.0, 0.0, 7.5]);
+
+    let shorter: [fn(&mut PlanRef); 8] = [
+        |plan| plan.costs = &plan.costs[1..],
+        |plan| plan.lowers = &plan.lowers[1..],
+        |plan| plan.uppers = &plan.uppers[1..],
+        |plan| plan.starts = &plan.starts[..1],
+        |plan| plan.cols = &plan.cols[1..],
+        |plan| plan.coeffs = &plan.coeffs[1..],
+        |plan| plan.ops = &plan.ops[1..],
+        |plan| plan.rhs = &plan.rhs[1..],
+    ];
+    for shorten in shorter {
+        let mut short = plan;
+        shorten(&mut short);
+        let answer = solve_into(&short, &mut work, &mut values);
+        assert_eq!(answer.status, Status::BadSize);
+    }
+    let answer = solve_into(&plan, &mut work, &mut values[..1]);
+    assert_eq!(answer.status, Status::BadSize);
+    for starts in [&[1, 1], &[0, 0], &[0, 2]] {
+        let answer = solve_into(&PlanRef { starts, ..plan }, &mut work, &mut values);
+        assert_eq!(answer.status, Status::BadSize);
+    }
+    let answer = solve_into(&PlanRef { ops: &[3], ..plan }, &mut work, &mut values);
+    assert_eq!(answer.status, Status::BadNumber);
+}
+
+#[test]
+fn a_short_workspace_is_1() {
+    let problem = reaching(Status::Optimal);
+    let plan = problem.plan();
+    let mut values = [7.5; 2];
+    fn cut<T>(cells: &mut &mut [T], to: usize) {
+        *cells = &mut std::mem::take(cells)[..to];
+    }
+    type Cut = fn(&mut tevalumi::raw::WorkspaceMut);
+    // One cell less than needed of each array.
+    let cuts: [Cut; 15] = [
+        |work| cut(&mut work.kept, 0),
+        |work| cut(&mut work.basic_vars, 0),
+        |work| cut(&mut work.basic_var_vals, 0),
+        |work| cut(&mut work.nb_vars, 0),
+        |work| cut(&mut work.nb_var_vals, 0),
+        |work| cut(&mut work.nb_var_obj_coeffs, 0),
+        |work| cut(&mut work.primal_edge_sq_norms, 0),
+        |work| cut(&mut work.nb_var_states, 0),
+        |work| cut(&mut work.var_states, 1),
+        |work| cut(&mut work.eta_leaving, 255),
+        |work| cut(&mut work.eta_starts, 256),
+        |work| cut(&mut work.eta_rows, 4_095),
+        |work| cut(&mut work.eta_coeffs, 4_095),
+        |work| cut(&mut work.counts, 4),
+        |work| cut(&mut work.objective, 0),
+    ];
+    for (which, cut) in cuts.into_iter().enumerate() {
+        let mut work = Workspace::new();
+        let mut lent = work.lend();
+        cut(&mut lent);
+        let answer = solve_lent(&plan, &mut lent, &mut values);
+        assert_eq!(answer.status, Status::BadSize, "array {which}");
+    }
+    // Exactly what is needed.
+    let mut work = Workspace::new();
+    let mut lent = work.lend();
+    cut(&mut lent.kept, 1);
+    cut(&mut lent.nb_vars, 1);
+    cut(&mut lent.var_states, 2);
+    let answer = solve_lent(&plan, &mut lent, &mut values);
+    assert_eq!(answer.status, Status::Optimal);
+}
+
+#[test]
+fn a_refusal_changes_no_cell_and_a_solve_keeps_the_tails() {
+    let bits = |work: &Workspace| format!("{work:?}");
+    let mut work = Workspace::new();
+    let solution = reaching(Status::Optimal).solve_in(&mut work).unwrap();
+    assert_eq!(solution.steps(), 1);
+    let before = bits(&work);
+    for status in Status::ALL.into_iter().filter(|status| status.is_refusal()) {
+        assert!(reaching(status).solve_in(&mut work).is_err());
+        assert_eq!(bits(&work), before, "{status:?}");
+    }
+
+    let mut marked = Workspace::new();
+    marked.kept = [77; limits::ROWS];
+    marked.nb_var_vals = [77.0; limits::COLUMNS];
+    marked.eta_coeffs = [77.0; limits::ETA_ENTRIES];
+    assert!(reaching(Status::Optimal).solve_in(&mut marked).is_ok());
+    assert!(marked.kept[1..].iter().all(|&cell| cell == 77));
+    assert!(marked.nb_var_vals[1..].iter().all(|&cell| cell == 77.0));
+    assert!(marked.eta_coeffs[1..].iter().all(|&cell| cell == 77.0));
+    assert_eq!(marked.kept_rows(), 1);
+    assert_eq!(marked.eta_coeffs[0], 0.0);
+}
+
+#[test]
+fn threads_share_nothing() {
+    let want = crowded().solve().map_err(|error| error.to_string());
+    let want = format!("{want:?}");
+    let threads: Vec<_> = (0..4)
+        .map(|_| {
+            std::thread::spawn(|| {
+                format!("{:?}", crowded().solve().map_err(|error| error.to_string()))
+            })
+        })
+        .collect();
+    for thread in threads {
+        assert_eq!(thread.join().unwrap(), want);
+    }
+}
+
+/// A number that a careless caller might hand in.
+fn careless(rng: &mut Rng) -> f64 {
+    match rng.below(12) {
+        0 => f64::NAN,
+        1 => INF,
+        2 => -INF,
+        3 => f64::from_bits(rng.bits()),
+        4 => f64::MAX,
+        5 => -0.0,
+        _ => rng.between(-9, 9) as f64,
+    }
+}
+
+/// Every problem is answered, and what an answer names is there.
+#[test]
+fn whatever_is_put_in_is_answered() {
+    let mut rng = Rng(4);
+    let mut work = Workspace::new();
+    let mut seen = BTreeSet::new();
+    for turn in 0..4_000 {
+        let mut problem = Problem::new(match turn % 2 {
+            0 => OptimizationDirection::Minimize,
+            _ => OptimizationDirection::Maximize,
+        });
+        // Half of them have no careless number at all.
+        let number = |rng: &mut Rng| match turn % 4 {
+            0 | 1 => rng.between(-9, 9) as f64,
+            _ if rng.below(10) > 0 => rng.between(-9, 9) as f64,
+            _ => careless(rng),
+        };
+        let columns = rng.below(6);
+        let vars: Vec<Variable> = (0..=columns)
+            .map(|_| {
+                let low = number(&mut rng);
+                let high = [low + 3.0, INF, number(&mut rng)][rng.below(3)];
+                problem.add_var(number(&mut rng), (low, high))
+            })
+            .collect();
+        let rows = rng.below(5);
+        for _ in 0..rows {
+            let terms: Vec<(Variable, f64)> = (0..rng.below(4))
+                .map(|_| (vars[rng.below(vars.len())], number(&mut rng)))
+                .collect();
+            let op = [LE, EQ, GE][rng.below(3)];
+            problem.add_constraint(terms, op, 40.0 * number(&mut rng));
+        }
+        problem.set_tolerance(number(&mut rng).abs().min(1.0));
+        problem.set_budget(rng.below(30));
+        match problem.solve_in(&mut work) {
+            Ok(solution) => {
+                seen.insert(0);
+                assert!(solution.iter().all(|(_, value)| value.is_finite()));
+                assert!(solution.objective().is_finite());
+                for row in 0..rows {
+                    let _ = (solution.slack(row), solution.multiplier(row));
+                }
+            }
+            Err(error) => {
+                seen.insert(error.number());
+                assert!(error.constraint().is_none_or(|row| row < rows));
+                assert!(error.variable().is_none_or(|var| var.idx() <= columns));
+                assert!(!error.to_string().is_empty());
+            }
+        }
+    }
+    // The rest needs plans that are made for it; see above.
+    for number in [0, 2, 3, 4, 5, 7, 20] {
+        assert!(seen.contains(&number), "{number} of {seen:?}");
+    }
+}
