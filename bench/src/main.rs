@@ -1,0 +1,342 @@
+//! The proved library beside the oracle's solver: the same 200 plans, both release builds, called
+//! in one process on memory that is prepared beforehand.
+//!
+//! | call | what it does |
+//! |---|---|
+//! | `bench [--rounds N]` | alternating rounds; a line for each plan, and the ratios of median times |
+//! | `bench --check` | only compares the answers |
+//! | `bench --count` | solves between marks, under an emulator whose plugin counts instructions |
+//! | `bench --counted FILE` | the ratios of these counts |
+//!
+//! Each ends with status 1 where the two sides don't answer alike. With the feature `glpk` it also
+//! runs GLPK.
+
+mod count;
+#[cfg(feature = "glpk")]
+mod glpk;
+mod plans;
+mod sides;
+
+use std::hint::black_box;
+use std::path::PathBuf;
+use std::process::ExitCode;
+use std::time::Instant;
+
+use count::{between_marks, Counts, Side};
+use oracle::plan::Plan;
+use sides::{Library, Seen};
+
+const ROUNDS: usize = 15;
+/// A sample repeats a solve until it takes about this long.
+const SAMPLE_NANOS: f64 = 1_000_000.0;
+
+enum Mode {
+    Time(usize),
+    Check,
+    Count,
+    Counted(PathBuf),
+}
+
+fn main() -> ExitCode {
+    match mode().and_then(run) {
+        Ok(code) => code,
+        Err(message) => {
+            eprintln!("bench: {message}");
+            ExitCode::from(2)
+        }
+    }
+}
+
+fn mode() -> Result<Mode, String> {
+    let args: Vec<String> = std::env::args().skip(1).collect();
+    match args.iter().map(String::as_str).collect::<Vec<_>>()[..] {
+        [] => Ok(Mode::Time(ROUNDS)),
+        ["--check"] => Ok(Mode::Check),
+        ["--count"] => Ok(Mode::Count),
+        ["--counted", file] => Ok(Mode::Counted(file.into())),
+        ["--rounds", n] => match n.parse() {
+            Ok(n) if n > 0 => Ok(Mode::Time(n)),
+            _ => Err(format!("--rounds wants a number above 0, not {n}")),
+        },
+        _ => Err("usage: bench [--rounds N | --check | --count | --counted FILE]".to_string()),
+    }
+}
+
+fn run(mode: Mode) -> Result<ExitCode, String> {
+    let plans = plans::all();
+    let (mut races, mut failed) = (vec![], 0);
+    for plan in &plans {
+        match Race::new(plan) {
+            Ok(race) => races.push(race),
+            Err(differs) => {
+                println!("{}: {differs}", plan.id);
+                failed += 1;
+            }
+        }
+    }
+    if failed > 0 || matches!(mode, Mode::Check) {
+        println!("{} passed, {failed} failed", races.len());
+        return Ok(ExitCode::from(u8::from(failed > 0)));
+    }
+    let unit = match mode {
+        Mode::Check => return Ok(ExitCode::SUCCESS),
+        Mode::Count => {
+            for (number, race) in races.iter_mut().enumerate() {
+                race.count(number);
+            }
+            return Ok(ExitCode::SUCCESS);
+        }
+        Mode::Counted(file) => {
+            let counts = Counts::read(&file)?;
+            for (number, race) in races.iter_mut().enumerate() {
+                race.counted(number, &counts)?;
+            }
+            "thousand instructions"
+        }
+        Mode::Time(rounds) => {
+            for race in &mut races {
+                let once = race.time_library().max(1.0);
+                race.repeats = (SAMPLE_NANOS / once).ceil() as usize;
+            }
+            for round in 0..rounds {
+                for race in &mut races {
+                    race.round(round);
+                }
+            }
+            "us"
+        }
+    };
+    for race in &races {
+        println!("{}", race.line(unit));
+    }
+    println!();
+    summary(&races, unit);
+    Ok(ExitCode::SUCCESS)
+}
+
+/// One plan, its prepared memory, and the samples for one solve: nanoseconds, or instructions.
+struct Race<'a> {
+    plan: &'a Plan,
+    seen: Seen,
+    oracle_seen: Seen,
+    repeats: usize,
+    library: Library,
+    library_samples: Vec<f64>,
+    oracle_samples: Vec<f64>,
+    /// The second sample in each round: how far two medians of the same thing differ.
+    library_again: Vec<f64>,
+    oracle_again: Vec<f64>,
+    #[cfg(feature = "glpk")]
+    glpk: glpk::Glpk,
+    #[cfg(feature = "glpk")]
+    glpk_seen: Seen,
+    #[cfg(feature = "glpk")]
+    glpk_samples: Vec<f64>,
+}
+
+impl<'a> Race<'a> {
+    /// Solves the plan once on both sides; an error says how they differ.
+    fn new(plan: &'a Plan) -> Result<Race<'a>, String> {
+        if sides::needs_copies(plan) {
+            return Err("the oracle answers 23: not a plan for the benchmark".to_string());
+        }
+        let mut library = Library::new(plan);
+        let seen = library.solve(plan);
+        let (oracle_seen, values) = sides::oracle(plan);
+        let bits = |vals: &[f64]| vals.iter().map(|val| val.to_bits()).collect::<Vec<_>>();
+        if seen != oracle_seen || bits(library.written(seen)) != bits(&values) {
+            return Err(format!("library {seen:?}, oracle {oracle_seen:?}"));
+        }
+        #[cfg(feature = "glpk")]
+        let (glpk, glpk_seen) = {
+            let mut glpk = glpk::Glpk::new(plan);
+            let glpk_seen = glpk.solve();
+            let size = seen.objective.abs().max(1.0);
+            let differ = (glpk_seen.objective - seen.objective).abs() > 1e-6 * size;
+            if seen.number == 0 && (glpk_seen.number != 0 || differ) {
+                return Err(format!("library {seen:?}, GLPK {glpk_seen:?}"));
+            }
+            (glpk, glpk_seen)
+        };
+        Ok(Race {
+            plan,
+            seen,
+            oracle_seen,
+            repeats: 1,
+            library,
+            library_samples: vec![],
+            oracle_samples: vec![],
+            library_again: vec![],
+            oracle_again: vec![],
+            #[cfg(feature = "glpk")]
+            glpk,
+            #[cfg(feature = "glpk")]
+            glpk_seen,
+            #[cfg(feature = "glpk")]
+            glpk_samples: vec![],
+        })
+    }
+
+    /// Two samples of each side, the two sides in turn: each always follows the other, so neither
+    /// finds its own run fresh in the caches.
+    fn round(&mut self, round: usize) {
+        for turn in 0..2 {
+            let nanos = self.time_library();
+            let of_oracle = timed(self.repeats, || sides::oracle(self.plan));
+            if (round + turn) % 2 == 0 {
+                self.library_samples.push(nanos);
+                self.oracle_samples.push(of_oracle);
+            } else {
+                self.library_again.push(nanos);
+                self.oracle_again.push(of_oracle);
+            }
+        }
+        #[cfg(feature = "glpk")]
+        {
+            let nanos = timed(self.repeats, || self.glpk.solve());
+            self.glpk_samples.push(nanos);
+        }
+    }
+
+    fn time_library(&mut self) -> f64 {
+        timed(self.repeats, || self.library.solve(self.plan))
+    }
+
+    /// A solve of each side between marks.
+    fn count(&mut self, number: usize) {
+        between_marks(number, Side::Nothing, || ());
+        between_marks(number, Side::Library, || self.library.solve(self.plan));
+        between_marks(number, Side::Oracle, || sides::oracle(self.plan));
+        #[cfg(feature = "glpk")]
+        between_marks(number, Side::Glpk, || self.glpk.solve());
+    }
+
+    fn counted(&mut self, number: usize, counts: &Counts) -> Result<(), String> {
+        self.library_samples = vec![counts.of(number, Side::Library)?];
+        self.oracle_samples = vec![counts.of(number, Side::Oracle)?];
+        #[cfg(feature = "glpk")]
+        {
+            self.glpk_samples = vec![counts.of(number, Side::Glpk)?];
+        }
+        Ok(())
+    }
+
+    fn line(&self, unit: &str) -> String {
+        let (library, oracle) = (median(&self.library_samples), median(&self.oracle_samples));
+        let line = format!(
+            "{:<10} rows {:>2}  columns {:>3}  entries {:>4}  answer {:>2}  steps {:>3} {:>3}  library {:>8.2}  oracle {:>8.2} {unit}  ratio {:.3}",
+            self.plan.id,
+            self.plan.rows,
+            self.plan.columns,
+            self.plan.entries,
+            self.seen.number,
+            self.seen.steps,
+            self.oracle_seen.steps,
+            library / 1e3,
+            oracle / 1e3,
+            library / oracle,
+        );
+        #[cfg(feature = "glpk")]
+        let line = {
+            let glpk = median(&self.glpk_samples);
+            format!(
+                "{line}  GLPK {:>8.2} in {:>3} steps  ratio {:.3}",
+                glpk / 1e3,
+                self.glpk_seen.steps,
+                library / glpk,
+            )
+        };
+        line
+    }
+}
+
+/// Nanoseconds for one call, over so many in a row. A call before them isn't counted: it finds the
+/// caches full of the other side.
+fn timed<T>(repeats: usize, mut call: impl FnMut() -> T) -> f64 {
+    black_box(call());
+    let start = Instant::now();
+    for _ in 0..repeats {
+        black_box(call());
+    }
+    start.elapsed().as_nanos() as f64 / repeats as f64
+}
+
+fn summary(races: &[Race], unit: &str) {
+    let of = |number: fn(&Race) -> f64| races.iter().map(number).collect::<Vec<f64>>();
+    let steps = of(|race| race.seen.steps as f64);
+    let optimal = races.iter().filter(|race| race.seen.number == 0).count();
+    println!(
+        "{} plans, {optimal} of them Optimal; {} steps in all, median {}, at most {}; answers, steps, objectives and values are the same on both sides, bit by bit",
+        races.len(),
+        steps.iter().sum::<f64>(),
+        median(&steps),
+        quantile(&steps, 1.0),
+    );
+    let rounds = races.first().map_or(0, |race| race.library_again.len());
+    if rounds > 0 {
+        println!(
+            "{rounds} rounds; a sample is repeated solves of about 1 ms; medians of the rounds"
+        );
+    }
+    println!();
+    let library = of(|race| median(&race.library_samples));
+    let oracle = of(|race| median(&race.oracle_samples));
+    compare("library", "oracle", &library, &oracle, unit);
+    #[cfg(feature = "glpk")]
+    {
+        let steps = of(|race| race.glpk_seen.steps as f64);
+        println!(
+            "GLPK takes {} steps in all, median {}",
+            steps.iter().sum::<f64>(),
+            median(&steps)
+        );
+        let glpk = of(|race| median(&race.glpk_samples));
+        compare("library", "GLPK", &library, &glpk, unit);
+    }
+    if rounds > 0 {
+        println!("noise: each side against its own second samples, from the same rounds");
+        let again = of(|race| median(&race.library_again));
+        compare("library", "library again", &library, &again, unit);
+        let again = of(|race| median(&race.oracle_again));
+        compare("oracle", "oracle again", &oracle, &again, unit);
+    }
+}
+
+/// The ratios of the medians: of all plans in a row, of the median plan, and plan by plan.
+fn compare(one: &str, other: &str, ones: &[f64], others: &[f64], unit: &str) {
+    let ratios: Vec<f64> = ones.iter().zip(others).map(|(a, b)| a / b).collect();
+    let (sum, other_sum) = (ones.iter().sum::<f64>(), others.iter().sum::<f64>());
+    println!(
+        "all plans in a row:  {one} {:.1}, {other} {:.1} {unit}, ratio {:.3}",
+        sum / 1e3,
+        other_sum / 1e3,
+        sum / other_sum
+    );
+    println!(
+        "the median plan:     {one} {:.2}, {other} {:.2} {unit}, ratio {:.3}",
+        median(ones) / 1e3,
+        median(others) / 1e3,
+        median(ones) / median(others)
+    );
+    println!(
+        "plan by plan:        median ratio {:.3}; least {:.3}, a tenth below {:.3}, a tenth above {:.3}, most {:.3}; {} of {} plans above 1\n",
+        median(&ratios),
+        quantile(&ratios, 0.0),
+        quantile(&ratios, 0.1),
+        quantile(&ratios, 0.9),
+        quantile(&ratios, 1.0),
+        ratios.iter().filter(|&&ratio| ratio > 1.0).count(),
+        ratios.len(),
+    );
+}
+
+fn median(of: &[f64]) -> f64 {
+    quantile(of, 0.5)
+}
+
+/// The number that stands at this part of the sorted list.
+fn quantile(of: &[f64], part: f64) -> f64 {
+    let mut sorted = of.to_vec();
+    sorted.sort_by(f64::total_cmp);
+    sorted[((sorted.len() - 1) as f64 * part).round() as usize]
+}

@@ -1,0 +1,75 @@
+//! 200 seeded plans of the gateway's sizes: units that want radio milliseconds, and rows that
+//! share them out.
+
+use oracle::plan::Plan;
+use oracle::rng::Rng;
+
+pub const COUNT: usize = 200;
+const SEED: u64 = 2_026;
+
+/// Every plan: 10 to 64 rows, 20 to 128 columns, 5 to 20 % dense.
+pub fn all() -> Vec<Plan> {
+    let mut rng = Rng::named(SEED, "bench");
+    (0..COUNT).map(|number| plan(number, &mut rng)).collect()
+}
+
+fn plan(number: usize, rng: &mut Rng) -> Plan {
+    let (rows, columns) = (rng.between(10, 64), rng.between(20, 128));
+    let percent = rng.between(5, 20);
+    let mut plan = Plan {
+        id: format!("bench.{number}"),
+        columns: columns as u64,
+        rows: rows as u64,
+        budget: 10_000,
+        tolerance: 1e-6,
+        starts: vec![0],
+        ..Plan::default()
+    };
+    let mut start = vec![];
+    for _ in 0..columns {
+        // Most columns are reports worth sending, with or without a most; some only cost.
+        let cost = if rng.one_in(8) {
+            rng.between(1, 9) as f64
+        } else {
+            -1.0 - rng.unit() * 30.0
+        };
+        let upper = match rng.below(4) {
+            0 => rng.between(1, 60) as f64,
+            _ => f64::INFINITY,
+        };
+        plan.cost.push(cost);
+        plan.lower.push(0.0);
+        plan.upper.push(upper);
+        start.push(if cost < 0.0 && upper.is_finite() {
+            upper
+        } else {
+            0.0
+        });
+    }
+    // One row in twelve asks for at least something, which the start already gives. Every column
+    // has an entry in another row, and only a column with a most gives room back in some, so no
+    // sum can grow without end.
+    let asks: Vec<bool> = (0..rows).map(|row| row > 0 && rng.one_in(12)).collect();
+    let sharing: Vec<usize> = (0..rows).filter(|&row| !asks[row]).collect();
+    let owner: Vec<usize> = (0..columns).map(|_| rng.pick(&sharing)).collect();
+    for (row, &asks) in asks.iter().enumerate() {
+        let mut sum = 0.0;
+        for column in 0..columns {
+            let drawn = rng.below(100) < percent;
+            if drawn || owner[column] == row {
+                let size = rng.between(1, 40) as f64 + rng.unit();
+                let back = plan.upper[column].is_finite() && rng.one_in(3);
+                let coef = if back { -size / 8.0 } else { size };
+                plan.cols.push(column as u64);
+                plan.coef.push(coef);
+                sum += coef * start[column];
+            }
+        }
+        let room = rng.between(50, 900) as f64;
+        plan.ops.push(if asks { 2 } else { 0 });
+        plan.rhs.push(if asks { sum - room } else { sum + room });
+        plan.starts.push(plan.cols.len() as u64);
+    }
+    plan.entries = plan.cols.len() as u64;
+    plan
+}
