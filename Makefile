@@ -2,11 +2,27 @@
 CARGO = CARGO_TARGET_DIR=$(CURDIR)/build/cargo cargo
 BIN = build/cargo/release
 
-.PHONY: test oracle plans triangles sheets driver
+.PHONY: test oracle plans triangles sheets replay-data driver checks bench bench-peers
 
 # The gate: rt ci over every crate, then every Rust test and comparison. Its last line is `N passed, M failed`.
 test:
 	@ci/gate 2>&1
+
+# The frost night, solved and audited by the proved library. The first call proves each crate that the library needs, once and with no
+# must-fail edit, and names each one when it is proved; later calls prove only what has changed.
+.PHONY: night tevalumi
+night: tevalumi
+	@build/tevalumi night
+
+# build/tevalumi: the command-line program over the proved library, whatever else the environment may name.
+tevalumi: export TEVALUMI_LIB_DIR = $(CURDIR)/target/staticlib
+tevalumi: target/staticlib/libtevalumi.a
+	ci/linked cargo build --release --offline --manifest-path bindings/rust/Cargo.toml --bin tevalumi
+	ci/linked program tevalumi
+
+# The proved library. It is proved again only where a crate has changed.
+target/staticlib/libtevalumi.a: $(shell find crates crates.txt)
+	rt staticlib tevalumi
 
 # build/oracle: plans and triangles in, answer lines out (docs/EXCHANGE.md).
 oracle:
@@ -26,11 +42,33 @@ triangles: oracle
 # build/sheets.txt: the seeded sheets with their edits, and what they reach.
 sheets:
 	$(CARGO) build --release --offline --manifest-path oracle-sheet/Cargo.toml
-	$(BIN)/sheets > build/sheets.txt
-	$(BIN)/sheets --require
+	$(BIN)/sheets --short 1000 > build/sheets.txt
+	$(BIN)/sheets --short 1000 --require
+
+# The stored lists of the programs that replay the oracles' answers: words in (stdin), answer lines out (stdout).
+replay-data: oracle
+	$(CARGO) build --release --offline --manifest-path oracle-sheet/Cargo.toml
+	$(BIN)/replay triangles crates/replay_triangles
+	$(BIN)/replay plans crates/replay_plans
+	$(BIN)/sheet_replay crates/replay_sheets
 
 # build/driver: the same text in, the proved library's answers out.
-driver: oracle
-	rt staticlib tevalumi
-	$(CARGO) build --release --offline --manifest-path driver/Cargo.toml
-	cp $(BIN)/driver build/driver
+driver: oracle target/staticlib/libtevalumi.a
+	ci/linked cargo build --release --offline --manifest-path driver/Cargo.toml
+	ci/linked program driver
+
+# docs/CHECKS.md: time and memory of each crate's check, lines of code and proof.
+checks:
+	ci/checks
+
+# The proved library beside the oracle's solver on 200 plans: a line for each, then the ratios of medians.
+bench: target/staticlib/libtevalumi.a
+	ci/linked cargo build --release --offline --manifest-path bench/Cargo.toml
+	bench/run
+
+# The same, and GLPK through its C library, which Debian has as libglpk-dev. The first line fetches what another processor needs.
+bench-peers: target/staticlib/libtevalumi.a
+	ci/linked cargo --version
+	dpkg -s libglpk-dev:amd64 >/dev/null 2>&1 || { apt-get update -q && apt-get install -y -q libglpk-dev:amd64; }
+	ci/linked cargo build --release --offline --features glpk --manifest-path bench/Cargo.toml
+	bench/run
