@@ -7,7 +7,7 @@ use Rattle.rules.specs.Invariant.{ProblemFits, Fits, Vector}
 use Rattle.rules.specs.declared.Entering.{Entering}
 use Rattle.cells.specs.Bounds.{Sides}
 use Rattle.cells.proofs.Fits as Bounds
-use Rattle.choose.specs.Lent.{Places, Choosing, Rows, Stepping}
+use Rattle.choose.specs.Lent.{Choosing, Stepping}
 use Rattle.choose.proofs.Parts.{boundsOf, choosingOf, steppingOf}
 
 module _ {P : Problem} {s : State} (f : ProblemFits P) (g : Fits P s) where

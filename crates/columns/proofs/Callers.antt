@@ -7,11 +7,10 @@ use lib.ListN.{length}
 use lib.Ieee.{Float}
 use Rattle.doubles.specs.Loop.{run, each}
 use Rattle.doubles.specs.Lists.{_!_, _#_, part}
-use Rattle.sparse.specs.Scattered.{Sv, putAt, loaded, Within}
-use Rattle.rules.specs.Plan.{Problem, Entry, entry, column, nOf, mOf}
+use Rattle.rules.specs.Plan.{Problem, Entry, entry, column, nOf}
 use Rattle.rules.specs.Parts.{rowed}
 use Rattle.rules.specs.Invariant.{ProblemFits}
-use Rattle.rules.proofs.Lists.{part-long, part-at}
+use Rattle.rules.proofs.Lists.{part-long}
 use Rattle.plan.proofs.Fits.{row-cols-in, row-coeffs-in}
 use Rattle.columns.specs.Columns.{entriesOf, Valued, Matrix, ColumnAt, ByColumns}
 
@@ -94,11 +93,3 @@ module _ {P : Problem} {S R : List ℕ} {X : List Float} (c : ByColumns P S R X)
       ap (λ (es : List Entry). each es g s) (sym (w .same))
       ∙ entries-each g rowsAt valuesAt (rows-size ∙ sym values-size) s
       ∙ ap (λ (n : ℕ). run (λ k. g (entry (rowsAt # k) (valuesAt ! k))) n s) rows-size
-
-  -- `load` of the cells is the definition's column put into the vector
-  pub column-loads : (s : Sv) → each (column P j) (λ e t. putAt t (e .at) (e .val)) s ≡ loaded rowsAt valuesAt (S # (j + 1) - S # j) s
-  unfolding loaded
-  column-loads s = column-each (λ e t. putAt t (e .at) (e .val)) s
-
-  pub column-within : Within (mOf P) (S # (j + 1) - S # j) rowsAt
-  column-within = record { inside = λ k g. omega (arith, part-at (S # j) (S # (j + 1)) R k 0 g, w .row (S # j + k) (omega arith) (omega arith)) }

@@ -1,5 +1,5 @@
 -- The comparisons with an infinity and with zero, by cases.
-use mathlib.Core.Path.{_≡_, refl, sym, ap, _∙_}
+use mathlib.Core.Path.{_≡_, refl, sym}
 use mathlib.Core.Bool.{Bool, true, false, _&&_, true≢false}
 use mathlib.Core.Logic.{_↔_, _⊎_, inl, inr, ⊎-elim}
 use Prim.Native.Nat.{ℕ, zero, suc, _+_, _*_, _^_, _<_}
@@ -9,7 +9,7 @@ use borrow.Author.Tests.{eq-eqb, ltb-true, ltb-false, eqb-true}
 use lib.Dec.{T, eqb, eqb→eq}
 use lib.Pow.{pow-pos}
 use native.Mathlib.Nat.{pow-suc}
-use lib.IntN.{ℤ, pos, negsuc}
+use lib.IntN.{pos, negsuc}
 use lib.Ieee.{Float, nan, inf, fin, binary64, neg, lt, eq, ne, isNan, fits, up, down}
 use lib.Ieee.Fits.{up-pos}
 use Rattle.doubles.specs.Num.{finite, infinite, size}

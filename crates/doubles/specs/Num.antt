@@ -1,7 +1,7 @@
 -- Doubles: short names for IEEE 754's operations at binary64, nearest even, the constants, and what Rust has as methods.
 -- A constant is written by its bits, as the compiler writes a literal of the code. Assumes nothing.
 use mathlib.Core.Bool.{Bool, true, false}
-use lib.Ieee.{Float, nan, inf, fin, binary64, add, sub, mul, div, neg, ofBits}
+use lib.Ieee.{Float, nan, inf, fin, binary64, add, sub, mul, div, ofBits}
 
 infixl 75 _⊕_
 infixl 75 _⊖_

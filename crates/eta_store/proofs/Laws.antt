@@ -13,8 +13,7 @@ use Rattle.doubles.specs.Limits.{etaColumns, etaEntries}
 use Rattle.doubles.specs.Loop.{run}
 use Rattle.doubles.specs.Lists.{_#_}
 use Rattle.doubles.proofs.Loops.{keeps, both-true}
-use Rattle.sparse.specs.Scattered.{Sv, Good, Within}
-use Rattle.sparse.proofs.Laws.{wf-listed}
+use Rattle.sparse.specs.Scattered.{Sv}
 use Rattle.rules.specs.Plan.{Etas, Problem, State}
 use Rattle.rules.specs.Parts.{etasOf}
 use Rattle.rules.specs.Basis.{Tail, tail, writeTurn, writeColumn, pushEta, etaUsed, etaFits}
@@ -65,7 +64,3 @@ fits-room P s k g e =
     let n = ltb-true (s .etaCount) etaColumns (b .0) in
     let u = leb-true (etaUsed s + k) etaEntries (b .1) in
     record { leaving-room = omega arith; starts-room = omega arith; rows-room = omega arith; coeffs-room = omega arith }
-
--- and of a vector in order
-pub good-listed : {n : ℕ} (c : Sv) → Good n c → (c .pat .count ≤ n) × Within n (c .pat .count) (c .pat .list)
-good-listed c g = (g .wf .within, record { inside = wf-listed (c .pat) (g .wf) })

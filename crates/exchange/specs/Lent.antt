@@ -2,11 +2,10 @@
 use mathlib.Core.Bool.{Bool}
 use mathlib.Core.List.{List}
 use Prim.Native.Nat.{ℕ, _<_}
-use lib.ListN.{length}
 use lib.Ieee.{Float}
 use Rattle.doubles.specs.Limits.{maxBudget}
 use Rattle.sparse.specs.Scattered.{sv}
-use Rattle.rules.specs.Plan.{Problem, State, nOf, mOf}
+use Rattle.rules.specs.Plan.{State}
 use Rattle.rules.specs.Parts.{planOf, problem}
 use Rattle.rules.specs.Invariant.{ProblemFits, Fits, Vector}
 

@@ -21,7 +21,7 @@ use Rattle.sheet_rules.specs.Sheet.{holds, wrong, outside, termBy, term, lacksB
 use Rattle.sheet_rules.specs.Opening.{firstFailed, sizesFine, allWithin, boundFine, boundsFine, opsFine, arraysFine, numbersFine, crosses, uncrossed, opening, opened}
 use Rattle.sheet_rules.specs.Verdict.{countFine, countsFine, keptFine, isZero, gap, verdictBy, verdict}
 use Rattle.night.specs.Plans.{num, minus, oneRow, N1, N2, N3, N4, roomFor, kindsFrom}
-use Rattle.night.specs.Cases.{Case, shown, wanted, cases}
+use Rattle.night.specs.Cases.{shown, wanted, cases}
 
 pub night : map shown cases ≡ map wanted cases
 unfolding

@@ -1,6 +1,6 @@
 -- The wrong programs of 01 about the sheet: each breaks its promise on a night case of N5. Assumes nothing.
 use mathlib.Core.Path.{_≡_, refl, sym, ap, _∙_}
-use mathlib.Core.List.{List, [], map}
+use mathlib.Core.List.{List, []}
 use Prim.Native.Nat.{ℕ, zero, suc}
 use native.Mathlib.Omega.{arith}
 use lib.ListN.{getD}
@@ -13,7 +13,7 @@ use Rattle.sheet_rules.specs.Verdict.{countFine, countsFine, keptFine, isZero, 
 use Rattle.sheet_rules.specs.Edit.{put, edited, movedR, movedD, movedC, movedB, movedBroken, movedOutside, movedWrong, movedAbsent, moved, applied, indexFine, numberFine, bothFine, columnFine, rowFine, soundAt, editRefusal, edit}
 use Rattle.sheet_rules.specs.Promises.{Edits, Judges}
 use Rattle.sheet_rules.specs.Night.{minus, n2, amountTo}
-use Rattle.night.specs.Cases.{Shown, solves, judges, Case, shown, wanted, cases}
+use Rattle.night.specs.Cases.{Shown, solves, judges, shown, wanted, cases}
 use Rattle.night.proofs.Night.{night}
 use Rattle.sheet_rules.specs.declared.Edit.{Edit}
 use Rattle.sheet_rules.specs.declared.Verdict.{Verdict}

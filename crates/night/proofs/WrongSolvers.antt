@@ -1,6 +1,6 @@
 -- The wrong programs of 01 about the solver: each breaks the promise of `solve` on a night case. A program here is any function from what is lent to an
 -- answer and what is lent afterwards; the promise is the equation that `solve` meets. Assumes nothing.
-use mathlib.Core.Path.{_≡_, sym, ap, _∙_}
+use mathlib.Core.Path.{_≡_, ap, _∙_}
 use mathlib.Core.List.{List, []}
 use Prim.Native.Nat.{ℕ, _≤_}
 use native.Mathlib.Omega.{arith}

@@ -1,13 +1,12 @@
 -- 01, "Night cases": the plans N1 to N4 as lent arrays, memory for them, and the kinds of the steps that the rules take. Assumes nothing.
 use mathlib.Core.List.{List, [], _∷_}
 use Prim.Native.Nat.{ℕ, zero, suc, _+_}
-use lib.IntN.{ℤ, pos}
+use lib.IntN.{pos}
 use lib.ListN.{length, replicate}
 use lib.Ieee.{Float, binary64, neg, ofBits, ofInt}
 use Rattle.doubles.specs.Num.{f0, +inf}
 use Rattle.doubles.specs.Limits.{etaColumns, etaEntries, countCells}
-use Rattle.rules.specs.Plan.{Plan, Memory, Problem, State, problemOf}
-use Rattle.rules.specs.Start.{startState}
+use Rattle.rules.specs.Plan.{Plan, Memory, Problem, State}
 use Rattle.rules.specs.Choose.{choose}
 use Rattle.rules.specs.Step.{step, moved, stopped}
 use Rattle.rules.specs.declared.Choice.the-variants.{Enters, Nothing}

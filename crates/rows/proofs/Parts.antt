@@ -11,7 +11,7 @@ use Rattle.rules.specs.Plan.{Problem, nOf, mOf}
 use Rattle.rules.specs.Parts.{rowed}
 use Rattle.rules.specs.Basis.{addRow, combine}
 use Rattle.rules.specs.Invariant.{ProblemFits, Vector}
-use Rattle.rules.proofs.Vectors.{rows-places, columns-places, vector-few}
+use Rattle.rules.proofs.Vectors.{columns-places}
 use Rattle.rows.specs.Lent.{RowsLent, Fresh}
 
 pub fresh-blank : Fresh blank
@@ -44,10 +44,6 @@ module _ (P : Problem) where
                 slack = omega arith;
               };
         }
-
-    -- a vector over the rows
-    pub vector-rows : (y : Sv) → Vector (mOf P) y → (mOf P ≤ places) × (y .pat .count ≤ places) × Within (mOf P) (y .pat .count) (y .pat .list)
-    vector-rows y v = (rows-places P f, omega (arith, vector-few y v, rows-places P f), record { inside = v .places-below .below })
 
 -- a vector in order lists at most as many places as there are, each of them one
 pub vector-listed : {m : ℕ} (y : Sv) → Vector m y → (y .pat .count ≤ places) × Within places (y .pat .count) (y .pat .list)

@@ -16,7 +16,7 @@ use Rattle.doubles.proofs.Tests.{not-both, false-by, true-by}
 use Rattle.sparse.specs.Scattered.{Sv, listed, listedVal}
 use Rattle.rules.specs.Plan.{Problem, Workspace}
 use Rattle.rules.specs.Choose.{otherVal}
-use Rattle.rules.specs.Conditions.{aheadAt, limitAt, quotientOne, quotientTwo, Examined, NoCandidate, Unsound, bad-distance, bad-limit, bad-quotient, bad-step, Sound}
+use Rattle.rules.specs.Conditions.{aheadAt, limitAt, quotientOne, quotientTwo, Examined, NoCandidate, RatioUnsound, bad-distance, bad-limit, bad-quotient, bad-step, RatioSound}
 use Rattle.rules.specs.Ratio.{rises, examined, relaxed, stepTo, soundAt, soundRatios, passOne, passTwo, flipOf, exchangeOf, pivotOf, soundDistance, ratio}
 use Rattle.rules.specs.declared.Entering.{Entering}
 use Rattle.rules.specs.declared.PivotInfo.the-variants.{Flip, Exchange}
@@ -73,10 +73,10 @@ module _ (P : Problem) (w : Workspace) (e : Entering) (c : Sv) where
   -- 01: "A step is a flip, with its new value and difference, or an exchange, which adds row, pivot and leaving value";
   -- "Unbounded is given exactly when no row is a candidate and the entering column's other bound is infinite"
   pub data Outcome : Ratio → Type 0 where
-    not-finite : Unsound P w e c → Outcome NotFinite
-    unbounded : Sound P w e c → NoCandidate P w (rises e) c maxStep → infinite other ≡ true → Outcome Unbounded
-    flips : Sound P w e c → NoCandidate P w (rises e) c maxStep → infinite other ≡ false → Outcome (Pivot (Flip other (other ⊖ current)))
-    exchanges : Sound P w e c → (k : ℕ) → Leaves P w (rises e) c maxStep k
+    not-finite : RatioUnsound P w e c → Outcome NotFinite
+    unbounded : RatioSound P w e c → NoCandidate P w (rises e) c maxStep → infinite other ≡ true → Outcome Unbounded
+    flips : RatioSound P w e c → NoCandidate P w (rises e) c maxStep → infinite other ≡ false → Outcome (Pivot (Flip other (other ⊖ current)))
+    exchanges : RatioSound P w e c → (k : ℕ) → Leaves P w (rises e) c maxStep k
         → Outcome (Pivot (Exchange (current ⊕ diffBy k) (diffBy k) (listed c k) (listedVal c k) (leavingVal k)))
 
   -- ---- the ratio's test
@@ -92,15 +92,15 @@ module _ (P : Problem) (w : Workspace) (e : Entering) (c : Sv) where
       let t : not (looked k) || finite (quotientOne P w (rises e) c k) ≡ true = sym (one-test P w (rises e) c k) ∙ h in
       rw (examined-means P w (rises e) c k .1 x) at t
 
-  row-unsound : (k : ℕ) → k < c .pat .count → soundAt P w (rises e) c k ≡ false → Unsound P w e c
+  row-unsound : (k : ℕ) → k < c .pat .count → soundAt P w (rises e) c k ≡ false → RatioUnsound P w e c
   unfolding relaxed
   row-unsound k l h = go (looked k) refl (sym (one-test P w (rises e) c k) ∙ h)
     where
-      go : (x : Bool) → looked k ≡ x → not x || finite (quotientOne P w (rises e) c k) ≡ false → Unsound P w e c
+      go : (x : Bool) → looked k ≡ x → not x || finite (quotientOne P w (rises e) c k) ≡ false → RatioUnsound P w e c
       go false a h = absurd (not-both refl h)
       go true a h = bad-quotient k l (examined-means P w (rises e) c k .0 a) h
 
-  sound-by : tested ≡ true → Sound P w e c
+  sound-by : tested ≡ true → RatioSound P w e c
   unfolding soundDistance soundRatios
   sound-by h =
       let b = both-true (soundDistance P w e) (soundRatios P w (rises e) c) h in
@@ -113,30 +113,30 @@ module _ (P : Problem) (w : Workspace) (e : Entering) (c : Sv) where
         steps = λ k l x. quotient-settles P w (rises e) c k (one k l x) .finite-too;
       }
 
-  unsound-by : tested ≡ false → Unsound P w e c
+  unsound-by : tested ≡ false → RatioUnsound P w e c
   unfolding soundDistance soundRatios
   unsound-by h = go (infinite other) refl (finite (e .distance)) refl h
     where
-      row : soundRatios P w (rises e) c ≡ false → Unsound P w e c
+      row : soundRatios P w (rises e) c ≡ false → RatioUnsound P w e c
       row h =
           let bad : ℕ → Bool = λ k. not (soundAt P w (rises e) c k) in
           let f = first-means bad (c .pat .count) in
-          let none : first (c .pat .count) bad ≡ c .pat .count → Unsound P w e c =
+          let none : first (c .pat .count) bad ≡ c .pat .count → RatioUnsound P w e c =
           λ q. absurd (not-both (all-by (soundAt P w (rises e) c) (c .pat .count) (λ k l. not-false _ (f .before k (omega arith) (omega arith)))) h) in
           ⊎-elim none (λ l. row-unsound (first (c .pat .count) bad) l (not-true _ (f .found l))) (eq-or-lt-of-le (f .upto))
 
-      go : (x : Bool) → infinite other ≡ x → (y : Bool) → finite (e .distance) ≡ y → (x || y) && soundRatios P w (rises e) c ≡ false → Unsound P w e c
+      go : (x : Bool) → infinite other ≡ x → (y : Bool) → finite (e .distance) ≡ y → (x || y) && soundRatios P w (rises e) c ≡ false → RatioUnsound P w e c
       go true a y b h = row h
       go false a true b h = row h
       go false a false b h = bad-distance a b
 
-  never-both : Sound P w e c → Unsound P w e c → ⊥
+  never-both : RatioSound P w e c → RatioUnsound P w e c → ⊥
   never-both s (bad-distance a b) = not-both (s .distances a) b
   never-both s (bad-limit k l x b) = not-both (s .limits k l x) b
   never-both s (bad-quotient k l x b) = not-both (s .quotients k l x) b
   never-both s (bad-step k l x b) = not-both (s .steps k l x) b
 
-  passes : Sound P w e c → tested ≡ true
+  passes : RatioSound P w e c → tested ≡ true
   passes s = true-by (λ f. never-both s (unsound-by f))
 
   abbrev place : ℕ
@@ -161,7 +161,7 @@ module _ (P : Problem) (w : Workspace) (e : Entering) (c : Sv) where
       none : ltb place (c .pat .count) ≡ false → NoCandidate P w (rises e) c maxStep
       none h = stays-exactly P w (rises e) c maxStep .0 (omega (arith, within-list P w (rises e) c maxStep, ltb-false place (c .pat .count) h))
 
-      found : Sound P w e c → (b : Bool) → ltb place (c .pat .count) ≡ b → (i : Bool) → infinite other ≡ i → (r : Ratio) × Outcome r
+      found : RatioSound P w e c → (b : Bool) → ltb place (c .pat .count) ≡ b → (i : Bool) → infinite other ≡ i → (r : Ratio) × Outcome r
       found s true h i q = (_, exchanges s place (leaves-exactly P w (rises e) c maxStep place (ltb-true _ _ h) .0 refl))
       found s false h true q = (_, unbounded s (none h) q)
       found s false h false q = (_, flips s (none h) q)
@@ -174,18 +174,18 @@ module _ (P : Problem) (w : Workspace) (e : Entering) (c : Sv) where
   pub ratio-exactly : (r : Ratio) → ratio P w e c ≡ r ↔ Outcome r
   ratio-exactly r = (λ q. subst Outcome (sym (gives (some-outcome .1)) ∙ q) (some-outcome .1), gives)
 
-  of-23 : Outcome NotFinite → Unsound P w e c
+  of-23 : Outcome NotFinite → RatioUnsound P w e c
   of-23 (not-finite u) = u
 
-  of-20 : Outcome Unbounded → Sound P w e c × NoCandidate P w (rises e) c maxStep × (infinite other ≡ true)
+  of-20 : Outcome Unbounded → RatioSound P w e c × NoCandidate P w (rises e) c maxStep × (infinite other ≡ true)
   of-20 (unbounded s n i) = (s, n, i)
 
   -- 01: "A finite bound whose limit or quotient isn't finite gives 23, as does a finite other bound whose distance isn't finite, both in the ratio"
-  pub not-finite-exactly : ratio P w e c ≡ NotFinite ↔ Unsound P w e c
+  pub not-finite-exactly : ratio P w e c ≡ NotFinite ↔ RatioUnsound P w e c
   not-finite-exactly = (λ q. of-23 (ratio-exactly NotFinite .0 q), λ u. gives (not-finite u))
 
   -- 01: "Unbounded is given exactly when no row is a candidate and the entering column's other bound is infinite"
-  pub unbounded-exactly : ratio P w e c ≡ Unbounded ↔ (Sound P w e c × NoCandidate P w (rises e) c maxStep × (infinite other ≡ true))
+  pub unbounded-exactly : ratio P w e c ≡ Unbounded ↔ (RatioSound P w e c × NoCandidate P w (rises e) c maxStep × (infinite other ≡ true))
   unbounded-exactly = (λ q. of-20 (ratio-exactly Unbounded .0 q), λ x. gives (unbounded (x .0) (x .1) (x .2)))
 
   -- The same with nothing of the passes in it, for a column that was chosen and has a finite value: no listed row of EPS or more in size has a finite bound ahead.
@@ -193,14 +193,14 @@ module _ (P : Problem) (w : Workspace) (e : Entering) (c : Sv) where
       → ratio P w e c ≡ Unbounded ↔ ((infinite other ≡ true) × ((k : ℕ) → k < c .pat .count → Examined P w (rises e) c k → ⊥))
   unbounded-means a v = (λ q. clear (unbounded-exactly .0 q), λ x. unbounded-exactly .1 (way x))
     where
-      clear : Sound P w e c × NoCandidate P w (rises e) c maxStep × (infinite other ≡ true) → (infinite other ≡ true) × ((k : ℕ) → k < c .pat .count → Examined P w (rises e) c k → ⊥)
+      clear : RatioSound P w e c × NoCandidate P w (rises e) c maxStep × (infinite other ≡ true) → (infinite other ≡ true) × ((k : ℕ) → k < c .pat .count → Examined P w (rises e) c k → ⊥)
       clear x =
           let far : maxStep ≡ +inf = none-keeps P w (rises e) c (e .distance) (x .0 .quotients) (x .1) ∙ a .distance-is ∙ infinite-distance other current (x .2) v in (
             x .2,
             λ k l y. not-both (finite-below _ (x .0 .quotients k l y)) (subst (λ t. lt (quotientOne P w (rises e) c k) t ≡ false) far (pass-one-means P w (rises e) c (e .distance) .smallest k l y)),
           )
 
-      way : (infinite other ≡ true) × ((k : ℕ) → k < c .pat .count → Examined P w (rises e) c k → ⊥) → Sound P w e c × NoCandidate P w (rises e) c maxStep × (infinite other ≡ true)
+      way : (infinite other ≡ true) × ((k : ℕ) → k < c .pat .count → Examined P w (rises e) c k → ⊥) → RatioSound P w e c × NoCandidate P w (rises e) c maxStep × (infinite other ≡ true)
       way x = (
         record { distances = λ q. absurd (not-both (x .0) q); limits = λ k l y. absurd (x .1 k l y); quotients = λ k l y. absurd (x .1 k l y); steps = λ k l y. absurd (x .1 k l y) },
         λ k l y. x .1 k l (y .looked-at),

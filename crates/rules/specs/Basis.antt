@@ -1,6 +1,6 @@
 -- The column solve and the row solve: the factor, then the etas, or the other way round. From minilp 0.2.2, src/solver.rs, BasisSolver, Apache-2.0, changed. Assumes nothing.
 use mathlib.Core.Bool.{Bool, true, false, _&&_}
-use mathlib.Core.List.{List, [], _∷_, _++_}
+use mathlib.Core.List.{List, _++_}
 use Prim.Native.Nat.{ℕ, _+_}
 use lib.Dec.{ltb, leb, eqb}
 use lib.ListN.{length, set, take, drop}
@@ -10,7 +10,7 @@ use Rattle.doubles.specs.Limits.{etaColumns, etaEntries}
 use Rattle.doubles.specs.Loop.{run, down, all, each}
 use Rattle.doubles.specs.Lists.{_!_, _#_, part}
 use Rattle.sparse.specs.Scattered.{Sv, blank, putAt, addAt, subAt, listed, listedVal}
-use Rattle.rules.specs.Plan.{Problem, State, Etas, Entry, nOf, rowCols, rowCoeffs, dot, column, varStateOf}
+use Rattle.rules.specs.Plan.{Problem, State, Etas, nOf, rowCols, rowCoeffs, dot, column, varStateOf}
 use Rattle.rules.specs.declared.VarState.the-variants.{Basic, NonBasic}
 
 -- "The first factor is the identity"

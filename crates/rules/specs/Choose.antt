@@ -6,7 +6,7 @@ use lib.Ieee.{Float, lt, neg}
 use Rattle.doubles.specs.Num.{_⊖_, _⊗_, _⊘_, f0, eps, -inf, size}
 use Rattle.doubles.specs.Loop.{run}
 use Rattle.doubles.specs.Lists.{_!_, _#_}
-use Rattle.rules.specs.Plan.{Problem, State, Workspace, nOf, varMin, varMax, flagsOf}
+use Rattle.rules.specs.Plan.{Problem, Workspace, nOf, varMin, varMax, flagsOf}
 use Rattle.rules.specs.declared.NonBasicVarState.{NonBasicVarState}
 use Rattle.rules.specs.declared.Entering.{Entering}
 use Rattle.rules.specs.declared.Choice.{Choice}

@@ -227,13 +227,13 @@ NoCandidate P w up c maxStep = Every (c .pat .count) (λ k. ¬ Candidate P w up 
 
 module _ (P : Problem) (w : Workspace) (e : Entering) (c : Sv) where
   -- "A finite bound whose limit or quotient isn't finite gives 23, as does a finite other bound whose distance isn't finite, both in the ratio"
-  pub data Unsound : Type 0 where
-    bad-distance : infinite (otherVal P w (e .col)) ≡ false → NotFinite (e .distance) → Unsound
-    bad-limit : (k : ℕ) → k < c .pat .count → Examined P w (rises e) c k → NotFinite (limitAt P w (rises e) c k) → Unsound
-    bad-quotient : (k : ℕ) → k < c .pat .count → Examined P w (rises e) c k → NotFinite (quotientOne P w (rises e) c k) → Unsound
-    bad-step : (k : ℕ) → k < c .pat .count → Examined P w (rises e) c k → NotFinite (quotientTwo P w (rises e) c k) → Unsound
+  pub data RatioUnsound : Type 0 where
+    bad-distance : infinite (otherVal P w (e .col)) ≡ false → NotFinite (e .distance) → RatioUnsound
+    bad-limit : (k : ℕ) → k < c .pat .count → Examined P w (rises e) c k → NotFinite (limitAt P w (rises e) c k) → RatioUnsound
+    bad-quotient : (k : ℕ) → k < c .pat .count → Examined P w (rises e) c k → NotFinite (quotientOne P w (rises e) c k) → RatioUnsound
+    bad-step : (k : ℕ) → k < c .pat .count → Examined P w (rises e) c k → NotFinite (quotientTwo P w (rises e) c k) → RatioUnsound
 
-  pub record Sound : Type 0 where
+  pub record RatioSound : Type 0 where
     pub distances : infinite (otherVal P w (e .col)) ≡ false → finite (e .distance) ≡ true
     pub limits : (k : ℕ) → k < c .pat .count → Examined P w (rises e) c k → finite (limitAt P w (rises e) c k) ≡ true
     pub quotients : (k : ℕ) → k < c .pat .count → Examined P w (rises e) c k → finite (quotientOne P w (rises e) c k) ≡ true
@@ -255,7 +255,7 @@ module _ (P : Problem) (s : State) (e : Entering) (c : Sv) where
   -- "Unbounded is given exactly when no row is a candidate and the entering column's other bound is infinite"; no 23 came first
   abbrev pub NoBound : Type 0
   NoBound =
-      Sound P (s .ws) e c
+      RatioSound P (s .ws) e c
       × NoCandidate P (s .ws) (rises e) c (passOne P (s .ws) (rises e) c (e .distance))
       × (infinite (otherVal P (s .ws) (e .col)) ≡ true)
 
@@ -297,7 +297,7 @@ module _ (P : Problem) (s : State) (e : Entering) (c : Sv) where
   StopsWith Stop·Spent = ⊥
   StopsWith Stop·Unbounded = (¬ EntryBroken c) × NoBound
   StopsWith Stop·StoreFull = (¬ EntryBroken c) × Chosen StoreFull
-  StopsWith Stop·NotFinite = EntryBroken c ⊎ Unsound P (s .ws) e c ⊎ Chosen StepBroken
+  StopsWith Stop·NotFinite = EntryBroken c ⊎ RatioUnsound P (s .ws) e c ⊎ Chosen StepBroken
 
 -- with the column that the step solves for
 abbrev pub Stops : Problem → State → Entering → Stop → Type 0

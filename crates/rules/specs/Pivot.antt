@@ -1,16 +1,16 @@
 -- 01, "One step": all new numbers, and the store. From minilp 0.2.2, src/solver.rs, pivot and update_primal_sq_norms, Apache-2.0, changed. Assumes nothing.
 use mathlib.Core.Bool.{Bool, true, false, _&&_}
 use mathlib.Core.List.{List}
-use Prim.Native.Nat.{ℕ, suc, _+_}
+use Prim.Native.Nat.{ℕ, suc}
 use lib.Dec.{eqb}
 use lib.ListN.{set}
 use lib.Ieee.{Float, eq, neg}
 use Rattle.doubles.specs.Num.{_⊕_, _⊖_, _⊗_, _⊘_, f1, f2, finite}
 use Rattle.doubles.specs.Loop.{run, all}
 use Rattle.doubles.specs.Lists.{_!_, _#_}
-use Rattle.sparse.specs.Scattered.{Sv, listed, listedVal, sqNorm}
+use Rattle.sparse.specs.Scattered.{Sv, listed, sqNorm}
 use Rattle.rules.specs.Plan.{Problem, Workspace, State, nOf, varMin, varMax, flagsCell, varCell}
-use Rattle.rules.specs.Basis.{listedFinite, etaEntryAt, pushEta}
+use Rattle.rules.specs.Basis.{etaEntryAt, pushEta}
 use Rattle.rules.specs.declared.Entering.{Entering}
 use Rattle.rules.specs.declared.VarState.the-variants.{Basic, NonBasic}
 

@@ -7,7 +7,7 @@ use Rattle.doubles.specs.Num.{_⊕_, _⊖_, _⊘_, f0, eps, -inf, finite, infin
 use Rattle.doubles.specs.Loop.{run, all}
 use Rattle.doubles.specs.Lists.{_!_, _#_}
 use Rattle.sparse.specs.Scattered.{Sv, listed, listedVal}
-use Rattle.rules.specs.Plan.{Problem, Workspace, mOf, varMin, varMax}
+use Rattle.rules.specs.Plan.{Problem, Workspace, varMin, varMax}
 use Rattle.rules.specs.Choose.{otherVal}
 use Rattle.rules.specs.declared.Entering.{Entering}
 use Rattle.rules.specs.declared.PivotInfo.{PivotInfo}

@@ -1,12 +1,10 @@
 -- The whole: from lent arrays to the answer and what is lent afterwards. Assumes nothing.
 use mathlib.Core.Bool.{Bool, true, false}
 use mathlib.Core.List.{List, [], _∷_}
-use Prim.Native.Nat.{ℕ, _+_}
-use lib.Dec.{eqb, ltb}
-use lib.ListN.{length}
+use lib.Dec.{eqb}
 use lib.Ieee.{Float}
-use Rattle.doubles.specs.Lists.{_#_, over}
-use Rattle.rules.specs.Plan.{Plan, Problem, Memory, State, problemOf, keptRows, mOf}
+use Rattle.doubles.specs.Lists.{over}
+use Rattle.rules.specs.Plan.{Plan, Problem, Memory, State, problemOf, mOf}
 use Rattle.rules.specs.Refusals.{passes1, passes2, firstBadRow, firstBadIn, firstCrossed, firstFalse}
 use Rattle.rules.specs.Start.{startState, passes6, passes7, dualFeasible}
 use Rattle.rules.specs.Basis.{etaUsed}

@@ -1,13 +1,13 @@
 -- 01, "Start": try_new with 01's rules, and the tests behind 6 and 7. From minilp 0.2.2, src/solver.rs, Apache-2.0, changed. Assumes nothing.
-use mathlib.Core.Bool.{Bool, true, false, not, _&&_, _||_}
-use mathlib.Core.List.{List, []}
-use Prim.Native.Nat.{ℕ, zero, suc, _+_, _-_}
-use lib.ListN.{length, set}
+use mathlib.Core.Bool.{Bool, true, false, _&&_}
+use mathlib.Core.List.{List}
+use Prim.Native.Nat.{ℕ, _+_}
+use lib.ListN.{set}
 use lib.Ieee.{Float, lt, le, eq}
 use Rattle.doubles.specs.Num.{_⊕_, _⊖_, _⊗_, f0, f1, finite, infinite}
 use Rattle.doubles.specs.Loop.{run, all, table, each}
 use Rattle.doubles.specs.Lists.{_!_, _#_, over}
-use Rattle.rules.specs.Plan.{Plan, Problem, Memory, Workspace, State, Entry, nOf, mOf, rowSum, column, flagsCell, slackMin, slackMax}
+use Rattle.rules.specs.Plan.{Plan, Problem, Workspace, State, nOf, mOf, rowSum, column, flagsCell, slackMin, slackMax}
 
 -- "Fixed: that value. Free: 0.0. Positive cost: lower if finite, else upper. Negative: upper if finite, else lower. Zero cost: lower if finite, else upper."
 abbrev pub lowerFirst : Float → Float → Float

@@ -1,7 +1,6 @@
 -- 01, "One step": "Order: entering column (none: final check); budget; column solve; ratio; Unbounded; eta room; row solve; all new numbers; store". Assumes nothing.
 use mathlib.Core.Bool.{Bool, true, false, _&&_}
-use Prim.Native.Nat.{ℕ, zero, suc}
-use lib.ListN.{length}
+use Prim.Native.Nat.{ℕ}
 use lib.Ieee.{Float}
 use Rattle.doubles.specs.Loop.{until, Next, done, more}
 use Rattle.doubles.specs.Lists.{_#_}

@@ -3,7 +3,7 @@ use mathlib.Core.Path.{_≡_, refl, sym, ap, _∙_}
 use Prim.Native.Nat.{ℕ, zero, suc}
 use native.Mathlib.Omega.{arith}
 use lib.IntN.{ℤ}
-use Rattle.sheet_rules.specs.Sheet.{Sheet, Plan, Kept, sheetOf, fresh, overKept}
+use Rattle.sheet_rules.specs.Sheet.{Sheet, Kept, sheetOf, fresh, overKept}
 use Rattle.sheet_rules.specs.Opening.{opening, opened, leaves}
 use Rattle.sheet_rules.specs.Edit.{applied, editRefusal, edit}
 use Rattle.sheet_rules.specs.Words.{Sized, Limits, OpeningSays, Today, EditSays}

@@ -1,13 +1,12 @@
 -- The changes of R and D, kind by kind, and the bounds that kinds 3, 4, 8 and 9 leave. Assumes nothing.
 use mathlib.Core.Path.{_≡_, refl, sym, ap, _∙_}
-use mathlib.Core.Bool.{Bool, true, false, _&&_, _||_}
-use mathlib.Core.List.{[], _∷_}
-use Prim.Native.Nat.{ℕ, zero, suc, _≤_, _<_}
+use mathlib.Core.Bool.{Bool, true, false, _&&_}
+use Prim.Native.Nat.{ℕ, suc, _≤_, _<_}
 use native.Mathlib.Omega.{arith}
-use lib.Dec.{eqb, lit≤}
-use lib.IntN.{ℤ, pos, negℤ, natAbs, _+ℤ_, _-ℤ_, _*ℤ_, +ℤ-assoc, +ℤ-invl, +ℤ-idl, +ℤ-idr}
+use lib.Dec.{lit≤}
+use lib.IntN.{ℤ, pos, negℤ, _+ℤ_, _-ℤ_, _*ℤ_, +ℤ-assoc, +ℤ-invl, +ℤ-idl, +ℤ-idr}
 use borrow.Author.Tests.{ne-eqb}
-use Rattle.doubles.specs.Limits.{maxBound, unit}
+use Rattle.doubles.specs.Limits.{unit}
 use Rattle.sheet_rules.specs.Sum.{_‼_}
 use Rattle.sheet_rules.specs.Sheet.{Plan, Sheet, sheetOf, a, c, x, Y, lower, upper, lowerMark, upperMark}
 use Rattle.sheet_rules.specs.Edit.{put, edited, movedR, movedD}

@@ -1,12 +1,11 @@
 -- What the calls of an accepted edit ask, and what they make of the kept numbers together. Assumes nothing.
 use mathlib.Core.Path.{_≡_, ap, _∙_}
 use mathlib.Core.List.{List, []}
-use Prim.Native.Nat.{_≤_}
 use lib.IntN.{ℤ}
 use Rattle.doubles.specs.Limits.{maxR, maxD}
 use Rattle.doubles.specs.Lists.{over}
 use Rattle.doubles.specs.Loop.{table}
-use Rattle.sheet_rules.specs.Sheet.{Sheet, Kept, keptOf, sheetOf, overKept}
+use Rattle.sheet_rules.specs.Sheet.{Sheet, keptOf, sheetOf, overKept}
 use Rattle.sheet_rules.specs.Edit.{movedR, movedD, moved}
 use Rattle.sheet_rules.specs.declared.Edit.{Edit}
 use Rattle.sheet_terms.specs.Small.{Small}

@@ -12,9 +12,9 @@ use borrow.Author.Tests.{leb-true, le-leb, lt-leb, ne-eqb}
 use Rattle.doubles.specs.Limits.{maxCoefficient, maxCost, maxRightSide, maxBound, maxAmount, maxMultiplier}
 use Rattle.sheet_rules.specs.Sum.{_‼_}
 use Rattle.sheet_rules.specs.Sheet.{Sheet, Plan, a, c, lower, upper, lowerMark, upperMark, rhs, x, Y}
-use Rattle.sheet_rules.specs.Opening.{Test, _unless_, firstFailed, sizesFine, crosses, crossesAt}
+use Rattle.sheet_rules.specs.Opening.{Test, _unless_, firstFailed, sizesFine, crosses}
 use Rattle.sheet_rules.specs.Edit.{put, edited, applied, knownKind, todaysKind, indexFine, bothFine, soundAt, editTests, editRefusal, oldNumber, oldMark}
-use Rattle.sheet_rules.specs.Words.{Sized, Index, NumberIn, WouldCross, Sound, Today, Placed, EditSays, Takes}
+use Rattle.sheet_rules.specs.Words.{Sized, Index, NumberIn, WouldCross, Sound, Today, Placed, EditSays}
 use Rattle.sheet_rules.specs.declared.Edit.{Edit}
 use Rattle.sheet_rules.proofs.Takes.{takes}
 use Rattle.sheet_rules.proofs.Tests.{no-so, sizes-decide, index-decides, both-decides, would-cross-found, sound-decides}

@@ -1,5 +1,5 @@
 -- A kind's refusal, the limit of the number handed in, and the edited cell as it was. Assumes nothing.
-use mathlib.Core.List.{List, [], _∷_}
+use mathlib.Core.List.{[], _∷_}
 use Prim.Native.Nat.{ℕ, _^_}
 use lib.ListN.{getD}
 use Rattle.doubles.specs.Limits.{maxCoefficient, maxCost, maxRightSide, maxBound, maxAmount, maxMultiplier}

@@ -3,16 +3,15 @@ use mathlib.Core.Path.{_≡_, refl, sym, ap, ap₂, _∙_}
 use mathlib.Core.Bool.{Bool, true, false, not, _||_}
 use mathlib.Core.Logic.{_⊎_, inl, inr}
 use Prim.Native.Nat.{ℕ, _<_}
-use native.Mathlib.Omega.{arith}
 use lib.Dec.{eqb}
 use borrow.Author.Tests.{eqb-true}
 use lib.IntN.{ℤ, pos, negℤ, _+ℤ_, _-ℤ_, _*ℤ_, +ℤ-invr, +ℤ-idr}
 use Rattle.doubles.specs.Limits.{unit}
 use Rattle.sheet_rules.specs.Sum.{_‼_, sum, bit}
 use Rattle.sheet_rules.specs.Sheet.{Plan, Kept, Sheet, a, c, x, Y, rhs, op, lower, upper, lowerMark, upperMark, holds, wrong, outside, term, lacks, brokenAt, outsideAt, wrongAt, termAt, lacksAt}
-use Rattle.sheet_rules.specs.Edit.{put, edited, movedR, movedD, movedC, movedB, movedBroken, movedOutside, movedWrong, movedAbsent}
+use Rattle.sheet_rules.specs.Edit.{put, edited, movedR, movedD, movedB, movedBroken, movedOutside, movedWrong, movedAbsent}
 use Rattle.sheet_rules.specs.Touches.{R, D, C, B, count, touches}
-use Rattle.sheet_rules.specs.Words.{Sized, Index, Takes}
+use Rattle.sheet_rules.specs.Words.{Takes}
 use Rattle.sheet_rules.specs.declared.Edit.{Edit}
 use Rattle.sheet_rules.proofs.Ring.{add-mul, mul-add, neg-mul, mul-neg}
 use Rattle.sheet_rules.proofs.Sums.{sum-ext, change-none}

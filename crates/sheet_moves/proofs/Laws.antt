@@ -1,7 +1,7 @@
 -- How far a column's term of B moves when its price moves: never more than the price's change times the larger bound. Assumes nothing.
-use mathlib.Core.Path.{_≡_, refl, sym, ap, ap₂, _∙_, subst}
+use mathlib.Core.Path.{_≡_, refl, sym, ap, _∙_, subst}
 use mathlib.Core.Bool.{Bool, true, false}
-use Prim.Native.Nat.{ℕ, zero, suc, _+_, _*_, _≤_, _<_}
+use Prim.Native.Nat.{ℕ, zero, suc, _+_, _*_, _≤_}
 use native.Mathlib.Nat.{add-zero, le-trans, le-refl, mul-le-mul-right, add-mul as add-mulN}
 use native.Mathlib.Omega.{arith}
 use lib.Dec.{leb→le}
@@ -14,7 +14,7 @@ use Rattle.sheet_rules.specs.Words.{Count}
 use Rattle.sheet_rules.specs.Sheet.{present, termBy, term}
 use Rattle.sheet_rules.proofs.Ring.{add-mul, neg-mul, add-right-comm}
 use Rattle.sheet_terms.proofs.Laws.{bit-size}
-use Rattle.sheet_rules.proofs.Sizes.{abs-neg, abs-add, abs-mul, mul-size, sub-size}
+use Rattle.sheet_rules.proofs.Sizes.{abs-neg, mul-size, sub-size}
 
 -- a bound, or 0 where it is absent
 abbrev taken : Bool → ℤ → ℤ

@@ -1,11 +1,11 @@
 -- Laws for opening: a row's part of the coefficients, and how large a fresh price is. Assumes nothing.
-use mathlib.Core.Path.{_≡_, refl, sym, ap, _∙_}
+use mathlib.Core.Path.{_≡_, refl, ap, _∙_}
 use mathlib.Core.List.{List, [], _∷_}
 use Prim.Native.Nat.{ℕ, _+_, _-_, _*_, _≤_, _<_}
 use native.Mathlib.Nat.{mul-le-mul-right, suc-mul, le-trans}
 use native.Mathlib.Omega.{arith}
 use lib.Dec.{lit≤}
-use lib.IntN.{ℤ, pos, natAbs, _+ℤ_, _-ℤ_, _*ℤ_}
+use lib.IntN.{ℤ, pos, natAbs, _+ℤ_, _*ℤ_}
 use lib.ListN.{length, take, drop, set, length-drop}
 use lib.Seq.{length-take-le, getD-take, getD-drop}
 use Rattle.doubles.specs.Limits.{maxRows, maxColumns, maxCoefficient, maxCost, maxAmount, maxMultiplier, maxBound, maxD, unit}
@@ -53,18 +53,6 @@ module _ (coefs amounts : List ℤ) (i m n : ℕ) (l : i < m) (few : n ≤ maxCo
   pub row-is : rowSum (cut coefs (i * n) n) amounts ≡ dot n (λ j. coefs ‼ (i * n + j)) (λ j. amounts ‼ j)
   unfolding rowSum
   row-is = ap (λ (k : ℕ). dot k (λ j. cut coefs (i * n) n ‼ j) (λ j. amounts ‼ j)) long ∙ sum-ext n _ _ (λ j h. ap (λ (z : ℤ). z *ℤ amounts ‼ j) (cut-at coefs (i * n) n j h))
-
--- ---- stores at the front
-pub set-one : (l : List ℤ) (v : ℤ) → 1 ≤ length l → set l 0 v ≡ over (v ∷ []) l
-set-one [] v h = absurd (omega (arith, h))
-set-one (x ∷ l) v h = refl
-
-pub set-four : (l : List ℤ) (a b c d : ℤ) → 4 ≤ length l → set (set (set (set l 0 a) 1 b) 2 c) 3 d ≡ over (a ∷ b ∷ c ∷ d ∷ []) l
-set-four [] a b c d h = absurd (omega (arith, h))
-set-four (_ ∷ []) a b c d h = absurd (omega (arith, h))
-set-four (_ ∷ _ ∷ []) a b c d h = absurd (omega (arith, h))
-set-four (_ ∷ _ ∷ _ ∷ []) a b c d h = absurd (omega (arith, h))
-set-four (_ ∷ _ ∷ _ ∷ _ ∷ l) a b c d h = refl
 
 -- ---- sizes
 pub weaken : {a b n : ℕ} {l : List ℤ} → a ≤ b → Small a n l → Small b n l

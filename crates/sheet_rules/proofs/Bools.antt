@@ -9,10 +9,6 @@ use native.Mathlib.Omega.{arith}
 pub unlike : {X : Type 0} → false ≡ true → X
 unlike e = absurd (let z : _≡_ {A = ℕ} 0 1 = cc in omega arith)
 
-pub whether : {X : Type 0} (b : Bool) → (b ≡ true → X) → (b ≡ false → X) → X
-whether true f g = f refl
-whether false f g = g refl
-
 pub both-not : (b d : Bool) → (b && d) ≡ false → b ≡ true → d ≡ false
 both-not true d e h = e
 both-not false d e h = unlike h

@@ -11,11 +11,12 @@ use lib.ListN.{getD}
 use lib.Seq.{getD-set-other}
 use lib.IntN.{pos}
 use borrow.Author.Tests.{eqb-true}
+use Rattle.doubles.proofs.Bools.{by-test}
 use Rattle.sheet_rules.specs.Sheet.{Plan, a, c, lower, upper, lowerMark, upperMark, rhs, x, Y}
 use Rattle.sheet_rules.specs.Edit.{put, edited, usesColumn, usesRow}
 use Rattle.sheet_rules.specs.declared.Edit.{Edit}
 use Rattle.sheet_rules.specs.Words.{Index}
-use Rattle.sheet_rules.proofs.Bools.{whether, none-of, all-three}
+use Rattle.sheet_rules.proofs.Bools.{none-of, all-three}
 use Rattle.sheet_rules.proofs.Ring.{lt-or-ge}
 
 pub put-other : {A : Type 0} (b : Bool) (i k : ℕ) (v d : A) (l : List A) → (k ≡ i → ⊥) → getD (put b i v l) k d ≡ getD l k d
@@ -41,11 +42,11 @@ place-column i k j l n h g e = omega (arith, ap (λ (r : ℕ). r * n) (place-row
 module _ (p : Plan) (e : Edit) (ok : Index p e) where
   pub column-used : (e .column < p .cols) ⊎ ((e .kind ≡ 5) ⊎ (e .kind ≡ 7))
   column-used =
-      whether (usesColumn (e .kind)) (λ u. inl (ok .column-in u))
+      by-test (usesColumn (e .kind)) (λ u. inl (ok .column-in u))
       (λ u. inr (⊎-elim (λ h. inl (eqb-true (e .kind) 5 h)) (λ h. inr (eqb-true (e .kind) 7 h)) (none-of (eqb (e .kind) 5) (eqb (e .kind) 7) u)))
 
   pub row-used : (e .row < p .rows) ⊎ ((eqb (e .kind) 5 ≡ false) × (eqb (e .kind) 6 ≡ false) × (eqb (e .kind) 7 ≡ false))
-  row-used = whether (usesRow (e .kind)) (λ u. inl (ok .row-in u)) (λ u. inr (all-three (eqb (e .kind) 5) (eqb (e .kind) 6) (eqb (e .kind) 7) u))
+  row-used = by-test (usesRow (e .kind)) (λ u. inl (ok .row-in u)) (λ u. inr (all-three (eqb (e .kind) 5) (eqb (e .kind) 6) (eqb (e .kind) 7) u))
 
   -- a coefficient of another column, or of another row
   coef-still : (i j : ℕ) → j < p .cols → (e .column < p .cols → i * p .cols + j ≡ e .row * p .cols + e .column → ⊥) → a (edited p e) i j ≡ a p i j

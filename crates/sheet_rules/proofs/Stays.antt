@@ -13,12 +13,12 @@ use borrow.Author.Tests.{eqb-true, eqb-false}
 use Rattle.doubles.specs.Limits.{maxCoefficient, maxBound}
 use Rattle.doubles.specs.Lists.{_#_, over}
 use Rattle.doubles.proofs.Loops.{length-tab}
+use Rattle.doubles.proofs.Bools.{by-test}
 use Rattle.sheet_rules.specs.Sum.{_‼_}
 use Rattle.sheet_rules.specs.Sheet.{Plan, Kept, Sheet, sheetOf, overKept}
 use Rattle.sheet_rules.specs.Edit.{put, edited, moved, applied, movedR, movedD}
 use Rattle.sheet_rules.specs.Words.{Sized, Bound, Arrays, Limits, Crossed, Crossing, Index, NumberIn, WouldCross}
 use Rattle.sheet_rules.specs.declared.Edit.{Edit}
-use Rattle.sheet_rules.proofs.Bools.{whether}
 use Rattle.sheet_rules.proofs.Takes.{takes}
 use Rattle.sheet_rules.proofs.Tests.{crosses-so}
 use Rattle.sheet_rules.proofs.Local.{put-other, lower-still, upper-still, lowerMark-still, upperMark-still}
@@ -99,7 +99,7 @@ put-at m false i k v l h g = g
 put-bounds : (dropped new : Bool) (i : ℕ) (v : ℤ) (l : List ℤ) (m : List ℕ) (n : ℕ) → n ≤ length l → n ≤ length m → (new ≡ true → natAbs v ≤ maxBound) → ((j : ℕ) → j < n → Bound (m # j) (l ‼ j))
     → (j : ℕ) → j < n → Bound (put dropped i 0 (put new i 1 m) # j) (put dropped i (pos 0) (put new i v l) ‼ j)
 unfolding put
-put-bounds dropped new i v l m n g h w b j k = whether (eqb j i) (λ u. rw (eqb-true j i u) (here (rw (eqb-true j i u) at k) dropped new w)) (λ u. rw (put-other dropped i j 0 0 (put new i 1 m) (eqb-false j i u), put-other new i j 1 0 m (eqb-false j i u), put-other dropped i j (pos 0) (pos 0) (put new i v l) (eqb-false j i u), put-other new i j v (pos 0) l (eqb-false j i u)) (b j k))
+put-bounds dropped new i v l m n g h w b j k = by-test (eqb j i) (λ u. rw (eqb-true j i u) (here (rw (eqb-true j i u) at k) dropped new w)) (λ u. rw (put-other dropped i j 0 0 (put new i 1 m) (eqb-false j i u), put-other new i j 1 0 m (eqb-false j i u), put-other dropped i j (pos 0) (pos 0) (put new i v l) (eqb-false j i u), put-other new i j v (pos 0) l (eqb-false j i u)) (b j k))
   where
     here : i < n → (dropped new : Bool) → (new ≡ true → natAbs v ≤ maxBound) → Bound (put dropped i 0 (put new i 1 m) # i) (put dropped i (pos 0) (put new i v l) ‼ i)
     here k true new w = rw (getD-set-same (put new i 1 m) i 0 0 (rw put-length (omega arith)), getD-set-same (put new i v l) i (pos 0) (pos 0) (rw put-length (omega arith))) (record { known = omega arith; small = omega arith; absent = λ _. omega arith })
@@ -132,10 +132,10 @@ module _ (s : Sheet) (e : Edit) (z : Sized s) (i : Index (s .plan) e) (would : �
   here : Crossed (edited (s .plan) e) (e .column) → (Crossed (s .plan) (e .column) → ⊥) → ⊥
   unfolding edited put
   here w h =
-      whether (eqb (e .kind) 3) (λ a. would (crosses-so s e z i w (inl (eqb-true _ _ a)))) (λ a.
-      whether (eqb (e .kind) 4) (λ b. would (crosses-so s e z i w (inr (eqb-true _ _ b)))) (λ b.
-      whether (eqb (e .kind) 8) (λ c. absent (takes s e z i .lower-dropped (eqb-true _ _ c) .1) (w .lower-present)) (λ c.
-      whether (eqb (e .kind) 9) (λ d. absent (takes s e z i .upper-dropped (eqb-true _ _ d) .1) (w .upper-present)) (λ d.
+      by-test (eqb (e .kind) 3) (λ a. would (crosses-so s e z i w (inl (eqb-true _ _ a)))) (λ a.
+      by-test (eqb (e .kind) 4) (λ b. would (crosses-so s e z i w (inr (eqb-true _ _ b)))) (λ b.
+      by-test (eqb (e .kind) 8) (λ c. absent (takes s e z i .lower-dropped (eqb-true _ _ c) .1) (w .lower-present)) (λ c.
+      by-test (eqb (e .kind) 9) (λ d. absent (takes s e z i .upper-dropped (eqb-true _ _ d) .1) (w .upper-present)) (λ d.
       h (record { lower-present = rw (a, c) at (w .lower-present); upper-present = rw (b, d) at (w .upper-present); above = rw (a, b, c, d) at (w .above) })))))
     where
       absent : {m : ℕ} → m ≡ 0 → m ≡ 1 → ⊥
@@ -144,7 +144,7 @@ module _ (s : Sheet) (e : Edit) (z : Sized s) (i : Index (s .plan) e) (would : �
   pub edited-uncrossed : ¬ Crossing (s .plan) → ¬ Crossing (edited (s .plan) e)
   unfolding edited
   edited-uncrossed h w =
-      whether (eqb (w .0) (e .column))
+      by-test (eqb (w .0) (e .column))
       (λ u. here (subst (Crossed (edited (s .plan) e)) (eqb-true _ _ u) (w .2)) (λ c. h (e .column, subst (λ (j : ℕ). j < s .plan .cols) (eqb-true _ _ u) (w .1), c)))
       (λ u.
       let ne = eqb-false (w .0) (e .column) u in

@@ -14,6 +14,7 @@ use Rattle.doubles.specs.Limits.{unit}
 use Rattle.doubles.specs.Loop.{table}
 use Rattle.doubles.specs.Lists.{over}
 use Rattle.doubles.proofs.Loops.{length-tab}
+use Rattle.doubles.proofs.Bools.{by-test}
 use Rattle.sheet_rules.specs.Sum.{_‼_, bit}
 use Rattle.sheet_rules.specs.Sheet.{Plan, Sheet, a, c, x, Y, rhs, brokenAt, outsideAt, wrongAt, termAt, lacksAt, overKept}
 use Rattle.sheet_rules.specs.Opening.{leaves}
@@ -23,7 +24,7 @@ use Rattle.sheet_rules.specs.Touches.{Cell, coef, cost, lower, upper, lo
 use Rattle.sheet_rules.specs.Words.{Index, Takes, Today}
 use Rattle.sheet_rules.specs.declared.Edit.{Edit}
 use Rattle.sheet_rules.proofs.Sums.{change-none}
-use Rattle.sheet_rules.proofs.Bools.{whether, both-not, neither, none-of, all-three}
+use Rattle.sheet_rules.proofs.Bools.{both-not, neither, none-of, all-three}
 use Rattle.sheet_rules.proofs.Local.{put-other, column-used, a-column, a-row, c-still}
 use Rattle.sheet_rules.proofs.Tests.{zero-decides}
 use Rattle.sheet_rules.proofs.Exact.{accepted-so}
@@ -47,7 +48,7 @@ module _ (s : Sheet) (e : Edit) (ok : Index (s .plan) e) where
   -- the term of row i in the edited column
   row-term : (i : ℕ) → i < p .rows → touches s e (R i) ≡ false → a q i (e .column) *ℤ x q (e .column) ≡ a p i (e .column) *ℤ x p (e .column)
   unfolding touches edited put
-  row-term i l t = whether (eqb (e .kind) 1) one other
+  row-term i l t = by-test (eqb (e .kind) 1) one other
     where
       t′ : ((eqb (e .kind) 1 && ltb i (p .rows) && not (isZero (a p i (e .column)))) ≡ false) × ((eqb (e .kind) 6 && eqb i (e .row)) ≡ false)
       t′ = neither _ _ t
@@ -60,7 +61,7 @@ module _ (s : Sheet) (e : Edit) (ok : Index (s .plan) e) where
           ap (λ (y : ℤ). y *ℤ x q (e .column)) same ∙ times-zero (x q (e .column)) (x p (e .column)) z
 
       other : eqb (e .kind) 1 ≡ false → a q i (e .column) *ℤ x q (e .column) ≡ a p i (e .column) *ℤ x p (e .column)
-      other w = ap₂ _*ℤ_ (whether (eqb (e .kind) 6) six (λ v. rw v)) (rw w)
+      other w = ap₂ _*ℤ_ (by-test (eqb (e .kind) 6) six (λ v. rw v)) (rw w)
         where
           six : eqb (e .kind) 6 ≡ true → a q i (e .column) ≡ a p i (e .column)
           six v = ⊎-elim (λ h. a-row p e ok i (e .column) h (eqb-false i (e .row) (both-not _ _ (t′ .1) v))) (λ h. ⊎-elim (λ (k : e .kind ≡ 5). rw k) (λ (k : e .kind ≡ 7). rw k) h) (column-used p e ok)
@@ -68,7 +69,7 @@ module _ (s : Sheet) (e : Edit) (ok : Index (s .plan) e) where
   -- the cost of column j, and its term in the edited row
   price-term : (j : ℕ) → j < p .cols → touches s e (D j) ≡ false → pos unit *ℤ c q j -ℤ a q (e .row) j *ℤ Y q (e .row) ≡ pos unit *ℤ c p j -ℤ a p (e .row) j *ℤ Y p (e .row)
   unfolding touches edited put
-  price-term j l t = ap₂ (λ (y z : ℤ). pos unit *ℤ y -ℤ z) (whether (eqb (e .kind) 2) two (λ w. rw w)) (whether (eqb (e .kind) 7) seven other)
+  price-term j l t = ap₂ (λ (y z : ℤ). pos unit *ℤ y -ℤ z) (by-test (eqb (e .kind) 2) two (λ w. rw w)) (by-test (eqb (e .kind) 7) seven other)
     where
       t′ : (((eqb (e .kind) 2 || eqb (e .kind) 6) && eqb j (e .column)) ≡ false) × ((eqb (e .kind) 7 && ltb j (p .cols) && not (isZero (a p (e .row) j))) ≡ false)
       t′ = neither _ _ t
@@ -84,7 +85,7 @@ module _ (s : Sheet) (e : Edit) (ok : Index (s .plan) e) where
           ap (λ (y : ℤ). y *ℤ Y q (e .row)) same ∙ times-zero (Y q (e .row)) (Y p (e .row)) z
 
       other : eqb (e .kind) 7 ≡ false → a q (e .row) j *ℤ Y q (e .row) ≡ a p (e .row) j *ℤ Y p (e .row)
-      other w = ap₂ _*ℤ_ (whether (eqb (e .kind) 6) (λ v. a-column p e ok (e .row) j l (eqb-false j (e .column) (rw (eqb-true (e .kind) 6 v) at (t′ .0)))) (λ v. rw v)) (rw w)
+      other w = ap₂ _*ℤ_ (by-test (eqb (e .kind) 6) (λ v. a-column p e ok (e .row) j l (eqb-false j (e .column) (rw (eqb-true (e .kind) 6 v) at (t′ .0)))) (λ v. rw v)) (rw w)
 
   pub R-still : (i : ℕ) → i < p .rows → touches s e (R i) ≡ false → movedR s e i ≡ s .kept .R ‼ i
   unfolding movedR
@@ -154,7 +155,7 @@ past f l k h =
     rw e (getD-append-add f (drop (length f) l) n (pos 0) ∙ getD-drop (length f) l n (pos 0))
 
 kept-at : (n : ℕ) (f : ℕ → ℤ) (l : List ℤ) (k : ℕ) → (k < n → f k ≡ l ‼ k) → over (table n f) l ‼ k ≡ l ‼ k
-kept-at n f l k h = whether (ltb k n) (λ w. front n f l k (ltb-true k n w) ∙ h (ltb-true k n w)) (λ w. past (table n f) l k (rw (length-tab n 0 f) (ltb-false k n w)))
+kept-at n f l k h = by-test (ltb k n) (λ w. front n f l k (ltb-true k n w) ∙ h (ltb-true k n w)) (λ w. past (table n f) l k (rw (length-tab n 0 f) (ltb-false k n w)))
 
 put-untouched : {A : Type 0} (b : Bool) (i k : ℕ) (v d : A) (l : List A) → (b && eqb k i) ≡ false → getD (put b i v l) k d ≡ getD l k d
 unfolding put

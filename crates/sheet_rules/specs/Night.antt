@@ -1,13 +1,9 @@
 -- Night case N5's sheets; crate `night` has what 01 gives for each. Assumes nothing.
-use mathlib.Core.List.{List, [], _∷_}
+use mathlib.Core.List.{[], _∷_}
 use Prim.Native.Nat.{ℕ}
 use lib.IntN.{ℤ, pos, negℤ}
 use Rattle.sheet_rules.specs.Sheet.{Sheet, planOf, keptOf, sheetOf}
-use Rattle.sheet_rules.specs.Opening.{opening, opened}
-use Rattle.sheet_rules.specs.Verdict.{verdict}
 use Rattle.sheet_rules.specs.declared.Edit.{Edit}
-use Rattle.sheet_rules.specs.declared.Verdict.{Verdict}
-use Rattle.sheet_rules.specs.declared.Verdict.the-variants.{NotPlan, NoFloor, Gap}
 
 abbrev pub minus : ℕ → ℤ
 minus n = negℤ (pos n)

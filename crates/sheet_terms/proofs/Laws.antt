@@ -1,10 +1,12 @@
 -- Laws that the proofs share. Assumes nothing.
 use mathlib.Core.Path.{_≡_, refl, ap, _∙_}
 use mathlib.Core.Bool.{Bool, true, false}
+use mathlib.Core.List.{List, [], _∷_}
 use Prim.Native.Nat.{ℕ, zero, suc, _+_, _*_, _≤_, _<_, _^_}
 use native.Mathlib.Nat.{le-antisymm}
 use native.Mathlib.Numerals.{add-one}
 use native.Mathlib.Omega.{arith}
+use lib.ListN.{length, set}
 use lib.IntN.{ℤ, pos, natAbs, _+ℤ_}
 use lib.Dec.{T, ltb, ltb→lt}
 use lib.Signed.{ltZ, leZ}
@@ -12,6 +14,7 @@ use mir.Syntax.{w64}
 use mir.Val.{SFits}
 use mir.ValLaws.{toZ-ofZ}
 use Rattle.doubles.specs.Loop.{run}
+use Rattle.doubles.specs.Lists.{over}
 use Rattle.sheet_rules.specs.Sum.{sum, bit}
 use Rattle.sheet_rules.proofs.Sizes.{abs-add, mul-size}
 use Rattle.sheet_rules.specs.Sheet.{holds, wrong, present, termBy, term}
@@ -73,3 +76,15 @@ term-size P Q d l u lm um hd hl hu = by (ltZ (pos 0) d) (ltZ d (pos 0)) (present
     by false true low true = mul-size d u P Q hd hu
     by false true low false = omega arith
     by false false low high = omega arith
+
+-- ---- stores at the front
+pub set-one : (l : List ℤ) (v : ℤ) → 1 ≤ length l → set l 0 v ≡ over (v ∷ []) l
+set-one [] v h = absurd (omega (arith, h))
+set-one (x ∷ l) v h = refl
+
+pub set-four : (l : List ℤ) (a b c d : ℤ) → 4 ≤ length l → set (set (set (set l 0 a) 1 b) 2 c) 3 d ≡ over (a ∷ b ∷ c ∷ d ∷ []) l
+set-four [] a b c d h = absurd (omega (arith, h))
+set-four (_ ∷ []) a b c d h = absurd (omega (arith, h))
+set-four (_ ∷ _ ∷ []) a b c d h = absurd (omega (arith, h))
+set-four (_ ∷ _ ∷ _ ∷ []) a b c d h = absurd (omega (arith, h))
+set-four (_ ∷ _ ∷ _ ∷ _ ∷ l) a b c d h = refl

@@ -1,6 +1,5 @@
 -- What 01's words for the sizes and numbers of a sheet give the code that reads them. Assumes nothing.
-use mathlib.Core.Path.{_≡_}
-use Prim.Native.Nat.{ℕ, _*_, _≤_, _<_, _^_}
+use Prim.Native.Nat.{ℕ, _*_, _≤_}
 use native.Mathlib.Nat.{le-trans, mul-le-mul-left, mul-le-mul-right, lt-of-le-of-lt}
 use lib.Dec.{lit<, lit≤}
 use mir.Syntax.{w64}

@@ -1,5 +1,5 @@
 -- What a sheet's sizes and numbers promise once 11 and 12 or 14 have looked at them. Assumes nothing.
-use mathlib.Core.List.{List, []}
+use mathlib.Core.List.{[]}
 use Prim.Native.Nat.{ℕ, _*_, _≤_}
 use lib.ListN.{length}
 use Rattle.doubles.specs.Limits.{maxRows, maxColumns, maxCost, maxRightSide, maxBound, maxAmount, maxMultiplier}

@@ -11,7 +11,7 @@ use borrow.Author.Tests.{ltb-true, ltb-false}
 use Rattle.doubles.specs.Num.{f1}
 use Rattle.doubles.specs.Limits.{places}
 use Rattle.doubles.specs.Loop.{run, each}
-use Rattle.doubles.specs.Lists.{_!_, _#_, part}
+use Rattle.doubles.specs.Lists.{_#_, part}
 use Rattle.sparse.specs.Scattered.{Sv, blank, putAt, putTurn, loaded, Good, Within}
 use Rattle.sparse.proofs.Laws.{good-putAt, good-blank, good-loaded}
 use Rattle.rules.specs.Plan.{Problem, Etas, Entry, nOf, mOf, column}

@@ -266,10 +266,6 @@ module _ {n : ℕ} (at : List ℕ) (xs : List Float) (m : ℕ) (w : Within n m a
   unfolding loaded
   good-loaded s g = good-loading s g m (le-refl m)
 
-  pub below-loaded : (s : Sv) → Below n s → Below n (loaded at xs m s)
-  unfolding loaded
-  below-loaded s g = keeps (putTurn at xs) s (λ _. Below n) m (λ j t l p. below-putAt t _ _ p (w .inside j l)) g m (le-refl m)
-
 -- what holds while a vector is cleared: the listed places that are left are those marked
 pub record Clearing (n : ℕ) (l : List ℕ) (k : ℕ) (s : Sv) : Type 0 where
   pub vals-long : length (s .vals) ≡ n

@@ -1,5 +1,5 @@
 -- `exchange::exchange` meets its contract: each call's answer is the definition's, and each way it ends. Assumes nothing.
-use mathlib.Core.Path.{_≡_, sym, _∙_}
+use mathlib.Core.Path.{_∙_}
 use mathlib.Core.List.{[]}
 use native.Mathlib.Omega.{arith}
 use borrow.Author.Needs.{needs}

@@ -1,5 +1,5 @@
 -- `exchange::numbers_finite` meets its contract: each test is the definition's, in its order. Assumes nothing.
-use mathlib.Core.Path.{sym, ap, _∙_}
+use mathlib.Core.Path.{sym, _∙_}
 use borrow.Author.Tests.{not-true, not-false}
 use Rattle.pivot.proofs.Laws.{fails, passes}
 use Rattle.exchange.proofs.numbers_finite.Statement.{statement}

@@ -7,7 +7,7 @@ use Rattle.doubles.proofs.Bools.{turned, turned-true, itself}
 use Rattle.rules.specs.Plan.{Problem}
 use Rattle.rules.specs.Parts.{planOf, problem}
 use Rattle.rules.specs.Start.{passes6}
-use Rattle.start.specs.Reckoned.{Numbers, numbers, reckoned}
+use Rattle.start.specs.Reckoned.{Numbers, numbers}
 use Rattle.start.proofs.Parts.{reckoned-part}
 use Rattle.start.proofs.Start.{six-is, seven-is, still-long, fits-reckonable, fits-ops}
 use Rattle.gateway.proofs.Gate.{starts-wild, starts-outside, starts-well}

@@ -1,6 +1,5 @@
 -- `sheet::open` meets its contract. Assumes nothing.
 use mathlib.Core.Path.{refl, sym, _∙_}
-use borrow.Author.Needs.{needs}
 use Rattle.sheet_rules.specs.Sheet.{Sheet, planOf, keptOf, sheetOf}
 use Rattle.sheet.proofs.Laws.{opened-so, opens-new, opens-old}
 use Rattle.sheet.proofs.open.Statement.{statement}

@@ -1,11 +1,9 @@
 -- `sheet::verdict` meets its contract. Assumes nothing.
 use mathlib.Core.Path.{_≡_, sym, ap, _∙_}
-use mathlib.Core.Bool.{not}
-use Prim.Native.Nat.{ℕ, _*_, _-_}
+use Prim.Native.Nat.{ℕ}
 use native.Mathlib.Omega.{arith}
 use lib.Dec.{lit≤}
 use lib.IntN.{ℤ}
-use borrow.Author.Needs.{needs}
 use Rattle.doubles.specs.Limits.{maxC, maxB}
 use Rattle.sheet_rules.specs.Sum.{_‼_}
 use Rattle.sheet_terms.proofs.Machine.{result, E, num, mul, exact, fit}

@@ -3,11 +3,9 @@ use mathlib.Core.Path.{_≡_, refl, sym, ap, _∙_}
 use Prim.Native.Nat.{_≤_, _-_}
 use native.Mathlib.Omega.{arith}
 use lib.IntN.{ℤ, natAbs, _+ℤ_}
-use borrow.Author.Needs.{needs}
 use Rattle.doubles.specs.Limits.{maxR}
 use Rattle.sheet_rules.specs.Sum.{_‼_}
 use Rattle.sheet_terms.proofs.Machine.{result, seen}
-use Rattle.sheet_terms.proofs.Laws.{turn}
 use mathlib.Core.Bool.{true}
 use borrow.Author.Tests.{le-leb, lt-leb}
 use Rattle.doubles.specs.Loop.{all}

@@ -3,7 +3,6 @@ use mathlib.Core.Path.{_≡_, sym, ap, _∙_}
 use Prim.Native.Nat.{_+_, _*_, _<_}
 use native.Mathlib.Omega.{arith}
 use lib.IntN.{ℤ, _+ℤ_}
-use borrow.Author.Needs.{needs}
 use Rattle.doubles.specs.Limits.{maxCoefficient, maxAmount, maxR}
 use Rattle.sheet_rules.specs.Sum.{_‼_}
 use Rattle.sheet_terms.proofs.Machine.{word, of-word, E, num, mul, exact, fit}

@@ -2,7 +2,6 @@
 use mathlib.Core.Path.{_≡_, ap, _∙_}
 use native.Mathlib.Omega.{arith}
 use lib.IntN.{natAbs}
-use borrow.Author.Needs.{needs}
 use Rattle.doubles.specs.Limits.{maxC, maxB}
 use Rattle.sheet_terms.proofs.Machine.{result}
 use mathlib.Core.Bool.{_&&_}

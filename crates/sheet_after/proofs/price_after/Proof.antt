@@ -4,7 +4,6 @@ use Prim.Native.Nat.{_+_, _*_, _<_}
 use native.Mathlib.Omega.{arith}
 use lib.Dec.{lit≤}
 use lib.IntN.{ℤ, _+ℤ_}
-use borrow.Author.Needs.{needs}
 use Rattle.doubles.specs.Limits.{maxCoefficient, maxCost, maxMultiplier, maxD}
 use Rattle.sheet_rules.specs.Sum.{_‼_}
 use Rattle.sheet_terms.proofs.Machine.{word, of-word, E, num, mul, exact, fit}

@@ -6,7 +6,6 @@ use native.Mathlib.Nat.{le-trans}
 use native.Mathlib.Omega.{arith}
 use lib.Dec.{lit≤}
 use lib.IntN.{ℤ, _+ℤ_, _-ℤ_, _*ℤ_}
-use borrow.Author.Needs.{needs}
 use Rattle.doubles.specs.Limits.{maxRows, maxColumns, maxCost, maxAmount, maxC, maxB}
 use Rattle.doubles.specs.Lists.{_#_}
 use Rattle.sheet_rules.specs.Sum.{_‼_, sum, bit}
@@ -74,109 +73,117 @@ module _ (s : tie.Start) where
   abbrev rows-at : ℤ → ℕ → ℤ
   rows-at b i = bit (not (holds (s .args .ops .now # i) (s .args .r .now ‼ i +ℤ s .args .coefs .now ‼ (i * s .args .columns + e .column) *ℤ b) (s .args .rights .now ‼ i))) -ℤ bit (not (holds (s .args .ops .now # i) (s .args .r .now ‼ i) (s .args .rights .now ‼ i)))
 
+-- the entry, from places on the way
+abbrev entry-at-beyond-arg4 : tie.After-beyond-arg4 → tie.Start
+entry-at-beyond-arg4 c = search
+
+abbrev entry-at-broken-change : tie.After-broken-change → tie.Start
+entry-at-broken-change c = search
+
 module _ (c : tie.After-broken-change) where
-  rows-is : let s = (c .before .before .before .before .before .before .before .before .before .before) in c .broken-change .result ≡ sum (s .args .rows) (rows-at s (val (by s)))
-  rows-is = let s = (c .before .before .before .before .before .before .before .before .before .before) in c .broken-change .ensures ∙ ap (λ (b : ℤ). sum (s .args .rows) (rows-at s b)) (exact (by s) tt)
+  rows-is : let s = entry-at-broken-change c in c .broken-change .result ≡ sum (s .args .rows) (rows-at s (val (by s)))
+  rows-is = let s = entry-at-broken-change c in c .broken-change .ensures ∙ ap (λ (b : ℤ). sum (s .args .rows) (rows-at s b)) (exact (by s) tt)
 
   abbrev brokens : E
-  brokens = let s = (c .before .before .before .before .before .before .before .before .before .before) in add (broken₀ s) (num (c .broken-change .result) (maxRows * 2) (rw rows-is (up-to maxRows 2 (s .args .rows) _ (s .pre .0 .sized .rows-fit) (λ i _. bits-size _ _))))
+  brokens = let s = entry-at-broken-change c in add (broken₀ s) (num (c .broken-change .result) (maxRows * 2) (rw rows-is (up-to maxRows 2 (s .args .rows) _ (s .pre .0 .sized .rows-fit) (λ i _. bits-size _ _))))
+
+abbrev entry-at-beyond2 : tie.After-beyond2 → tie.Start
+entry-at-beyond2 c = search
 
 -- outsides
 module _ (c : tie.After-beyond2) where
-  outsides-new : let s = (c .before .before .before .before .before .before .before .before .before .before .before .before .before .before .before .before .before .before .before .before .before) in (c .before .before .before .before .before) .beyond .result ≡ bit (outside (e s .number) (s .args .lowers .now ‼ e s .column) (s .args .uppers .now ‼ e s .column) (s .args .lower-marks .now # e s .column) (s .args .upper-marks .now # e s .column))
-  outsides-new = let s = (c .before .before .before .before .before .before .before .before .before .before .before .before .before .before .before .before .before .before .before .before .before) in (c .before .before .before .before .before) .beyond .ensures ∙ rw (exact (new s) tt, result (s .args .lowers .now ‼ e s .column) (c .before .before .before .before .before .before .before .before .before .beyond-arg .given), result (s .args .uppers .now ‼ e s .column) (c .before .before .before .before .before .before .before .before .beyond-arg2 .given))
+  outsides-new : let s = entry-at-beyond2 c in (c .before .before .before .before .before) .beyond .result ≡ bit (outside (e s .number) (s .args .lowers .now ‼ e s .column) (s .args .uppers .now ‼ e s .column) (s .args .lower-marks .now # e s .column) (s .args .upper-marks .now # e s .column))
+  outsides-new = let s = entry-at-beyond2 c in (c .before .before .before .before .before) .beyond .ensures ∙ rw (exact (new s) tt, result (s .args .lowers .now ‼ e s .column) (c .before .before .before .before .before .before .before .before .before .beyond-arg .given), result (s .args .uppers .now ‼ e s .column) (c .before .before .before .before .before .before .before .before .beyond-arg2 .given))
 
-  outsides-old : let s = (c .before .before .before .before .before .before .before .before .before .before .before .before .before .before .before .before .before .before .before .before .before) in c .beyond2 .result ≡ bit (outside (s .args .amounts .now ‼ e s .column) (s .args .lowers .now ‼ e s .column) (s .args .uppers .now ‼ e s .column) (s .args .lower-marks .now # e s .column) (s .args .upper-marks .now # e s .column))
-  outsides-old = let s = (c .before .before .before .before .before .before .before .before .before .before .before .before .before .before .before .before .before .before .before .before .before) in c .beyond2 .ensures ∙ rw (exact (old s) tt, result (s .args .lowers .now ‼ e s .column) (c .before .before .before .before .beyond-arg3 .given), result (s .args .uppers .now ‼ e s .column) (c .before .before .before .beyond-arg4 .given))
+  outsides-old : let s = entry-at-beyond2 c in c .beyond2 .result ≡ bit (outside (s .args .amounts .now ‼ e s .column) (s .args .lowers .now ‼ e s .column) (s .args .uppers .now ‼ e s .column) (s .args .lower-marks .now # e s .column) (s .args .upper-marks .now # e s .column))
+  outsides-old = let s = entry-at-beyond2 c in c .beyond2 .ensures ∙ rw (exact (old s) tt, result (s .args .lowers .now ‼ e s .column) (c .before .before .before .before .beyond-arg3 .given), result (s .args .uppers .now ‼ e s .column) (c .before .before .before .beyond-arg4 .given))
 
   abbrev outsides-change : E
-  outsides-change = let s = (c .before .before .before .before .before .before .before .before .before .before .before .before .before .before .before .before .before .before .before .before .before) in sub (num (c .before .before .before .before .before .beyond .result) 1 (rw outsides-new (bit-size _))) (num (c .beyond2 .result) 1 (rw outsides-old (bit-size _)))
+  outsides-change = let s = entry-at-beyond2 c in sub (num (c .before .before .before .before .before .beyond .result) 1 (rw outsides-new (bit-size _))) (num (c .beyond2 .result) 1 (rw outsides-old (bit-size _)))
 
   abbrev outsides : E
-  outsides = add (outside₀ (c .before .before .before .before .before .before .before .before .before .before .before .before .before .before .before .before .before .before .before .before .before)) outsides-change
+  outsides = add (outside₀ (entry-at-beyond2 c)) outsides-change
 
-  outsides-is : let s = (c .before .before .before .before .before .before .before .before .before .before .before .before .before .before .before .before .before .before .before .before .before) in mach outsides ≡ val (outside₀ s) +ℤ (bit (outside (e s .number) (s .args .lowers .now ‼ e s .column) (s .args .uppers .now ‼ e s .column) (s .args .lower-marks .now # e s .column) (s .args .upper-marks .now # e s .column)) -ℤ bit (outside (s .args .amounts .now ‼ e s .column) (s .args .lowers .now ‼ e s .column) (s .args .uppers .now ‼ e s .column) (s .args .lower-marks .now # e s .column) (s .args .upper-marks .now # e s .column)))
-  outsides-is = let s = (c .before .before .before .before .before .before .before .before .before .before .before .before .before .before .before .before .before .before .before .before .before) in exact outsides tt ∙ (λ h. val (outside₀ s) +ℤ (outsides-new h -ℤ outsides-old h))
+  outsides-is : let s = entry-at-beyond2 c in mach outsides ≡ val (outside₀ s) +ℤ (bit (outside (e s .number) (s .args .lowers .now ‼ e s .column) (s .args .uppers .now ‼ e s .column) (s .args .lower-marks .now # e s .column) (s .args .upper-marks .now # e s .column)) -ℤ bit (outside (s .args .amounts .now ‼ e s .column) (s .args .lowers .now ‼ e s .column) (s .args .uppers .now ‼ e s .column) (s .args .lower-marks .now # e s .column) (s .args .upper-marks .now # e s .column)))
+  outsides-is = let s = entry-at-beyond2 c in exact outsides tt ∙ (λ h. val (outside₀ s) +ℤ (outsides-new h -ℤ outsides-old h))
 
 mul-old : tie.Need-mul-old
-mul-old c = omega (arith, column (c .before .before .before), c .before .before .before .pre .0 .sized)
+mul-old c = let s : tie.Start = search in omega (arith, column s, s .pre .0 .sized)
 
 shared-slice-copy-out-old : tie.Need-shared-slice-copy-out-old
-shared-slice-copy-out-old c = omega (arith, column (c .before .before .before), c .before .before .before .pre .0 .sized)
+shared-slice-copy-out-old c = let s : tie.Start = search in omega (arith, column s, s .pre .0 .sized)
 
 sub-by : tie.Need-sub-by
-sub-by c = fit (by (c .before .before .before .before .before)) tt
+sub-by c = let s : tie.Start = search in fit (by s) tt
 
 shared-slice-copy-out-t25 : tie.Need-shared-slice-copy-out-t25
-shared-slice-copy-out-t25 c = omega (arith, column (c .before .before .before .before .before), c .before .before .before .before .before .pre .0 .sized)
+shared-slice-copy-out-t25 c = let s : tie.Start = search in omega (arith, column s, s .pre .0 .sized)
 
 mul-t23 : tie.Need-mul-t23
-mul-t23 c = omega (arith, column (c .before .before .before .before .before .before), c .before .before .before .before .before .before .pre .0 .sized)
+mul-t23 c = let s : tie.Start = search in omega (arith, column s, s .pre .0 .sized)
 
 shared-slice-copy-out-t28 : tie.Need-shared-slice-copy-out-t28
-shared-slice-copy-out-t28 c = omega (arith, column (c .before .before .before .before .before .before), c .before .before .before .before .before .before .pre .0 .sized)
+shared-slice-copy-out-t28 c = let s : tie.Start = search in omega (arith, column s, s .pre .0 .sized)
 
 mul-t29 : tie.Need-mul-t29
-mul-t29 c = fit (product (c .before .before .before .before .before .before .before)) tt
+mul-t29 c = let s : tie.Start = search in fit (product s) tt
 
 add-t30 : tie.Need-add-t30
-add-t30 c = fit (cost (c .before .before .before .before .before .before .before)) tt
+add-t30 c = let s : tie.Start = search in fit (cost s) tt
 
 shared-slice-copy-out-t32 : tie.Need-shared-slice-copy-out-t32
-shared-slice-copy-out-t32 c = omega (arith, column (c .before .before .before .before .before .before .before), c .before .before .before .before .before .before .before .pre .0 .sized)
+shared-slice-copy-out-t32 c = let s : tie.Start = search in omega (arith, column s, s .pre .0 .sized)
 
 shared-slice-copy-out-t34 : tie.Need-shared-slice-copy-out-t34
-shared-slice-copy-out-t34 c = omega (arith, column (c .before .before .before .before .before .before .before .before), c .before .before .before .before .before .before .before .before .pre .0 .sized)
+shared-slice-copy-out-t34 c = let s : tie.Start = search in omega (arith, column s, s .pre .0 .sized)
 
 broken-change-requires : tie.Need-broken-change-requires
-broken-change-requires c κs =
-    let s = (c .before .before .before .before .before .before .before .before .before) in
-    (s .pre .0 .sized .rows-fit, record { column-in = column s; there = s .pre .0 .sized .coefs-fit; at = s .pre .0 .sound .column-in (rw (s .pre .1)) }, s .pre .0 .sized .rights-fit, s .pre .0 .sized .ops-fit, record { there = s .pre .0 .sized .R-fits; at = s .pre .0 .sound .kept-in .R-in }, rw (exact (by s) tt) (size (by s) tt))
+broken-change-requires c κs = let s : tie.Start = search in (s .pre .0 .sized .rows-fit, record { column-in = column s; there = s .pre .0 .sized .coefs-fit; at = s .pre .0 .sound .column-in (rw (s .pre .1)) }, s .pre .0 .sized .rights-fit, s .pre .0 .sized .ops-fit, record { there = s .pre .0 .sized .R-fits; at = s .pre .0 .sound .kept-in .R-in }, rw (exact (by s) tt) (size (by s) tt))
 
 add-t36 : tie.Need-add-t36
 add-t36 c = fit (brokens c) tt
 
 shared-slice-copy-out-t38 : tie.Need-shared-slice-copy-out-t38
-shared-slice-copy-out-t38 c = omega (arith, column (c .before .before .before .before .before .before .before .before .before .before), c .before .before .before .before .before .before .before .before .before .before .pre .0 .sized)
+shared-slice-copy-out-t38 c = let s : tie.Start = search in omega (arith, column s, s .pre .0 .sized)
 
 mul-beyond : tie.Need-mul-beyond
-mul-beyond c = omega (arith, column (c .before .before .before .before .before .before .before .before .before .before .before), c .before .before .before .before .before .before .before .before .before .before .before .pre .0 .sized)
+mul-beyond c = let s : tie.Start = search in omega (arith, column s, s .pre .0 .sized)
 
 shared-slice-copy-out-beyond : tie.Need-shared-slice-copy-out-beyond
-shared-slice-copy-out-beyond c = omega (arith, column (c .before .before .before .before .before .before .before .before .before .before .before), c .before .before .before .before .before .before .before .before .before .before .before .pre .0 .sized)
+shared-slice-copy-out-beyond c = let s : tie.Start = search in omega (arith, column s, s .pre .0 .sized)
 
 mul-beyond-2 : tie.Need-mul-beyond-2
-mul-beyond-2 c = omega (arith, column (c .before .before .before .before .before .before .before .before .before .before .before .before), c .before .before .before .before .before .before .before .before .before .before .before .before .pre .0 .sized)
+mul-beyond-2 c = let s : tie.Start = search in omega (arith, column s, s .pre .0 .sized)
 
 shared-slice-copy-out-beyond-2 : tie.Need-shared-slice-copy-out-beyond-2
-shared-slice-copy-out-beyond-2 c = omega (arith, column (c .before .before .before .before .before .before .before .before .before .before .before .before), c .before .before .before .before .before .before .before .before .before .before .before .before .pre .0 .sized)
+shared-slice-copy-out-beyond-2 c = let s : tie.Start = search in omega (arith, column s, s .pre .0 .sized)
 
 shared-slice-read-beyond : tie.Need-shared-slice-read-beyond
-shared-slice-read-beyond c = omega (arith, column (c .before .before .before .before .before .before .before .before .before .before .before .before .before .before), c .before .before .before .before .before .before .before .before .before .before .before .before .before .before .pre .0 .sized)
+shared-slice-read-beyond c = let s : tie.Start = search in omega (arith, column s, s .pre .0 .sized)
 
 shared-slice-read-beyond-2 : tie.Need-shared-slice-read-beyond-2
-shared-slice-read-beyond-2 c = omega (arith, column (c .before .before .before .before .before .before .before .before .before .before .before .before .before .before .before), c .before .before .before .before .before .before .before .before .before .before .before .before .before .before .before .pre .0 .sized)
+shared-slice-read-beyond-2 c = let s : tie.Start = search in omega (arith, column s, s .pre .0 .sized)
 
 beyond-requires : tie.Need-beyond-requires
 beyond-requires c κs = tt
 
 mul-beyond-3 : tie.Need-mul-beyond-3
-mul-beyond-3 c = omega (arith, column (c .before .before .before .before .before .before .before .before .before .before .before .before .before .before .before .before), c .before .before .before .before .before .before .before .before .before .before .before .before .before .before .before .before .pre .0 .sized)
+mul-beyond-3 c = let s : tie.Start = search in omega (arith, column s, s .pre .0 .sized)
 
 shared-slice-copy-out-beyond-3 : tie.Need-shared-slice-copy-out-beyond-3
-shared-slice-copy-out-beyond-3 c = omega (arith, column (c .before .before .before .before .before .before .before .before .before .before .before .before .before .before .before .before), c .before .before .before .before .before .before .before .before .before .before .before .before .before .before .before .before .pre .0 .sized)
+shared-slice-copy-out-beyond-3 c = let s : tie.Start = search in omega (arith, column s, s .pre .0 .sized)
 
 mul-beyond-4 : tie.Need-mul-beyond-4
-mul-beyond-4 c = omega (arith, column (c .before .before .before .before .before .before .before .before .before .before .before .before .before .before .before .before .before), c .before .before .before .before .before .before .before .before .before .before .before .before .before .before .before .before .before .pre .0 .sized)
+mul-beyond-4 c = let s : tie.Start = search in omega (arith, column s, s .pre .0 .sized)
 
 shared-slice-copy-out-beyond-4 : tie.Need-shared-slice-copy-out-beyond-4
-shared-slice-copy-out-beyond-4 c = omega (arith, column (c .before .before .before .before .before .before .before .before .before .before .before .before .before .before .before .before .before), c .before .before .before .before .before .before .before .before .before .before .before .before .before .before .before .before .before .pre .0 .sized)
+shared-slice-copy-out-beyond-4 c = let s : tie.Start = search in omega (arith, column s, s .pre .0 .sized)
 
 shared-slice-read-beyond-3 : tie.Need-shared-slice-read-beyond-3
-shared-slice-read-beyond-3 c = omega (arith, column (c .before .before .before .before .before .before .before .before .before .before .before .before .before .before .before .before .before .before .before), c .before .before .before .before .before .before .before .before .before .before .before .before .before .before .before .before .before .before .before .pre .0 .sized)
+shared-slice-read-beyond-3 c = let s : tie.Start = search in omega (arith, column s, s .pre .0 .sized)
 
 shared-slice-read-beyond-4 : tie.Need-shared-slice-read-beyond-4
-shared-slice-read-beyond-4 c = omega (arith, column (c .before .before .before .before .before .before .before .before .before .before .before .before .before .before .before .before .before .before .before .before), c .before .before .before .before .before .before .before .before .before .before .before .before .before .before .before .before .before .before .before .before .pre .0 .sized)
+shared-slice-read-beyond-4 c = let s : tie.Start = search in omega (arith, column s, s .pre .0 .sized)
 
 beyond-requires-2 : tie.Need-beyond-requires-2
 beyond-requires-2 c κs = tt
@@ -188,15 +195,17 @@ add-t62 : tie.Need-add-t62
 add-t62 c = fit (outsides c) tt
 
 shared-slice-copy-out-t64 : tie.Need-shared-slice-copy-out-t64
-shared-slice-copy-out-t64 c = omega (arith, column (c .before .before .before .before .before .before .before .before .before .before .before .before .before .before .before .before .before .before .before .before .before), c .before .before .before .before .before .before .before .before .before .before .before .before .before .before .before .before .before .before .before .before .before .pre .0 .sized)
+shared-slice-copy-out-t64 c = let s : tie.Start = search in omega (arith, column s, s .pre .0 .sized)
 
 shared-slice-copy-out-t66 : tie.Need-shared-slice-copy-out-t66
-shared-slice-copy-out-t66 c = omega (arith, column (c .before .before .before .before .before .before .before .before .before .before .before .before .before .before .before .before .before .before .before .before .before .before), c .before .before .before .before .before .before .before .before .before .before .before .before .before .before .before .before .before .before .before .before .before .before .pre .0 .sized)
+shared-slice-copy-out-t66 c = let s : tie.Start = search in omega (arith, column s, s .pre .0 .sized)
 
 returns : tie.Need-returns
 returns c =
-    let s = (c .before .before .before .before .before .before .before .before .before .before .before .before .before .before .before .before .before .before .before .before .before .before .before) in
-    (λ h. totalsOf (exact (cost s) tt h) (exact (B₀ s) tt h) ((exact (brokens (c .before .before .before .before .before .before .before .before .before .before .before .before .before)) tt) h) (outsides-is (c .before .before) h) (exact (wrong₀ s) tt h) (exact (absent₀ s) tt h)) ∙ amount-law (sheet s) (e s) (s .pre .0) (s .pre .1) _ (rows-is (c .before .before .before .before .before .before .before .before .before .before .before .before .before))
+    let at-broken-change : tie.After-broken-change = search in
+    let x : tie.After-beyond-arg4 = search in
+    let s = entry-at-beyond-arg4 x in
+    (λ h. totalsOf (exact (cost s) tt h) (exact (B₀ s) tt h) ((exact (brokens at-broken-change) tt) h) (outsides-is (c .before .before) h) (exact (wrong₀ s) tt h) (exact (absent₀ s) tt h)) ∙ amount-law (sheet s) (e s) (s .pre .0) (s .pre .1) _ (rows-is at-broken-change)
 
 pub amount-totals-spec : {M : Type 1} → statement M
 amount-totals-spec =

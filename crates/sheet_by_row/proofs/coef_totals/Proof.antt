@@ -5,8 +5,7 @@ use Prim.Native.Nat.{_+_, _*_, _<_}
 use native.Mathlib.Nat.{le-trans}
 use native.Mathlib.Omega.{arith}
 use lib.Dec.{lit≤}
-use lib.IntN.{ℤ, _+ℤ_, _-ℤ_}
-use borrow.Author.Needs.{needs}
+use lib.IntN.{_+ℤ_, _-ℤ_}
 use Rattle.doubles.specs.Limits.{maxColumns, maxCoefficient, maxAmount, maxMultiplier, maxBound, maxR, maxD, maxC, maxB}
 use Rattle.doubles.specs.Lists.{_#_}
 use Rattle.sheet_rules.specs.Sum.{_‼_, bit}
@@ -22,7 +21,6 @@ use Rattle.sheet_rules.specs.declared.Edit.{Edit}
 use Rattle.sheet_terms.proofs.Machine.{val, sub, add}
 use Rattle.sheet_moves.proofs.Laws.{count-size}
 use Rattle.sheet_moves.proofs.ByKind.{totalsOf, coef-law}
-use borrow.Author.Needs.{needs}
 use Rattle.sheet_by_row.proofs.coef_totals.Statement.{statement}
 use Rattle.sheet_by_row.proofs.coef_totals.Tie as tie
 

@@ -5,7 +5,6 @@ use native.Mathlib.Nat.{le-trans}
 use native.Mathlib.Omega.{arith}
 use lib.Dec.{lit≤}
 use lib.IntN.{ℤ, _+ℤ_, _-ℤ_, _*ℤ_}
-use borrow.Author.Needs.{needs}
 use Rattle.doubles.specs.Limits.{maxColumns, maxCoefficient, maxMultiplier, maxRightSide, maxBound, maxD, maxC, maxB}
 use Rattle.doubles.specs.Lists.{_#_}
 use Rattle.sheet_rules.specs.Sum.{_‼_, sum, bit}
@@ -23,7 +22,6 @@ use Rattle.sheet_tests.proofs.Tells.{plan-sized, fine}
 use Rattle.sheet_moves.specs.After.{RowSmall}
 use Rattle.sheet_moves.proofs.Laws.{fall-size, count-size, bits-size}
 use Rattle.sheet_moves.proofs.ByKind.{totalsOf, mult-law}
-use borrow.Author.Needs.{needs}
 use Rattle.sheet_by_row.proofs.mult_totals.Statement.{statement}
 use Rattle.sheet_by_row.proofs.mult_totals.Tie as tie
 
@@ -87,69 +85,78 @@ module _ (s : tie.Start) where
   abbrev lacks-at : ℤ → ℕ → ℤ
   lacks-at b j = bit (lacks (s .args .d .now ‼ j -ℤ s .args .coefs .now ‼ (e .row * s .args .columns + j) *ℤ b) (s .args .lower-marks .now # j) (s .args .upper-marks .now # j)) -ℤ bit (lacks (s .args .d .now ‼ j) (s .args .lower-marks .now # j) (s .args .upper-marks .now # j))
 
+abbrev entry-at-terms-change : tie.After-terms-change → tie.Start
+entry-at-terms-change c = search
+
 module _ (c : tie.After-terms-change) where
-  terms-is : let s = (c .before .before .before .before .before .before .before .before .before) in c .terms-change .result ≡ sum (s .args .columns) (terms-at s (val (by s)))
-  terms-is = let s = (c .before .before .before .before .before .before .before .before .before) in c .terms-change .ensures ∙ ap (λ (b : ℤ). sum (s .args .columns) (terms-at s b)) (exact (by s) tt)
+  terms-is : let s = entry-at-terms-change c in c .terms-change .result ≡ sum (s .args .columns) (terms-at s (val (by s)))
+  terms-is = let s = entry-at-terms-change c in c .terms-change .ensures ∙ ap (λ (b : ℤ). sum (s .args .columns) (terms-at s b)) (exact (by s) tt)
 
   abbrev floors : E
   floors =
-      let s = (c .before .before .before .before .before .before .before .before .before) in
+      let s = entry-at-terms-change c in
       add (sides s) (num (c .terms-change .result) (maxColumns * ((maxCoefficient * (2 * maxMultiplier)) * maxBound)) (rw terms-is (up-to maxColumns ((maxCoefficient * (2 * maxMultiplier)) * maxBound) (s .args .columns) (terms-at s (val (by s))) (s .pre .0 .sized .cols-fit) (λ j l. fall-size (s .args .lowers .now ‼ j) (s .args .uppers .now ‼ j) _ _ (maxCoefficient * (2 * maxMultiplier)) maxBound (s .pre .0 .sound .arrays-in .lowers-in j l .small) (s .pre .0 .sound .arrays-in .uppers-in j l .small) (s .args .d .now ‼ j) (s .args .coefs .now ‼ (e s .row * s .args .columns + j) *ℤ val (by s)) (mul-size (s .args .coefs .now ‼ (e s .row * s .args .columns + j)) (val (by s)) maxCoefficient (2 * maxMultiplier) (row-small s .at j l) (size (by s) tt))))))
 
+abbrev entry-at-absent-change : tie.After-absent-change → tie.Start
+entry-at-absent-change c = search
+
 module _ (c : tie.After-absent-change) where
-  lacks-is : let s = (c .before .before .before .before .before .before .before .before .before .before .before .before .before .before .before .before .before .before .before .before) in c .absent-change .result ≡ sum (s .args .columns) (lacks-at s (val (by s)))
-  lacks-is = let s = (c .before .before .before .before .before .before .before .before .before .before .before .before .before .before .before .before .before .before .before .before) in c .absent-change .ensures ∙ ap (λ (b : ℤ). sum (s .args .columns) (lacks-at s b)) (exact (by s) tt)
+  lacks-is : let s = entry-at-absent-change c in c .absent-change .result ≡ sum (s .args .columns) (lacks-at s (val (by s)))
+  lacks-is = let s = entry-at-absent-change c in c .absent-change .ensures ∙ ap (λ (b : ℤ). sum (s .args .columns) (lacks-at s b)) (exact (by s) tt)
 
   abbrev absents : E
-  absents = let s = (c .before .before .before .before .before .before .before .before .before .before .before .before .before .before .before .before .before .before .before .before) in add (absent₀ s) (num (c .absent-change .result) (maxColumns * 2) (rw lacks-is (up-to maxColumns 2 (s .args .columns) (lacks-at s (val (by s))) (s .pre .0 .sized .cols-fit) (λ j _. bits-size _ _))))
+  absents = let s = entry-at-absent-change c in add (absent₀ s) (num (c .absent-change .result) (maxColumns * 2) (rw lacks-is (up-to maxColumns 2 (s .args .columns) (lacks-at s (val (by s))) (s .pre .0 .sized .cols-fit) (λ j _. bits-size _ _))))
+
+abbrev entry-at-bit2 : tie.After-bit2 → tie.Start
+entry-at-bit2 c = search
 
 -- wrongs
 module _ (c : tie.After-bit2) where
-  wrongs-new : let s = (c .before .before .before .before .before .before .before .before .before .before .before .before .before .before .before .before .before .before) in (c .before .before .before) .bit .result ≡ bit (wrong (s .args .ops .now # e s .row) (e s .number))
-  wrongs-new = let s = (c .before .before .before .before .before .before .before .before .before .before .before .before .before .before .before .before .before .before) in (c .before .before .before) .bit .ensures ∙ ap bit (c .before .before .before .before .wrong .ensures ∙ rw (exact (new s) tt))
+  wrongs-new : let s = entry-at-bit2 c in (c .before .before .before) .bit .result ≡ bit (wrong (s .args .ops .now # e s .row) (e s .number))
+  wrongs-new = let s = entry-at-bit2 c in (c .before .before .before) .bit .ensures ∙ ap bit (c .before .before .before .before .wrong .ensures ∙ rw (exact (new s) tt))
 
-  wrongs-old : let s = (c .before .before .before .before .before .before .before .before .before .before .before .before .before .before .before .before .before .before) in c .bit2 .result ≡ bit (wrong (s .args .ops .now # e s .row) (s .args .mults .now ‼ e s .row))
-  wrongs-old = let s = (c .before .before .before .before .before .before .before .before .before .before .before .before .before .before .before .before .before .before) in c .bit2 .ensures ∙ ap bit (c .before .wrong2 .ensures ∙ rw (exact (old s) tt))
+  wrongs-old : let s = entry-at-bit2 c in c .bit2 .result ≡ bit (wrong (s .args .ops .now # e s .row) (s .args .mults .now ‼ e s .row))
+  wrongs-old = let s = entry-at-bit2 c in c .bit2 .ensures ∙ ap bit (c .before .wrong2 .ensures ∙ rw (exact (old s) tt))
 
   abbrev wrongs-change : E
-  wrongs-change = let s = (c .before .before .before .before .before .before .before .before .before .before .before .before .before .before .before .before .before .before) in sub (num (c .before .before .before .bit .result) 1 (rw wrongs-new (bit-size _))) (num (c .bit2 .result) 1 (rw wrongs-old (bit-size _)))
+  wrongs-change = let s = entry-at-bit2 c in sub (num (c .before .before .before .bit .result) 1 (rw wrongs-new (bit-size _))) (num (c .bit2 .result) 1 (rw wrongs-old (bit-size _)))
 
   abbrev wrongs : E
-  wrongs = add (wrong₀ (c .before .before .before .before .before .before .before .before .before .before .before .before .before .before .before .before .before .before)) wrongs-change
+  wrongs = add (wrong₀ (entry-at-bit2 c)) wrongs-change
 
-  wrongs-is : let s = (c .before .before .before .before .before .before .before .before .before .before .before .before .before .before .before .before .before .before) in mach wrongs ≡ val (wrong₀ s) +ℤ (bit (wrong (s .args .ops .now # e s .row) (e s .number)) -ℤ bit (wrong (s .args .ops .now # e s .row) (s .args .mults .now ‼ e s .row)))
-  wrongs-is = let s = (c .before .before .before .before .before .before .before .before .before .before .before .before .before .before .before .before .before .before) in exact wrongs tt ∙ (λ h. val (wrong₀ s) +ℤ (wrongs-new h -ℤ wrongs-old h))
+  wrongs-is : let s = entry-at-bit2 c in mach wrongs ≡ val (wrong₀ s) +ℤ (bit (wrong (s .args .ops .now # e s .row) (e s .number)) -ℤ bit (wrong (s .args .ops .now # e s .row) (s .args .mults .now ‼ e s .row)))
+  wrongs-is = let s = entry-at-bit2 c in exact wrongs tt ∙ (λ h. val (wrong₀ s) +ℤ (wrongs-new h -ℤ wrongs-old h))
 
 mul-old : tie.Need-mul-old
-mul-old c = omega (arith, row (c .before .before .before), c .before .before .before .pre .0 .sized)
+mul-old c = let s : tie.Start = search in omega (arith, row s, s .pre .0 .sized)
 
 shared-slice-copy-out-old : tie.Need-shared-slice-copy-out-old
-shared-slice-copy-out-old c = omega (arith, row (c .before .before .before), c .before .before .before .pre .0 .sized)
+shared-slice-copy-out-old c = let s : tie.Start = search in omega (arith, row s, s .pre .0 .sized)
 
 sub-by : tie.Need-sub-by
-sub-by c = fit (by (c .before .before .before .before .before)) tt
+sub-by c = let s : tie.Start = search in fit (by s) tt
 
 shared-slice-copy-out-sides : tie.Need-shared-slice-copy-out-sides
-shared-slice-copy-out-sides c = omega (arith, row (c .before .before .before .before .before), c .before .before .before .before .before .pre .0 .sized)
+shared-slice-copy-out-sides c = let s : tie.Start = search in omega (arith, row s, s .pre .0 .sized)
 
 mul-sides : tie.Need-mul-sides
-mul-sides c = omega (arith, row (c .before .before .before .before .before .before), c .before .before .before .before .before .before .pre .0 .sized)
+mul-sides c = let s : tie.Start = search in omega (arith, row s, s .pre .0 .sized)
 
 shared-slice-copy-out-sides-2 : tie.Need-shared-slice-copy-out-sides-2
-shared-slice-copy-out-sides-2 c = omega (arith, row (c .before .before .before .before .before .before), c .before .before .before .before .before .before .pre .0 .sized)
+shared-slice-copy-out-sides-2 c = let s : tie.Start = search in omega (arith, row s, s .pre .0 .sized)
 
 mul-sides-2 : tie.Need-mul-sides-2
-mul-sides-2 c = fit (product (c .before .before .before .before .before .before .before)) tt
+mul-sides-2 c = let s : tie.Start = search in fit (product s) tt
 
 add-sides : tie.Need-add-sides
-add-sides c = fit (sides (c .before .before .before .before .before .before .before)) tt
+add-sides c = let s : tie.Start = search in fit (sides s) tt
 
 shared-slice-copy-out-t26 : tie.Need-shared-slice-copy-out-t26
-shared-slice-copy-out-t26 c = omega (arith, row (c .before .before .before .before .before .before .before), c .before .before .before .before .before .before .before .pre .0 .sized)
+shared-slice-copy-out-t26 c = let s : tie.Start = search in omega (arith, row s, s .pre .0 .sized)
 
 terms-change-requires : tie.Need-terms-change-requires
 terms-change-requires c κs =
-    let s = (c .before .before .before .before .before .before .before .before) in
+    let s : tie.Start = search in
     let f = fine (sheet s .plan) (plan-sized (sheet s) (s .pre .0 .sized)) (s .pre .0 .sound .arrays-in) in
     (s .pre .0 .sized .cols-fit, row-small s, f .lowers-small, f .uppers-small, s .pre .0 .sized .lowerMarks-fit, s .pre .0 .sized .upperMarks-fit, D-small s, rw (exact (by s) tt) (size (by s) tt))
 
@@ -157,16 +164,16 @@ add-t29 : tie.Need-add-t29
 add-t29 c = fit (floors c) tt
 
 shared-slice-copy-out-t33 : tie.Need-shared-slice-copy-out-t33
-shared-slice-copy-out-t33 c = omega (arith, row (c .before .before .before .before .before .before .before .before .before), c .before .before .before .before .before .before .before .before .before .pre .0 .sized)
+shared-slice-copy-out-t33 c = let s : tie.Start = search in omega (arith, row s, s .pre .0 .sized)
 
 shared-slice-copy-out-t35 : tie.Need-shared-slice-copy-out-t35
-shared-slice-copy-out-t35 c = omega (arith, row (c .before .before .before .before .before .before .before .before .before .before), c .before .before .before .before .before .before .before .before .before .before .pre .0 .sized)
+shared-slice-copy-out-t35 c = let s : tie.Start = search in omega (arith, row s, s .pre .0 .sized)
 
 shared-slice-copy-out-t37 : tie.Need-shared-slice-copy-out-t37
-shared-slice-copy-out-t37 c = omega (arith, row (c .before .before .before .before .before .before .before .before .before .before .before), c .before .before .before .before .before .before .before .before .before .before .before .pre .0 .sized)
+shared-slice-copy-out-t37 c = let s : tie.Start = search in omega (arith, row s, s .pre .0 .sized)
 
 shared-slice-read-wrong : tie.Need-shared-slice-read-wrong
-shared-slice-read-wrong c = omega (arith, row (c .before .before .before .before .before .before .before .before .before .before .before .before .before), c .before .before .before .before .before .before .before .before .before .before .before .before .before .pre .0 .sized)
+shared-slice-read-wrong c = let s : tie.Start = search in omega (arith, row s, s .pre .0 .sized)
 
 wrong-requires : tie.Need-wrong-requires
 wrong-requires c κs = tt
@@ -175,7 +182,7 @@ bit-requires : tie.Need-bit-requires
 bit-requires c κs = tt
 
 shared-slice-read-wrong-2 : tie.Need-shared-slice-read-wrong-2
-shared-slice-read-wrong-2 c = omega (arith, row (c .before .before .before .before .before .before .before .before .before .before .before .before .before .before .before .before), c .before .before .before .before .before .before .before .before .before .before .before .before .before .before .before .before .pre .0 .sized)
+shared-slice-read-wrong-2 c = let s : tie.Start = search in omega (arith, row s, s .pre .0 .sized)
 
 wrong-requires-2 : tie.Need-wrong-requires-2
 wrong-requires-2 c κs = tt
@@ -190,20 +197,19 @@ add-t47 : tie.Need-add-t47
 add-t47 c = fit (wrongs c) tt
 
 shared-slice-copy-out-t49 : tie.Need-shared-slice-copy-out-t49
-shared-slice-copy-out-t49 c = omega (arith, row (c .before .before .before .before .before .before .before .before .before .before .before .before .before .before .before .before .before .before), c .before .before .before .before .before .before .before .before .before .before .before .before .before .before .before .before .before .before .pre .0 .sized)
+shared-slice-copy-out-t49 c = let s : tie.Start = search in omega (arith, row s, s .pre .0 .sized)
 
 absent-change-requires : tie.Need-absent-change-requires
-absent-change-requires c κs =
-    let s = (c .before .before .before .before .before .before .before .before .before .before .before .before .before .before .before .before .before .before .before) in
-    (s .pre .0 .sized .cols-fit, row-small s, s .pre .0 .sized .lowerMarks-fit, s .pre .0 .sized .upperMarks-fit, D-small s, rw (exact (by s) tt) (size (by s) tt))
+absent-change-requires c κs = let s : tie.Start = search in (s .pre .0 .sized .cols-fit, row-small s, s .pre .0 .sized .lowerMarks-fit, s .pre .0 .sized .upperMarks-fit, D-small s, rw (exact (by s) tt) (size (by s) tt))
 
 add-t51 : tie.Need-add-t51
 add-t51 c = fit (absents c) tt
 
 returns : tie.Need-returns
 returns c =
-    let s = (c .before .before .before .before .before .before .before .before .before .before .before .before .before .before .before .before .before .before .before .before) in
-    (λ h. totalsOf (exact (C₀ s) tt h) ((exact (floors (c .before .before .before .before .before .before .before .before .before .before .before)) tt) h) (exact (broken₀ s) tt h) (exact (outside₀ s) tt h) (wrongs-is (c .before .before) h) ((exact (absents c) tt) h)) ∙ mult-law (sheet s) (e s) (s .pre .0) (s .pre .1) _ _ (terms-is (c .before .before .before .before .before .before .before .before .before .before .before)) (lacks-is c)
+    let at-terms-change : tie.After-terms-change = search in
+    let s : tie.Start = search in
+    (λ h. totalsOf (exact (C₀ s) tt h) ((exact (floors at-terms-change) tt) h) (exact (broken₀ s) tt h) (exact (outside₀ s) tt h) (wrongs-is (c .before .before) h) ((exact (absents c) tt) h)) ∙ mult-law (sheet s) (e s) (s .pre .0) (s .pre .1) _ _ (terms-is at-terms-change) (lacks-is c)
 
 pub mult-totals-spec : {M : Type 1} → statement M
 mult-totals-spec =

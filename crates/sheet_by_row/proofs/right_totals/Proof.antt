@@ -5,8 +5,7 @@ use Prim.Native.Nat.{_<_}
 use native.Mathlib.Nat.{le-trans}
 use native.Mathlib.Omega.{arith}
 use lib.Dec.{lit≤}
-use lib.IntN.{ℤ, _+ℤ_, _-ℤ_}
-use borrow.Author.Needs.{needs}
+use lib.IntN.{_+ℤ_, _-ℤ_}
 use Rattle.doubles.specs.Limits.{maxColumns, maxMultiplier, maxRightSide, maxC, maxB}
 use Rattle.doubles.specs.Lists.{_#_}
 use Rattle.sheet_rules.specs.Sum.{_‼_, bit}
@@ -19,7 +18,6 @@ use Rattle.sheet_rules.specs.declared.Edit.{Edit}
 use Rattle.sheet_terms.proofs.Machine.{val, sub, add}
 use Rattle.sheet_moves.proofs.Laws.{count-size}
 use Rattle.sheet_moves.proofs.ByKind.{totalsOf, right-law}
-use borrow.Author.Needs.{needs}
 use Rattle.sheet_by_row.proofs.right_totals.Statement.{statement}
 use Rattle.sheet_by_row.proofs.right_totals.Tie as tie
 
@@ -70,73 +68,76 @@ module _ (s : tie.Start) where
   abbrev floor : E
   floor = add B₀ product
 
+abbrev entry-at-broken2 : tie.After-broken2 → tie.Start
+entry-at-broken2 c = search
+
 -- brokens
 module _ (c : tie.After-broken2) where
-  brokens-new : let s = (c .before .before .before .before .before .before .before .before .before .before .before .before .before .before .before) in (c .before .before .before) .broken .result ≡ bit (not (holds (s .args .ops .now # e s .row) (s .args .r .now ‼ e s .row) (e s .number)))
-  brokens-new = let s = (c .before .before .before .before .before .before .before .before .before .before .before .before .before .before .before) in (c .before .before .before) .broken .ensures ∙ rw (result (s .args .r .now ‼ e s .row) (c .before .before .before .before .broken-arg .given), exact (new s) tt)
+  brokens-new : let s = entry-at-broken2 c in (c .before .before .before) .broken .result ≡ bit (not (holds (s .args .ops .now # e s .row) (s .args .r .now ‼ e s .row) (e s .number)))
+  brokens-new = let s = entry-at-broken2 c in (c .before .before .before) .broken .ensures ∙ rw (result (s .args .r .now ‼ e s .row) (c .before .before .before .before .broken-arg .given), exact (new s) tt)
 
-  brokens-old : let s = (c .before .before .before .before .before .before .before .before .before .before .before .before .before .before .before) in c .broken2 .result ≡ bit (not (holds (s .args .ops .now # e s .row) (s .args .r .now ‼ e s .row) (s .args .rights .now ‼ e s .row)))
-  brokens-old = let s = (c .before .before .before .before .before .before .before .before .before .before .before .before .before .before .before) in c .broken2 .ensures ∙ rw (result (s .args .r .now ‼ e s .row) (c .before .broken-arg2 .given), exact (old s) tt)
+  brokens-old : let s = entry-at-broken2 c in c .broken2 .result ≡ bit (not (holds (s .args .ops .now # e s .row) (s .args .r .now ‼ e s .row) (s .args .rights .now ‼ e s .row)))
+  brokens-old = let s = entry-at-broken2 c in c .broken2 .ensures ∙ rw (result (s .args .r .now ‼ e s .row) (c .before .broken-arg2 .given), exact (old s) tt)
 
   abbrev brokens-change : E
-  brokens-change = let s = (c .before .before .before .before .before .before .before .before .before .before .before .before .before .before .before) in sub (num (c .before .before .before .broken .result) 1 (rw brokens-new (bit-size _))) (num (c .broken2 .result) 1 (rw brokens-old (bit-size _)))
+  brokens-change = let s = entry-at-broken2 c in sub (num (c .before .before .before .broken .result) 1 (rw brokens-new (bit-size _))) (num (c .broken2 .result) 1 (rw brokens-old (bit-size _)))
 
   abbrev brokens : E
-  brokens = add (broken₀ (c .before .before .before .before .before .before .before .before .before .before .before .before .before .before .before)) brokens-change
+  brokens = add (broken₀ (entry-at-broken2 c)) brokens-change
 
-  brokens-is : let s = (c .before .before .before .before .before .before .before .before .before .before .before .before .before .before .before) in mach brokens ≡ val (broken₀ s) +ℤ (bit (not (holds (s .args .ops .now # e s .row) (s .args .r .now ‼ e s .row) (e s .number))) -ℤ bit (not (holds (s .args .ops .now # e s .row) (s .args .r .now ‼ e s .row) (s .args .rights .now ‼ e s .row))))
-  brokens-is = let s = (c .before .before .before .before .before .before .before .before .before .before .before .before .before .before .before) in exact brokens tt ∙ (λ h. val (broken₀ s) +ℤ (brokens-new h -ℤ brokens-old h))
+  brokens-is : let s = entry-at-broken2 c in mach brokens ≡ val (broken₀ s) +ℤ (bit (not (holds (s .args .ops .now # e s .row) (s .args .r .now ‼ e s .row) (e s .number))) -ℤ bit (not (holds (s .args .ops .now # e s .row) (s .args .r .now ‼ e s .row) (s .args .rights .now ‼ e s .row))))
+  brokens-is = let s = entry-at-broken2 c in exact brokens tt ∙ (λ h. val (broken₀ s) +ℤ (brokens-new h -ℤ brokens-old h))
 
 mul-old : tie.Need-mul-old
-mul-old c = omega (arith, row (c .before .before .before), c .before .before .before .pre .0 .sized)
+mul-old c = let s : tie.Start = search in omega (arith, row s, s .pre .0 .sized)
 
 shared-slice-copy-out-old : tie.Need-shared-slice-copy-out-old
-shared-slice-copy-out-old c = omega (arith, row (c .before .before .before), c .before .before .before .pre .0 .sized)
+shared-slice-copy-out-old c = let s : tie.Start = search in omega (arith, row s, s .pre .0 .sized)
 
 shared-slice-copy-out-t24 : tie.Need-shared-slice-copy-out-t24
-shared-slice-copy-out-t24 c = omega (arith, row (c .before .before .before .before .before), c .before .before .before .before .before .pre .0 .sized)
+shared-slice-copy-out-t24 c = let s : tie.Start = search in omega (arith, row s, s .pre .0 .sized)
 
 shared-slice-copy-out-t27 : tie.Need-shared-slice-copy-out-t27
-shared-slice-copy-out-t27 c = omega (arith, row (c .before .before .before .before .before .before), c .before .before .before .before .before .before .pre .0 .sized)
+shared-slice-copy-out-t27 c = let s : tie.Start = search in omega (arith, row s, s .pre .0 .sized)
 
 mul-t22 : tie.Need-mul-t22
-mul-t22 c = omega (arith, row (c .before .before .before .before .before .before .before), c .before .before .before .before .before .before .before .pre .0 .sized)
+mul-t22 c = let s : tie.Start = search in omega (arith, row s, s .pre .0 .sized)
 
 shared-slice-copy-out-t29 : tie.Need-shared-slice-copy-out-t29
-shared-slice-copy-out-t29 c = omega (arith, row (c .before .before .before .before .before .before .before), c .before .before .before .before .before .before .before .pre .0 .sized)
+shared-slice-copy-out-t29 c = let s : tie.Start = search in omega (arith, row s, s .pre .0 .sized)
 
 sub-t30 : tie.Need-sub-t30
-sub-t30 c = fit (by (c .before .before .before .before .before .before .before .before)) tt
+sub-t30 c = let s : tie.Start = search in fit (by s) tt
 
 mul-t31 : tie.Need-mul-t31
-mul-t31 c = fit (product (c .before .before .before .before .before .before .before .before)) tt
+mul-t31 c = let s : tie.Start = search in fit (product s) tt
 
 add-t32 : tie.Need-add-t32
-add-t32 c = fit (floor (c .before .before .before .before .before .before .before .before)) tt
+add-t32 c = let s : tie.Start = search in fit (floor s) tt
 
 shared-slice-copy-out-t34 : tie.Need-shared-slice-copy-out-t34
-shared-slice-copy-out-t34 c = omega (arith, row (c .before .before .before .before .before .before .before .before), c .before .before .before .before .before .before .before .before .pre .0 .sized)
+shared-slice-copy-out-t34 c = let s : tie.Start = search in omega (arith, row s, s .pre .0 .sized)
 
 shared-slice-read-broken : tie.Need-shared-slice-read-broken
-shared-slice-read-broken c = omega (arith, row (c .before .before .before .before .before .before .before .before .before .before), c .before .before .before .before .before .before .before .before .before .before .pre .0 .sized)
+shared-slice-read-broken c = let s : tie.Start = search in omega (arith, row s, s .pre .0 .sized)
 
 mul-broken : tie.Need-mul-broken
-mul-broken c = omega (arith, row (c .before .before .before .before .before .before .before .before .before .before), c .before .before .before .before .before .before .before .before .before .before .pre .0 .sized)
+mul-broken c = let s : tie.Start = search in omega (arith, row s, s .pre .0 .sized)
 
 shared-slice-copy-out-broken : tie.Need-shared-slice-copy-out-broken
-shared-slice-copy-out-broken c = omega (arith, row (c .before .before .before .before .before .before .before .before .before .before), c .before .before .before .before .before .before .before .before .before .before .pre .0 .sized)
+shared-slice-copy-out-broken c = let s : tie.Start = search in omega (arith, row s, s .pre .0 .sized)
 
 broken-requires : tie.Need-broken-requires
 broken-requires c κs = tt
 
 shared-slice-read-broken-2 : tie.Need-shared-slice-read-broken-2
-shared-slice-read-broken-2 c = omega (arith, row (c .before .before .before .before .before .before .before .before .before .before .before .before .before), c .before .before .before .before .before .before .before .before .before .before .before .before .before .pre .0 .sized)
+shared-slice-read-broken-2 c = let s : tie.Start = search in omega (arith, row s, s .pre .0 .sized)
 
 mul-broken-2 : tie.Need-mul-broken-2
-mul-broken-2 c = omega (arith, row (c .before .before .before .before .before .before .before .before .before .before .before .before .before), c .before .before .before .before .before .before .before .before .before .before .before .before .before .pre .0 .sized)
+mul-broken-2 c = let s : tie.Start = search in omega (arith, row s, s .pre .0 .sized)
 
 shared-slice-copy-out-broken-2 : tie.Need-shared-slice-copy-out-broken-2
-shared-slice-copy-out-broken-2 c = omega (arith, row (c .before .before .before .before .before .before .before .before .before .before .before .before .before), c .before .before .before .before .before .before .before .before .before .before .before .before .before .pre .0 .sized)
+shared-slice-copy-out-broken-2 c = let s : tie.Start = search in omega (arith, row s, s .pre .0 .sized)
 
 broken-requires-2 : tie.Need-broken-requires-2
 broken-requires-2 c κs = tt
@@ -148,18 +149,19 @@ add-t48 : tie.Need-add-t48
 add-t48 c = fit (brokens c) tt
 
 shared-slice-copy-out-t50 : tie.Need-shared-slice-copy-out-t50
-shared-slice-copy-out-t50 c = omega (arith, row (c .before .before .before .before .before .before .before .before .before .before .before .before .before .before .before), c .before .before .before .before .before .before .before .before .before .before .before .before .before .before .before .pre .0 .sized)
+shared-slice-copy-out-t50 c = let s : tie.Start = search in omega (arith, row s, s .pre .0 .sized)
 
 shared-slice-copy-out-t52 : tie.Need-shared-slice-copy-out-t52
-shared-slice-copy-out-t52 c = omega (arith, row (c .before .before .before .before .before .before .before .before .before .before .before .before .before .before .before .before), c .before .before .before .before .before .before .before .before .before .before .before .before .before .before .before .before .pre .0 .sized)
+shared-slice-copy-out-t52 c = let s : tie.Start = search in omega (arith, row s, s .pre .0 .sized)
 
 shared-slice-copy-out-t54 : tie.Need-shared-slice-copy-out-t54
-shared-slice-copy-out-t54 c = omega (arith, row (c .before .before .before .before .before .before .before .before .before .before .before .before .before .before .before .before .before), c .before .before .before .before .before .before .before .before .before .before .before .before .before .before .before .before .before .pre .0 .sized)
+shared-slice-copy-out-t54 c = let s : tie.Start = search in omega (arith, row s, s .pre .0 .sized)
 
 returns : tie.Need-returns
 returns c =
-    let s = (c .before .before .before .before .before .before .before .before .before .before .before .before .before .before .before .before .before .before) in
-    (λ h. totalsOf (exact (C₀ s) tt h) (exact (floor s) tt h) (brokens-is (c .before .before .before) h) (exact (outside₀ s) tt h) (exact (wrong₀ s) tt h) (exact (absent₀ s) tt h)) ∙ right-law (sheet s) (e s) (s .pre .0) (s .pre .1)
+    let at-broken2 : tie.After-broken2 = search in
+    let s : tie.Start = search in
+    (λ h. totalsOf (exact (C₀ s) tt h) (exact (floor s) tt h) (brokens-is at-broken2 h) (exact (outside₀ s) tt h) (exact (wrong₀ s) tt h) (exact (absent₀ s) tt h)) ∙ right-law (sheet s) (e s) (s .pre .0) (s .pre .1)
 
 pub right-totals-spec : {M : Type 1} → statement M
 right-totals-spec =

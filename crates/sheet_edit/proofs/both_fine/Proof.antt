@@ -2,7 +2,6 @@
 use mathlib.Core.Path.{_≡_, sym, ap, _∙_}
 use mathlib.Core.Bool.{not}
 use native.Mathlib.Omega.{arith}
-use borrow.Author.Needs.{needs}
 use Rattle.doubles.specs.Limits.{maxBound}
 use Rattle.doubles.specs.Lists.{_#_}
 use Rattle.sheet_rules.specs.Sum.{_‼_}

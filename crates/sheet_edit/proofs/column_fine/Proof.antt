@@ -4,11 +4,9 @@ use Prim.Native.Nat.{ℕ, _+_, _*_, _≤_, _<_, _-_}
 use native.Mathlib.Omega.{arith}
 use lib.IntN.{natAbs}
 use lib.ListN.{length}
-use borrow.Author.Needs.{needs}
 use Rattle.doubles.specs.Limits.{maxCoefficient}
 use Rattle.sheet_rules.specs.Sum.{_‼_}
 use Rattle.sheet_terms.proofs.Machine.{result}
-use Rattle.sheet_terms.proofs.Laws.{turn}
 use mathlib.Core.Bool.{true}
 use borrow.Author.Tests.{le-leb, lt-leb}
 use Rattle.doubles.specs.Loop.{all}

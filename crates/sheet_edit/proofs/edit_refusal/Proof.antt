@@ -1,7 +1,6 @@
 -- `sheet_edit::edit_refusal` meets its contract: each answer is given when 01's words for it hold. Assumes nothing.
 use mathlib.Core.Path.{_≡_, sym, ap, _∙_}
 use mathlib.Core.Bool.{true}
-use Prim.Native.Nat.{ℕ}
 use native.Mathlib.Omega.{arith}
 use lib.IntN.{natAbs}
 use borrow.Author.Tests.{not-true, not-false}

@@ -1,5 +1,4 @@
 -- `sheet_edit::index_fine` meets its contract. Assumes nothing.
-use borrow.Author.Needs.{needs}
 use Rattle.sheet_rules.specs.Edit.{indexFine}
 use Rattle.sheet_edit.proofs.index_fine.Statement.{statement}
 use Rattle.sheet_edit.proofs.index_fine.Tie as tie

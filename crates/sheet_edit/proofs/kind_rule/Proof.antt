@@ -1,7 +1,6 @@
 -- `sheet_edit::kind_rule` meets its contract. Arm by arm. Assumes nothing.
 use mathlib.Core.Path.{_≡_}
 use native.Mathlib.Omega.{arith}
-use borrow.Author.Needs.{needs}
 use Rattle.sheet_rules.specs.Opening.{firstFailed}
 use Rattle.sheet_edit.specs.Rules.{kindRefusal, limitOf, ruleOf}
 use Rattle.sheet_edit.proofs.Laws.{past, rule-later, rule-unknown}

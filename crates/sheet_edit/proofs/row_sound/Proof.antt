@@ -1,6 +1,5 @@
 -- `sheet_edit::row_sound` meets its contract. Assumes nothing.
 use mathlib.Core.Path.{sym, _∙_}
-use borrow.Author.Needs.{needs}
 use Rattle.sheet_edit.proofs.row_sound.Statement.{statement}
 use Rattle.sheet_edit.proofs.row_sound.Tie as tie
 

@@ -1,6 +1,5 @@
 -- `sheet_edit::uses_column` meets its contract. Assumes nothing.
 use mathlib.Core.Path.{refl}
-use borrow.Author.Needs.{needs}
 use Rattle.sheet_edit.proofs.uses_column.Statement.{statement}
 use Rattle.sheet_edit.proofs.uses_column.Tie as tie
 

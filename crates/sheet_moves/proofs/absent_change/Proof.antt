@@ -11,7 +11,7 @@ use Rattle.doubles.specs.Limits.{maxColumns, maxCoefficient, maxMultiplier, max
 use Rattle.doubles.specs.Lists.{_#_}
 use Rattle.doubles.specs.Loop.{run}
 use Rattle.sheet_rules.specs.Sum.{_‼_, sum, bit}
-use Rattle.sheet_rules.specs.Sheet.{term, lacks}
+use Rattle.sheet_rules.specs.Sheet.{lacks}
 use Rattle.sheet_rules.proofs.Sizes.{mul-size, sub-size}
 use Rattle.sheet_terms.specs.Small.{farD}
 use Rattle.sheet_terms.proofs.Machine.{of-word, result, E, num, mul, mach, exact, fit}

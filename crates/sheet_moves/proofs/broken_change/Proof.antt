@@ -11,7 +11,7 @@ use Rattle.doubles.specs.Limits.{maxRows, maxCoefficient, maxAmount, maxR}
 use Rattle.doubles.specs.Lists.{_#_}
 use Rattle.doubles.specs.Loop.{run}
 use Rattle.sheet_rules.specs.Sum.{_‼_, sum, bit}
-use Rattle.sheet_rules.specs.Sheet.{holds, term}
+use Rattle.sheet_rules.specs.Sheet.{holds}
 use Rattle.sheet_rules.proofs.Sizes.{sub-size}
 use Rattle.sheet_terms.proofs.Machine.{of-word, result, E, num, mul, mach, exact, fit}
 use Rattle.sheet_terms.proofs.Laws.{Turn, turn, sum-done, bit-size}

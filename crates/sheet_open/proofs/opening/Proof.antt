@@ -1,10 +1,8 @@
 -- `sheet_open::opening` meets its contract. Assumes nothing.
 use mathlib.Core.Path.{sym, _∙_}
-use mathlib.Core.Bool.{not}
 use borrow.Author.Needs.{needs}
 use Rattle.sheet_rules.specs.Sheet.{planOf, keptOf, sheetOf}
 use Rattle.sheet_tests.proofs.Tells.{plan-sized}
-use mathlib.Core.Bool.{not}
 use borrow.Author.Tests.{not-true, not-false}
 use Rattle.sheet_rules.specs.Opening.{firstFailed, opening}
 use Rattle.sheet_rules.specs.Sheet.{Sheet}

@@ -8,7 +8,7 @@ use mathlib.Core.List.{[], _∷_}
 use lib.ListN.{length-set}
 use Rattle.sheet_rules.specs.Sheet.{outsideAmounts, wrongSigns}
 use Rattle.sheet_open.specs.At.{countsAt}
-use Rattle.sheet_open.proofs.Laws.{set-four}
+use Rattle.sheet_terms.proofs.Laws.{set-four}
 use borrow.Author.Needs.{needs}
 use Rattle.sheet_open.proofs.write_counts.Statement.{statement}
 use Rattle.sheet_open.proofs.write_counts.Tie as tie
@@ -23,19 +23,19 @@ outside-amounts-requires : tie.Need-outside-amounts-requires
 outside-amounts-requires c κs = search needs
 
 slice-set-from-counts-2 : tie.Need-slice-set-from-counts-2
-slice-set-from-counts-2 c = simp length-set (omega (arith, c .before .before .before .before .before .pre .3))
+slice-set-from-counts-2 c = let s : tie.Start = search in simp length-set (omega (arith, s .pre .3))
 
 wrong-signs-requires : tie.Need-wrong-signs-requires
 wrong-signs-requires c κs = search needs
 
 slice-set-from-counts-3 : tie.Need-slice-set-from-counts-3
-slice-set-from-counts-3 c = simp length-set (omega (arith, c .before .before .before .before .before .before .pre .3))
+slice-set-from-counts-3 c = let s : tie.Start = search in simp length-set (omega (arith, s .pre .3))
 
 absent-needed-requires : tie.Need-absent-needed-requires
 absent-needed-requires c κs = search needs
 
 slice-set-from-counts-4 : tie.Need-slice-set-from-counts-4
-slice-set-from-counts-4 c = simp length-set (omega (arith, c .before .before .before .before .before .before .before .pre .3))
+slice-set-from-counts-4 c = let s : tie.Start = search in simp length-set (omega (arith, s .pre .3))
 
 same-length : tie.Need-same-length
 same-length c = search needs
@@ -43,8 +43,9 @@ same-length c = search needs
 returns : tie.Need-returns
 unfolding countsAt outsideAmounts wrongSigns
 returns c =
-    let s = (c .before .before .before .before .before .before .before) in
-    let b : word (c .before .before .before .broken-rows .result) ≡ _ = result _ (c .before .before .before .broken-rows .ok) ∙ (c .before .before .before) .broken-rows .ensures in
+    let at-broken-rows : tie.After-broken-rows = search in
+    let s : tie.Start = search in
+    let b : word (at-broken-rows .broken-rows .result) ≡ _ = result _ (at-broken-rows .broken-rows .ok) ∙ at-broken-rows .broken-rows .ensures in
     let o : word (c .before .before .outside-amounts .result) ≡ _ = result _ (c .before .before .outside-amounts .ok) ∙ (c .before .before) .outside-amounts .ensures in
     let w : word (c .before .wrong-signs .result) ≡ _ = result _ (c .before .wrong-signs .ok) ∙ (c .before) .wrong-signs .ensures in
     let a : word (c .absent-needed .result) ≡ _ = result _ (c .absent-needed .ok) ∙ c .absent-needed .ensures in

@@ -26,14 +26,17 @@ write-prices-requires c κs = search needs
 write-totals-requires : tie.Need-write-totals-requires
 unfolding price
 write-totals-requires c κs =
-    let s = (c .before .before .before .before .before .before .before .before .before .before .before .before) in
-    let w = c .before .before .before .before .write-prices in
+    let at-write-prices : tie.After-write-prices = search in
+    let s : tie.Start = search in
+    let w = at-write-prices .write-prices in
     (sized s, fine (p s) (sized s) (s .pre .1 .arrays-in), prices-small (p s) (s .args .d .now) (w .last .1 .1 .1 .1 .1 .0) (sized s) (s .pre .1) (rw (w .kept .1 .1 .1 .1 .1 .0) (s .pre .0 .D-fits)) (w .ensures), s .pre .0 .C-fits, s .pre .0 .B-fits)
 
 write-counts-requires : tie.Need-write-counts-requires
 write-counts-requires c κs =
-    let s = (c .before .before .before .before .before .before .before .before .before .before .before .before .before .before .before .before .before .before) in
-    (sized s, rw (c .before .before .before .before .before .before .before .before .before .before .before .before .before .write-activities .kept .1 .1 .1 .1 .0) (s .pre .0 .R-fits), rw (c .before .before .before .before .before .before .before .before .before .before .write-prices .kept .1 .1 .1 .1 .1 .0) (s .pre .0 .D-fits), s .pre .0 .counts-fit)
+    let at-write-prices : tie.After-write-prices = search in
+    let at-write-activities : tie.After-write-activities = search in
+    let s : tie.Start = search in
+    (sized s, rw (at-write-activities .write-activities .kept .1 .1 .1 .1 .0) (s .pre .0 .R-fits), rw (at-write-prices .write-prices .kept .1 .1 .1 .1 .1 .0) (s .pre .0 .D-fits), s .pre .0 .counts-fit)
 
 same-length : tie.Need-same-length
 same-length c = search needs
@@ -53,8 +56,11 @@ same-length-5 c = search needs
 returns : tie.Need-returns
 unfolding activity price
 returns c =
-    let s = (c .before .before .before .before .before .before .before .before .before .before .before .before .before .before .before .before .before .before .before .before) in
-    kept-law (p s) (k s) _ _ _ _ _ (c .before .before .before .before .before .before .before .before .before .before .before .before .before .before .before .write-activities .ensures) (c .before .before .before .before .before .before .before .before .before .before .before .before .write-prices .ensures) (c .before .before .before .before .before .before .before .write-totals .ensures .0) (c .before .before .before .before .before .before .before .write-totals .ensures .1) (c .before .write-counts .ensures)
+    let at-write-totals : tie.After-write-totals = search in
+    let at-write-prices : tie.After-write-prices = search in
+    let at-write-activities : tie.After-write-activities = search in
+    let s : tie.Start = search in
+    kept-law (p s) (k s) _ _ _ _ _ (at-write-activities .write-activities .ensures) (at-write-prices .write-prices .ensures) (at-write-totals .write-totals .ensures .0) (at-write-totals .write-totals .ensures .1) (c .before .write-counts .ensures)
 
 pub write-kept-spec : {M : Type 1} → statement M
 write-kept-spec =

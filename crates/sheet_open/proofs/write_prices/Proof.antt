@@ -7,7 +7,7 @@ use lib.IntN.{ℤ, natAbs, _-ℤ_, _*ℤ_}
 use lib.ListN.{length}
 use borrow.Author.Needs.{needs}
 use Rattle.doubles.specs.Limits.{maxRows, maxCoefficient, maxCost, maxMultiplier}
-use Rattle.sheet_rules.specs.Sum.{_‼_, sum}
+use Rattle.sheet_rules.specs.Sum.{_‼_}
 use Rattle.sheet_rules.proofs.Sizes.{mul-size}
 use Rattle.sheet_terms.proofs.Machine.{E, num, mul, exact, fit}
 use Rattle.sheet_rules.proofs.Local.{place-in}

@@ -7,7 +7,7 @@ use borrow.Author.Needs.{needs}
 use Rattle.doubles.specs.Lists.{over}
 use Rattle.sheet_rules.specs.Sheet.{keptOf, overKept}
 use Rattle.sheet_terms.proofs.Machine.{result}
-use Rattle.sheet_open.proofs.Laws.{set-one, set-four}
+use Rattle.sheet_terms.proofs.Laws.{set-one, set-four}
 use Rattle.sheet_put.proofs.store_totals.Statement.{statement}
 use Rattle.sheet_put.proofs.store_totals.Tie as tie
 
@@ -21,10 +21,10 @@ slice-set-from-broken : tie.Need-slice-set-from-broken
 slice-set-from-broken c = search needs
 
 slice-set-from-outside : tie.Need-slice-set-from-outside
-slice-set-from-outside c = simp length-set (omega (arith, (c .before .before .before .before .before .before) .pre .2))
+slice-set-from-outside c = let s : tie.Start = search in simp length-set (omega (arith, s .pre .2))
 
 slice-set-from-wrong : tie.Need-slice-set-from-wrong
-slice-set-from-wrong c = simp length-set (omega (arith, (c .before .before .before .before .before .before) .pre .2))
+slice-set-from-wrong c = let s : tie.Start = search in simp length-set (omega (arith, s .pre .2))
 
 slice-set-from-absent : tie.Need-slice-set-from-absent
 slice-set-from-absent c = search needs
@@ -41,7 +41,7 @@ same-length-3 c = search needs
 returns : tie.Need-returns
 unfolding overKept
 returns c =
-    let s = (c .before .before .before .before .before .before) in
+    let s : tie.Start = search in
     let t = s .args .t in
     let told = c .struct-told6 .given in
     let cost = set-one (s .args .c .now) _ (s .pre .0) ∙ (λ h. over (result (t .cost) (told .0 .1) h ∷ []) (s .args .c .now)) in

@@ -1,5 +1,4 @@
 -- `sheet_terms::bit` meets its contract. Assumes nothing.
-use mathlib.Core.Path.{_≡_, refl, sym, ap, _∙_}
 use Rattle.sheet_rules.specs.Sum.{bit}
 use Rattle.sheet_terms.proofs.bit.Statement.{statement}
 use Rattle.sheet_terms.proofs.bit.Tie as tie

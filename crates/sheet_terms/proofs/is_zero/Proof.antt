@@ -1,5 +1,4 @@
 -- `sheet_terms::is_zero` meets its contract. Assumes nothing.
-use mathlib.Core.Path.{_≡_, refl, sym, ap, _∙_}
 use Rattle.sheet_terms.proofs.Word.{zero-word}
 use Rattle.sheet_terms.proofs.is_zero.Statement.{statement}
 use Rattle.sheet_terms.proofs.is_zero.Tie as tie

@@ -1,5 +1,4 @@
 -- `sheet_tests::arrays_fine` meets its contract. Assumes nothing.
-use mathlib.Core.Path.{_≡_, refl, sym, ap, _∙_}
 use borrow.Author.Needs.{needs}
 use Rattle.sheet_rules.specs.Opening.{arraysFine}
 use borrow.Author.Needs.{needs}
@@ -29,7 +28,12 @@ all-within-requires-4 c κs = search needs
 
 returns : tie.Need-returns
 unfolding arraysFine
-returns c = rw (c .before .before .before .before .before .before .all-within .ensures, c .before .before .before .before .before .bounds-fine .ensures, c .before .before .before .before .bounds-fine2 .ensures, c .before .before .before .all-within2 .ensures, c .before .before .ops-fine .ensures, c .before .all-within3 .ensures, c .all-within4 .ensures)
+returns c =
+    let at-all-within2 : tie.After-all-within2 = search in
+    let at-bounds-fine2 : tie.After-bounds-fine2 = search in
+    let at-bounds-fine : tie.After-bounds-fine = search in
+    let at-all-within : tie.After-all-within = search in
+    rw (at-all-within .all-within .ensures, at-bounds-fine .bounds-fine .ensures, at-bounds-fine2 .bounds-fine2 .ensures, at-all-within2 .all-within2 .ensures, c .before .before .ops-fine .ensures, c .before .all-within3 .ensures, c .all-within4 .ensures)
 
 pub arrays-fine-spec : {M : Type 1} → statement M
 arrays-fine-spec =

@@ -1,5 +1,5 @@
 -- `sheet_tests::bound_fine` meets its contract. Assumes nothing.
-use mathlib.Core.Path.{_≡_, refl, sym, ap, _∙_}
+use mathlib.Core.Path.{sym}
 use borrow.Author.Needs.{needs}
 use Rattle.sheet_rules.specs.Opening.{boundFine}
 use Rattle.sheet_terms.proofs.Machine.{of-word}

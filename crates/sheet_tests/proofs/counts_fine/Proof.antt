@@ -1,5 +1,4 @@
 -- `sheet_tests::counts_fine` meets its contract. Assumes nothing.
-use mathlib.Core.Path.{_≡_, refl, sym, ap, _∙_}
 use borrow.Author.Needs.{needs}
 use Rattle.sheet_rules.specs.Verdict.{countsFine}
 use Rattle.sheet_terms.proofs.Machine.{result}
@@ -34,14 +33,19 @@ count-fine-requires-4 c κs = search needs
 returns : tie.Need-returns
 unfolding countsFine
 returns c =
+    let at-count-fine-arg3 : tie.After-count-fine-arg3 = search in
+    let at-count-fine2 : tie.After-count-fine2 = search in
+    let at-count-fine-arg2 : tie.After-count-fine-arg2 = search in
+    let at-count-fine : tie.After-count-fine = search in
+    let at-count-fine-arg : tie.After-count-fine-arg = search in
     rw (
-      c .before .before .before .before .before .before .count-fine .ensures,
-      c .before .before .before .before .count-fine2 .ensures,
+      at-count-fine .count-fine .ensures,
+      at-count-fine2 .count-fine2 .ensures,
       c .before .before .count-fine3 .ensures,
       c .count-fine4 .ensures,
-      result _ (c .before .before .before .before .before .before .before .count-fine-arg .given),
-      result _ (c .before .before .before .before .before .count-fine-arg2 .given),
-      result _ (c .before .before .before .count-fine-arg3 .given),
+      result _ (at-count-fine-arg .count-fine-arg .given),
+      result _ (at-count-fine-arg2 .count-fine-arg2 .given),
+      result _ (at-count-fine-arg3 .count-fine-arg3 .given),
       result _ (c .before .count-fine-arg4 .given),
     )
 

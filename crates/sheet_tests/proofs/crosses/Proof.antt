@@ -1,5 +1,4 @@
 -- `sheet_tests::crosses` meets its contract. Assumes nothing.
-use mathlib.Core.Path.{_≡_, refl, sym, ap, _∙_}
 use Rattle.sheet_rules.specs.Opening.{crosses}
 use Rattle.sheet_terms.proofs.Machine.{of-word}
 use Rattle.sheet_tests.proofs.crosses.Statement.{statement}

@@ -1,5 +1,4 @@
 -- `sheet_tests::kept_fine` meets its contract. Assumes nothing.
-use mathlib.Core.Path.{_≡_, refl, sym, ap, _∙_}
 use borrow.Author.Needs.{needs}
 use Rattle.sheet_rules.specs.Verdict.{keptFine, countsFine}
 use borrow.Author.Needs.{needs}
@@ -23,7 +22,10 @@ counts-fine-requires c κs = search needs
 
 returns : tie.Need-returns
 unfolding keptFine countsFine
-returns c = rw (c .before .before .before .before .all-within .ensures, c .before .before .before .all-within2 .ensures, c .before .before .all-within3 .ensures, c .before .all-within4 .ensures, c .counts-fine .ensures)
+returns c =
+    let at-all-within2 : tie.After-all-within2 = search in
+    let at-all-within : tie.After-all-within = search in
+    rw (at-all-within .all-within .ensures, at-all-within2 .all-within2 .ensures, c .before .before .all-within3 .ensures, c .before .all-within4 .ensures, c .counts-fine .ensures)
 
 pub kept-fine-spec : {M : Type 1} → statement M
 kept-fine-spec =

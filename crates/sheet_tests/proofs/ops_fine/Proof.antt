@@ -1,15 +1,13 @@
 -- `sheet_tests::ops_fine` meets its contract. Assumes nothing.
-use mathlib.Core.Path.{_≡_, refl, sym, ap, _∙_}
+use mathlib.Core.Path.{_≡_, refl, sym}
 use borrow.Author.Needs.{needs}
-use Prim.Native.Nat.{ℕ, _+_, _≤_, _<_, _-_}
+use Prim.Native.Nat.{_≤_, _-_}
 use native.Mathlib.Omega.{arith}
-use mathlib.Core.Bool.{Bool, true, false}
+use mathlib.Core.Bool.{true}
 use Rattle.doubles.specs.Loop.{all}
 use Rattle.doubles.proofs.Loops.{all-next, all-fails, all-done}
-use Rattle.sheet_rules.specs.Sum.{_‼_}
 use borrow.Author.Tests.{le-leb, lt-leb}
 use lib.Dec.{leb}
-use lib.ListN.{length}
 use Rattle.doubles.specs.Lists.{_#_}
 use Rattle.sheet_rules.specs.Opening.{opsFine}
 use Rattle.sheet_tests.proofs.ops_fine.Statement.{statement}

@@ -1,6 +1,4 @@
 -- `sheet_tests::sizes_fine` meets its contract. Assumes nothing.
-use mathlib.Core.Path.{_≡_, refl, sym, ap, _∙_}
-use borrow.Author.Needs.{needs}
 use borrow.Author.Tests.{leb-true}
 use Rattle.doubles.proofs.Loops.{both-true}
 use Rattle.sheet_rules.specs.Opening.{sizesFine}

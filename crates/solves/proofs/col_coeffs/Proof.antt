@@ -1,5 +1,5 @@
 -- `solves::col_coeffs` meets its contract: the column loaded, then solved. Assumes nothing.
-use mathlib.Core.Path.{_≡_, sym, subst, ap, _∙_}
+use mathlib.Core.Path.{sym, subst, ap, _∙_}
 use borrow.Author.Needs.{needs}
 use Rattle.doubles.specs.Limits.{places}
 use Rattle.sparse.specs.Scattered.{Good}

@@ -1,10 +1,9 @@
 -- `solves::helper` meets its contract: the column listed anew, the row solve, then the rows combined. Assumes nothing.
-use mathlib.Core.Path.{_≡_, refl, ap, sym, subst, _∙_}
-use mathlib.Core.List.{List, []}
-use mathlib.Core.Bool.{Bool}
+use mathlib.Core.Path.{ap, sym, subst, _∙_}
+use mathlib.Core.List.{[]}
 use Rattle.doubles.specs.Limits.{places}
-use Rattle.sparse.specs.Scattered.{Sv, sv, Good}
-use Rattle.rules.specs.Basis.{combine, solveTransp, relisted, helperOf}
+use Rattle.sparse.specs.Scattered.{Good}
+use Rattle.rules.specs.Basis.{combine, solveTransp, helperOf}
 use Rattle.rows.proofs.Parts.{fresh-blank}
 use Rattle.solves.proofs.Laws.{solved-rows}
 use Rattle.solves.proofs.helper.Statement.{statement}

@@ -1,11 +1,8 @@
 -- `solves::row_coeffs` meets its contract: the unit vector, the row solve, then the rows combined. Assumes nothing.
-use mathlib.Core.Path.{_≡_, refl, ap, sym, subst, _∙_}
-use mathlib.Core.List.{List}
-use mathlib.Core.Bool.{Bool}
-use Rattle.doubles.specs.Num.{f1}
+use mathlib.Core.Path.{ap, sym, subst, _∙_}
 use Rattle.doubles.specs.Limits.{places}
-use Rattle.sparse.specs.Scattered.{Sv, sv, blank, putAt, Good}
-use Rattle.sparse.proofs.Laws.{good-blank, good-putAt}
+use Rattle.sparse.specs.Scattered.{Good}
+use Rattle.sparse.proofs.Laws.{good-blank}
 use Rattle.rules.specs.Basis.{combine, solveTransp, rowCoeffsOf}
 use Rattle.solves.proofs.Laws.{solved-rows}
 use Rattle.solves.proofs.row_coeffs.Statement.{statement}

@@ -1,7 +1,6 @@
 -- `start::start_slack` meets its contract: the row is a part of the entries, and its columns are within the values. Assumes nothing.
 use Rattle.rules.specs.Start.{startSlack}
 use Rattle.start.proofs.Rows.{row-read}
-use native.Mathlib.Omega.{arith}
 use borrow.Author.Needs.{needs}
 use Rattle.start.proofs.start_slack.Statement.{statement}
 use Rattle.start.proofs.start_slack.Tie as tie

@@ -5,7 +5,6 @@ use lib.ListN.{length}
 use Rattle.doubles.proofs.Loops.{Filled, filled-none, filled-more, filled-over}
 use Rattle.rules.specs.Start.{startSlack}
 use Rattle.start.specs.Lent.{sided}
-use borrow.Author.Needs.{needs}
 use native.Mathlib.Omega.{arith}
 use Rattle.start.proofs.start_slacks.Statement.{statement}
 use Rattle.start.proofs.start_slacks.Tie as tie

@@ -1,8 +1,6 @@
 -- `start::start_vals` meets its contract: after j turns the first j cells are filled. Assumes nothing.
-use mathlib.Core.Path.{_≡_, refl, ap, _∙_}
+use mathlib.Core.Path.{_≡_}
 use Prim.Native.Nat.{_-_, _≤_}
-use Rattle.doubles.specs.Loop.{table}
-use Rattle.doubles.specs.Lists.{over}
 use Rattle.doubles.proofs.Loops.{Filled, filled-none, filled-more, filled-over}
 use Rattle.rules.specs.Start.{startValAt, startVals}
 use Rattle.start.specs.Lent.{costed}

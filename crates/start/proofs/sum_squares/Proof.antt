@@ -10,7 +10,6 @@ use Rattle.rules.specs.Parts.{rowed}
 use Rattle.start.specs.Lent.{RowReads}
 use Rattle.start.specs.Reckoned.{squareRow, squares}
 use Rattle.start.proofs.Rows.{cols-in, coeffs-in, row-read}
-use borrow.Author.Needs.{needs}
 use native.Mathlib.Omega.{arith}
 use Rattle.start.proofs.sum_squares.Statement.{statement}
 use Rattle.start.proofs.sum_squares.Tie as tie

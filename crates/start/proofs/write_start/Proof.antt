@@ -4,7 +4,6 @@ use lib.ListN.{length-set}
 use Rattle.rules.specs.Parts.{workspaceOf, etasOf}
 use Rattle.start.proofs.Written.{written-is}
 use native.Mathlib.Omega.{arith}
-use borrow.Author.Needs.{needs}
 use Rattle.start.proofs.write_start.Statement.{statement}
 use Rattle.start.proofs.write_start.Tie as tie
 

@@ -6,7 +6,6 @@ use mir.Syntax.{w64}
 use mir.ValLaws.{toZ-ofZ}
 use Rattle.sheet_rules.specs.Sheet.{Sheet}
 use Rattle.sheet_rules.specs.Promises.{Edits}
-use Rattle.sheet_rules.specs.declared.Edit.{Edit}
 use Rattle.tevalumi.proofs.tevalumi_edit.Statement.{statement}
 use Rattle.tevalumi.proofs.tevalumi_edit.Tie as tie
 
