@@ -1,7 +1,7 @@
 //! Seeded plans in families. Each family is aimed at some of the answers; `survey` counts what
 //! they reach. All ours.
 
-use crate::answer::{Outcome, Rejected, Room};
+use crate::answer::{Named, Outcome, Rejected, Room};
 use crate::gate;
 use crate::limits;
 use crate::plan::{Lent, Plan};
@@ -934,12 +934,6 @@ fn near(rng: &mut Rng, exponent: i32) -> f64 {
 /// be named: `leaving`, since the bound ahead of a candidate is finite; `eta`, since an entry over
 /// MAX means a column entry over 1e300 (the pivot is at least EPS), whose square makes the entering
 /// place's norm infinite, and norms come first; on a flip `value`, which is a finite bound.
-///
-/// `column` isn't here either. An entry of a non-basic variable's column has its square in that
-/// variable's norm, which is finite after every step, so it is at most about 1e154. Only what
-/// rounding leaves in the column of a variable that was basic meanwhile isn't in a norm: at most
-/// 1e154 * 2^-53, times a column entry of 1e154 still finite, so it would have to be left over and
-/// enlarged twice. No plan that does so is made.
 fn named(rng: &mut Rng, sink: &mut Sink) {
     for _ in 0..70 {
         for (name, draft) in named_drafts(rng) {
@@ -952,6 +946,16 @@ fn named(rng: &mut Rng, sink: &mut Sink) {
             sink.draft(&draft);
         }
     }
+    let make = || column_draft(rng);
+    search(70, sink, make, |outcome, _| {
+        matches!(
+            outcome,
+            Outcome::NotFinite {
+                named: Named::Column,
+                ..
+            }
+        )
+    });
 }
 
 type NamedDraft = ((&'static str, bool), Draft);
@@ -1103,6 +1107,47 @@ fn row_draft(rng: &mut Rng) -> Draft {
     entries.extend([(9, 1.0), (10, -1.0), (11, 3.0 * part)]);
     draft.row(entries, LE, 10.0);
     draft.row(vec![(9, times), (10, 1.0)], LE, 1e300);
+    draft
+}
+
+/// A column entry that no norm knows of. Column 7 has a large entry in row 0. Columns 0 to 2 enter
+/// in rows 0 to 2 and bring multiples of it into row 3, which come to 0.0 but for rounding: the
+/// column solve rounds each product with the entry, while the row solve adds the multiples first,
+/// gets 0.0 and leaves the norm alone. Column 3 enlarges what is left into rows 4 and 5, where
+/// column 4 takes all but a rounding off once more, and column 5 enlarges that into row 6, past MAX.
+/// Column 6 enters in row 7 and makes column 7's price one that enters. Which multiples leave
+/// something both times is a matter of luck.
+fn column_draft(rng: &mut Rng) -> Draft {
+    let mut multiple = |from: f64| from * (1.0 + rng.unit());
+    let (first, second, third) = (multiple(0.25), multiple(0.25), multiple(0.25));
+    let (by_first, by_second, by_third) = (multiple(2.0), multiple(2.0), multiple(2.0));
+    let entry = multiple(power_of_two(450));
+    let (once, twice) = (power_of_two(250), power_of_two(490));
+    let mut draft = Draft::new();
+    for price in [
+        power_of_two(20),
+        power_of_two(19),
+        power_of_two(18),
+        once * power_of_two(15),
+        power_of_two(14),
+        twice * power_of_two(10),
+        power_of_two(222),
+        0.0,
+    ] {
+        draft.column(-price, 0.0, INF);
+    }
+    draft.row(vec![(0, 1.0), (7, entry)], LE, 1.0);
+    draft.row(vec![(0, first), (1, 1.0)], LE, 10.0);
+    draft.row(vec![(0, second), (2, 1.0)], LE, 10.0);
+    let back = -(first * by_first + second * by_second);
+    let taken = vec![(0, back), (1, -by_first), (2, -by_second), (3, 1.0)];
+    draft.row(taken, LE, 1.0);
+    draft.row(vec![(3, once * third), (4, 1.0)], LE, power_of_two(300));
+    let back = -once * (third * by_third);
+    draft.row(vec![(3, back), (4, -by_third), (5, 1.0)], LE, 1.0);
+    draft.row(vec![(5, -twice)], LE, 1.0);
+    draft.row(vec![(6, 1.0), (7, -power_of_two(250))], LE, 1.0);
+    draft.row(vec![(6, -power_of_two(215))], LE, 1.0);
     draft
 }
 

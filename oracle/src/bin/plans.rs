@@ -10,7 +10,7 @@ use std::io::{self, BufWriter, Write};
 use std::process::ExitCode;
 
 use oracle::shown::Options;
-use oracle::survey::{self, Survey};
+use oracle::survey::{self, met, Survey};
 use oracle::{families, gate};
 
 #[derive(PartialEq)]
@@ -82,15 +82,5 @@ fn run() -> Result<bool, String> {
         return Ok(true);
     }
 
-    let (mut passed, mut failed) = (0, 0);
-    for (name, least, count) in survey.targets() {
-        if count >= least {
-            passed += 1;
-        } else {
-            failed += 1;
-            println!("missed: {}: {} of at least {}", name, count, least);
-        }
-    }
-    println!("{} passed, {} failed", passed, failed);
-    Ok(failed == 0)
+    Ok(met(&survey.targets()))
 }

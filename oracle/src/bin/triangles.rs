@@ -9,6 +9,7 @@
 use std::io::{self, BufWriter, Write};
 use std::process::ExitCode;
 
+use oracle::survey::met;
 use oracle::tri;
 use oracle::tri_families::{self, Survey};
 
@@ -65,15 +66,5 @@ fn run() -> Result<bool, String> {
         return Ok(true);
     }
 
-    let (mut passed, mut failed) = (0, 0);
-    for (name, least, count) in survey.targets() {
-        if count >= least {
-            passed += 1;
-        } else {
-            failed += 1;
-            println!("missed: {}: {} of at least {}", name, count, least);
-        }
-    }
-    println!("{} passed, {} failed", passed, failed);
-    Ok(failed == 0)
+    Ok(met(&survey.targets()))
 }
