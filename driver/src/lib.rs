@@ -5,7 +5,9 @@
 //! a call changes a cell that it must leave, its line says so and so differs from the oracle's.
 
 pub mod lent;
-pub mod library;
+/// The calls of the library, as the Rust crate over it has them.
+#[path = "../../bindings/rust/src/ffi.rs"]
+mod library;
 pub mod plans;
 pub mod sheets;
 pub mod triangles;

@@ -1,4 +1,5 @@
-//! The calls over the C boundary (`include/tevalumi.h`): the crate's only `unsafe`.
+//! The calls over the C boundary (`include/tevalumi.h`): the crate's only `unsafe`. The driver of the
+//! tests has this file too.
 //!
 //! A call is written here once, with the slices that it borrows. From that line the macro makes
 //! the C declaration, in which a slice is a pointer and a length, and a safe function that takes
@@ -18,7 +19,8 @@
 #![allow(unsafe_code)]
 #![allow(clippy::too_many_arguments)]
 
-/// What `tevalumi_solve` answers.
+/// What `tevalumi_solve` answers. `place` says what `at` and `within` number: 0 nothing, 1 a row and
+/// a place in it, 2 a column, 3 a row, 4 a value, 5 a kept row.
 #[repr(C)]
 #[derive(Clone, Copy, Debug)]
 pub(crate) struct Answer {
@@ -30,7 +32,7 @@ pub(crate) struct Answer {
     pub within: usize,
 }
 
-/// What a triangle call answers.
+/// What a triangle call answers: 01's number, and how many places are listed afterwards.
 #[repr(C)]
 #[derive(Clone, Copy, Debug)]
 pub(crate) struct TriAnswer {
@@ -38,7 +40,7 @@ pub(crate) struct TriAnswer {
     pub places: usize,
 }
 
-/// What `tevalumi_verdict` answers.
+/// What `tevalumi_verdict` answers: kind 0 is not a plan, 1 no floor, 2 a gap.
 #[repr(C)]
 #[derive(Clone, Copy, Debug)]
 pub(crate) struct SheetVerdict {

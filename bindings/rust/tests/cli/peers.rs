@@ -132,7 +132,9 @@ fn generated(seed: u64) -> String {
 
 /// Whether a program is there. With `TEVALUMI_PEERS=1` it has to be.
 fn there(program: &str) -> bool {
-    let found = Command::new(program).arg("--version").output().is_ok();
+    // An emulator may answer that it has started a program that isn't there, so what is printed tells.
+    let printed = Command::new(program).arg("--version").output();
+    let found = printed.is_ok_and(|printed| !printed.stdout.is_empty());
     let wanted = std::env::var("TEVALUMI_PEERS").is_ok_and(|v| v == "1");
     assert!(found || !wanted, "{program} isn't there");
     if !found {
