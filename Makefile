@@ -2,7 +2,7 @@
 CARGO = CARGO_TARGET_DIR=$(CURDIR)/build/cargo cargo
 BIN = build/cargo/release
 
-.PHONY: test oracle plans triangles sheets replay-data driver checks bench bench-peers
+.PHONY: test oracle plans triangles sheets replay-data driver checks bench bench-peers bench-profile
 
 # The gate: rt ci over every crate, then every Rust test and comparison. Its last line is `N passed, M failed`.
 test:
@@ -20,8 +20,9 @@ tevalumi: target/staticlib/libtevalumi.a
 	ci/linked cargo build --release --offline --manifest-path bindings/rust/Cargo.toml --bin tevalumi
 	ci/linked program tevalumi
 
-# The proved library. It is proved again only where a crate has changed.
+# The proved library. It is proved again only where a crate has changed. What it needs is proved first, since `rt check` uses every core.
 target/staticlib/libtevalumi.a: $(shell find crates crates.txt)
+	rt check $(shell sed -n 's/^tevalumi://p' crates.txt)
 	rt staticlib tevalumi
 
 # build/oracle: plans and triangles in, answer lines out (docs/EXCHANGE.md).
@@ -61,14 +62,13 @@ driver: oracle target/staticlib/libtevalumi.a
 checks:
 	ci/checks
 
-# The proved library beside the oracle's solver on 200 plans: a line for each, then the ratios of medians.
+# The proved library beside the oracle's solver on 200 plans: a line for each, then the ratios of medians. With GLPK too, through its C library, which Debian
+# has as libglpk-dev. And where the library's instructions go.
 bench: target/staticlib/libtevalumi.a
-	ci/linked cargo build --release --offline --manifest-path bench/Cargo.toml
 	bench/run
 
-# The same, and GLPK through its C library, which Debian has as libglpk-dev. The first line fetches what another processor needs.
 bench-peers: target/staticlib/libtevalumi.a
-	ci/linked cargo --version
-	dpkg -s libglpk-dev:amd64 >/dev/null 2>&1 || { apt-get update -q && apt-get install -y -q libglpk-dev:amd64; }
-	ci/linked cargo build --release --offline --features glpk --manifest-path bench/Cargo.toml
-	bench/run
+	bench/run --peers
+
+bench-profile: target/staticlib/libtevalumi.a
+	bench/run --profile

@@ -5,24 +5,19 @@
 //! |---|---|
 //! | `bench [--rounds N]` | alternating rounds; a line for each plan, and the ratios of median times |
 //! | `bench --check` | only compares the answers |
-//! | `bench --count` | solves between marks, under an emulator whose plugin counts instructions |
-//! | `bench --counted FILE` | the ratios of these counts |
 //!
 //! Each ends with status 1 where the two sides don't answer alike. With the feature `glpk` it also
 //! runs GLPK.
 
-mod count;
 #[cfg(feature = "glpk")]
 mod glpk;
 mod plans;
 mod sides;
 
 use std::hint::black_box;
-use std::path::PathBuf;
 use std::process::ExitCode;
 use std::time::Instant;
 
-use count::{between_marks, Counts, Side};
 use oracle::plan::Plan;
 use sides::{Library, Seen};
 
@@ -33,8 +28,6 @@ const SAMPLE_NANOS: f64 = 1_000_000.0;
 enum Mode {
     Time(usize),
     Check,
-    Count,
-    Counted(PathBuf),
 }
 
 fn main() -> ExitCode {
@@ -52,13 +45,11 @@ fn mode() -> Result<Mode, String> {
     match args.iter().map(String::as_str).collect::<Vec<_>>()[..] {
         [] => Ok(Mode::Time(ROUNDS)),
         ["--check"] => Ok(Mode::Check),
-        ["--count"] => Ok(Mode::Count),
-        ["--counted", file] => Ok(Mode::Counted(file.into())),
         ["--rounds", n] => match n.parse() {
             Ok(n) if n > 0 => Ok(Mode::Time(n)),
             _ => Err(format!("--rounds wants a number above 0, not {n}")),
         },
-        _ => Err("usage: bench [--rounds N | --check | --count | --counted FILE]".to_string()),
+        _ => Err("usage: bench [--rounds N | --check]".to_string()),
     }
 }
 
@@ -74,47 +65,31 @@ fn run(mode: Mode) -> Result<ExitCode, String> {
             }
         }
     }
-    if failed > 0 || matches!(mode, Mode::Check) {
-        println!("{} passed, {failed} failed", races.len());
-        return Ok(ExitCode::from(u8::from(failed > 0)));
-    }
-    let unit = match mode {
-        Mode::Check => return Ok(ExitCode::SUCCESS),
-        Mode::Count => {
-            for (number, race) in races.iter_mut().enumerate() {
-                race.count(number);
-            }
-            return Ok(ExitCode::SUCCESS);
-        }
-        Mode::Counted(file) => {
-            let counts = Counts::read(&file)?;
-            for (number, race) in races.iter_mut().enumerate() {
-                race.counted(number, &counts)?;
-            }
-            "thousand instructions"
-        }
-        Mode::Time(rounds) => {
-            for race in &mut races {
-                let once = race.time_library().max(1.0);
-                race.repeats = (SAMPLE_NANOS / once).ceil() as usize;
-            }
-            for round in 0..rounds {
-                for race in &mut races {
-                    race.round(round);
-                }
-            }
-            "us"
+    let rounds = match mode {
+        Mode::Time(rounds) if failed == 0 => rounds,
+        _ => {
+            println!("{} passed, {failed} failed", races.len());
+            return Ok(ExitCode::from(u8::from(failed > 0)));
         }
     };
+    for race in &mut races {
+        let once = race.time_library().max(1.0);
+        race.repeats = (SAMPLE_NANOS / once).ceil() as usize;
+    }
+    for round in 0..rounds {
+        for race in &mut races {
+            race.round(round);
+        }
+    }
     for race in &races {
-        println!("{}", race.line(unit));
+        println!("{}", race.line());
     }
     println!();
-    summary(&races, unit);
+    summary(&races, rounds);
     Ok(ExitCode::SUCCESS)
 }
 
-/// One plan, its prepared memory, and the samples for one solve: nanoseconds, or instructions.
+/// One plan, its prepared memory, and the samples for one solve, in nanoseconds.
 struct Race<'a> {
     plan: &'a Plan,
     seen: Seen,
@@ -202,29 +177,10 @@ impl<'a> Race<'a> {
         timed(self.repeats, || self.library.solve(self.plan))
     }
 
-    /// A solve of each side between marks.
-    fn count(&mut self, number: usize) {
-        between_marks(number, Side::Nothing, || ());
-        between_marks(number, Side::Library, || self.library.solve(self.plan));
-        between_marks(number, Side::Oracle, || sides::oracle(self.plan));
-        #[cfg(feature = "glpk")]
-        between_marks(number, Side::Glpk, || self.glpk.solve());
-    }
-
-    fn counted(&mut self, number: usize, counts: &Counts) -> Result<(), String> {
-        self.library_samples = vec![counts.of(number, Side::Library)?];
-        self.oracle_samples = vec![counts.of(number, Side::Oracle)?];
-        #[cfg(feature = "glpk")]
-        {
-            self.glpk_samples = vec![counts.of(number, Side::Glpk)?];
-        }
-        Ok(())
-    }
-
-    fn line(&self, unit: &str) -> String {
+    fn line(&self) -> String {
         let (library, oracle) = (median(&self.library_samples), median(&self.oracle_samples));
         let line = format!(
-            "{:<10} rows {:>2}  columns {:>3}  entries {:>4}  answer {:>2}  steps {:>3} {:>3}  library {:>8.2}  oracle {:>8.2} {unit}  ratio {:.3}",
+            "{:<10} rows {:>2}  columns {:>3}  entries {:>4}  answer {:>2}  steps {:>3} {:>3}  library {:>8.2}  oracle {:>8.2} us  ratio {:.3}",
             self.plan.id,
             self.plan.rows,
             self.plan.columns,
@@ -261,7 +217,7 @@ fn timed<T>(repeats: usize, mut call: impl FnMut() -> T) -> f64 {
     start.elapsed().as_nanos() as f64 / repeats as f64
 }
 
-fn summary(races: &[Race], unit: &str) {
+fn summary(races: &[Race], rounds: usize) {
     let of = |number: fn(&Race) -> f64| races.iter().map(number).collect::<Vec<f64>>();
     let steps = of(|race| race.seen.steps as f64);
     let optimal = races.iter().filter(|race| race.seen.number == 0).count();
@@ -272,16 +228,11 @@ fn summary(races: &[Race], unit: &str) {
         median(&steps),
         quantile(&steps, 1.0),
     );
-    let rounds = races.first().map_or(0, |race| race.library_again.len());
-    if rounds > 0 {
-        println!(
-            "{rounds} rounds; a sample is repeated solves of about 1 ms; medians of the rounds"
-        );
-    }
+    println!("{rounds} rounds; a sample is repeated solves of about 1 ms; medians of the rounds");
     println!();
     let library = of(|race| median(&race.library_samples));
     let oracle = of(|race| median(&race.oracle_samples));
-    compare("library", "oracle", &library, &oracle, unit);
+    compare("library", "oracle", &library, &oracle);
     #[cfg(feature = "glpk")]
     {
         let steps = of(|race| race.glpk_seen.steps as f64);
@@ -291,29 +242,27 @@ fn summary(races: &[Race], unit: &str) {
             median(&steps)
         );
         let glpk = of(|race| median(&race.glpk_samples));
-        compare("library", "GLPK", &library, &glpk, unit);
+        compare("library", "GLPK", &library, &glpk);
     }
-    if rounds > 0 {
-        println!("noise: each side against its own second samples, from the same rounds");
-        let again = of(|race| median(&race.library_again));
-        compare("library", "library again", &library, &again, unit);
-        let again = of(|race| median(&race.oracle_again));
-        compare("oracle", "oracle again", &oracle, &again, unit);
-    }
+    println!("noise: each side against its own second samples, from the same rounds");
+    let again = of(|race| median(&race.library_again));
+    compare("library", "library again", &library, &again);
+    let again = of(|race| median(&race.oracle_again));
+    compare("oracle", "oracle again", &oracle, &again);
 }
 
 /// The ratios of the medians: of all plans in a row, of the median plan, and plan by plan.
-fn compare(one: &str, other: &str, ones: &[f64], others: &[f64], unit: &str) {
+fn compare(one: &str, other: &str, ones: &[f64], others: &[f64]) {
     let ratios: Vec<f64> = ones.iter().zip(others).map(|(a, b)| a / b).collect();
     let (sum, other_sum) = (ones.iter().sum::<f64>(), others.iter().sum::<f64>());
     println!(
-        "all plans in a row:  {one} {:.1}, {other} {:.1} {unit}, ratio {:.3}",
+        "all plans in a row:  {one} {:.1}, {other} {:.1} us, ratio {:.3}",
         sum / 1e3,
         other_sum / 1e3,
         sum / other_sum
     );
     println!(
-        "the median plan:     {one} {:.2}, {other} {:.2} {unit}, ratio {:.3}",
+        "the median plan:     {one} {:.2}, {other} {:.2} us, ratio {:.3}",
         median(ones) / 1e3,
         median(others) / 1e3,
         median(ones) / median(others)
