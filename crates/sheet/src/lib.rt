@@ -1,5 +1,4 @@
 // The audit sheet's public calls. They ask nothing: whatever is lent, the answer and every lent cell afterwards are settled.
-ghost use mathlib.Core.Path.{_≡_};
 ghost use Rattle.sheet_rules.specs.Sheet.{planOf, keptOf, sheetOf};
 ghost use Rattle.sheet_rules.specs.Promises.{Opens, Edits, Judges};
 use sheet_rules::Edit;

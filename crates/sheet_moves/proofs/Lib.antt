@@ -1,3 +1,2 @@
 -- Laws for the proofs.
 pub mod Laws
-pub mod ByKind

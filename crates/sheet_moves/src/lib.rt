@@ -1,15 +1,14 @@
 // How the counts' terms and B's move with an edit, and C, B and the counts by value. All functions read only.
 ghost use mathlib.Core.Path.{_≡_};
 ghost use mathlib.Core.Bool.{not};
-ghost use Prim.Native.Nat.{_+_, _*_, _≤_, _<_};
+ghost use Prim.Native.Nat.{_*_, _≤_};
 ghost use lib.ListN.{length};
-ghost use lib.IntN.{natAbs, _+ℤ_, _-ℤ_, _*ℤ_};
+ghost use lib.IntN.{natAbs};
 ghost use Rattle.doubles.specs.Limits.{maxRows, maxColumns, maxAmount, maxMultiplier, maxBound, maxR, maxD};
-ghost use Rattle.doubles.specs.Lists.{_#_};
-ghost use Rattle.sheet_rules.specs.Sum.{_‼_, sum, bit};
-ghost use Rattle.sheet_rules.specs.Sheet.{holds, outside, term, lacks};
+ghost use Rattle.sheet_rules.specs.Sum.{bit};
+ghost use Rattle.sheet_rules.specs.Sheet.{holds, outside, lacks};
 ghost use Rattle.sheet_terms.specs.Small.{Small};
-ghost use Rattle.sheet_moves.specs.After.{ColumnSmall, RowSmall};
+ghost use Rattle.sheet_moves.specs.After.{ColumnSmall, RowSmall, brokenChange, termsChange, absentChange};
 use sheet_terms::bit;
 use sheet_terms::term;
 
@@ -56,7 +55,7 @@ pub fn broken_change(
     r: &[i64],
 ) -> i64
     requires { ⌜ (rows ≤ maxRows) × ColumnSmall rows columns column (now coefs) × (rows ≤ length (now rights)) × (rows ≤ length (now ops)) × Small maxR rows (now r) × (natAbs by ≤ 2 * maxAmount) ⌝ }
-    ensures { λ z. ⌜ z ≡ sum rows (λ i. bit (not (holds (now (ops .entry) # i) (now (r .entry) ‼ i +ℤ now (coefs .entry) ‼ (i * columns + column) *ℤ by) (now (rights .entry) ‼ i))) -ℤ bit (not (holds (now (ops .entry) # i) (now (r .entry) ‼ i) (now (rights .entry) ‼ i)))) ⌝ }
+    ensures { λ z. ⌜ z ≡ brokenChange rows columns column by (now (coefs .entry)) (now (rights .entry)) (now (ops .entry)) (now (r .entry)) ⌝ }
 {
     let mut total: i64 = 0;
     let mut i = 0;
@@ -82,7 +81,7 @@ pub fn terms_change(
     d: &[i64],
 ) -> i64
     requires { ⌜ (columns ≤ maxColumns) × RowSmall rows columns row (now coefs) × Small maxBound columns (now lowers) × Small maxBound columns (now uppers) × (columns ≤ length (now «lower_marks»)) × (columns ≤ length (now «upper_marks»)) × Small maxD columns (now d) × (natAbs by ≤ 2 * maxMultiplier) ⌝ }
-    ensures { λ z. ⌜ z ≡ sum columns (λ j. term (now (d .entry) ‼ j -ℤ now (coefs .entry) ‼ (row * columns + j) *ℤ by) (now (lowers .entry) ‼ j) (now (uppers .entry) ‼ j) (now («lower_marks» .entry) # j) (now («upper_marks» .entry) # j) -ℤ term (now (d .entry) ‼ j) (now (lowers .entry) ‼ j) (now (uppers .entry) ‼ j) (now («lower_marks» .entry) # j) (now («upper_marks» .entry) # j)) ⌝ }
+    ensures { λ z. ⌜ z ≡ termsChange columns row by (now (coefs .entry)) (now (lowers .entry)) (now (uppers .entry)) (now («lower_marks» .entry)) (now («upper_marks» .entry)) (now (d .entry)) ⌝ }
 {
     let mut total: i64 = 0;
     let mut j = 0;
@@ -107,7 +106,7 @@ pub fn absent_change(
     d: &[i64],
 ) -> i64
     requires { ⌜ (columns ≤ maxColumns) × RowSmall rows columns row (now coefs) × (columns ≤ length (now «lower_marks»)) × (columns ≤ length (now «upper_marks»)) × Small maxD columns (now d) × (natAbs by ≤ 2 * maxMultiplier) ⌝ }
-    ensures { λ z. ⌜ z ≡ sum columns (λ j. bit (lacks (now (d .entry) ‼ j -ℤ now (coefs .entry) ‼ (row * columns + j) *ℤ by) (now («lower_marks» .entry) # j) (now («upper_marks» .entry) # j)) -ℤ bit (lacks (now (d .entry) ‼ j) (now («lower_marks» .entry) # j) (now («upper_marks» .entry) # j))) ⌝ }
+    ensures { λ z. ⌜ z ≡ absentChange columns row by (now (coefs .entry)) (now («lower_marks» .entry)) (now («upper_marks» .entry)) (now (d .entry)) ⌝ }
 {
     let mut total: i64 = 0;
     let mut j = 0;

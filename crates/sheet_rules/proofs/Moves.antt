@@ -9,7 +9,7 @@ use borrow.Author.Tests.{ne-eqb}
 use Rattle.doubles.specs.Limits.{unit}
 use Rattle.sheet_rules.specs.Sum.{_‼_, sum, bit}
 use Rattle.sheet_rules.specs.Sheet.{Plan, Sheet, a, c, x, Y, brokenAt, termAt, lacksAt}
-use Rattle.sheet_rules.specs.Edit.{put, edited, movedR, movedD, movedC}
+use Rattle.sheet_rules.specs.Edit.{put, edited, movedR, movedD}
 use Rattle.sheet_rules.specs.Touches.{R, D, touches}
 use Rattle.sheet_rules.specs.Words.{Sized, Index, Takes}
 use Rattle.sheet_rules.specs.declared.Edit.{Edit}
@@ -63,19 +63,7 @@ module _ (s : Sheet) (e : Edit) (z : Sized s) (i : Index (s .plan) e) where
       let same : a q k (e .column) ≡ a p k (e .column) = rw w in
       ap (λ (d : ℤ). s .kept .R ‼ k +ℤ d) (ap₂ (λ (y v : ℤ). y *ℤ v -ℤ a p k (e .column) *ℤ x p (e .column)) same (t .amount-taken w) ∙ times-change (a p k (e .column)) (e .number) (x p (e .column)))
 
-  pub amount-C : e .kind ≡ 1 → movedC s e ≡ s .kept .C ‼ 0 +ℤ c p (e .column) *ℤ (e .number -ℤ x p (e .column))
-  unfolding movedC edited put
-  amount-C w =
-      let same : c q (e .column) ≡ c p (e .column) = rw w in
-      ap (λ (d : ℤ). s .kept .C ‼ 0 +ℤ d) (ap₂ (λ (y v : ℤ). y *ℤ v -ℤ c p (e .column) *ℤ x p (e .column)) same (t .amount-taken w) ∙ times-change (c p (e .column)) (e .number) (x p (e .column)))
-
   -- ---- kind 2
-  pub cost-C : e .kind ≡ 2 → movedC s e ≡ s .kept .C ‼ 0 +ℤ (e .number -ℤ c p (e .column)) *ℤ x p (e .column)
-  unfolding movedC edited put
-  cost-C w =
-      let same : x q (e .column) ≡ x p (e .column) = rw w in
-      ap (λ (d : ℤ). s .kept .C ‼ 0 +ℤ d) (ap₂ (λ (v y : ℤ). v *ℤ y -ℤ c p (e .column) *ℤ x p (e .column)) (t .cost-taken w) same ∙ change-times (x p (e .column)) (e .number) (c p (e .column)))
-
   pub cost-D : e .kind ≡ 2 → movedD s e (e .column) ≡ s .kept .D ‼ e .column +ℤ pos unit *ℤ (e .number -ℤ c p (e .column))
   unfolding movedD edited put
   cost-D w =

@@ -3,20 +3,17 @@ use mathlib.Core.Path.{_≡_, sym, ap, _∙_}
 use Prim.Native.Nat.{ℕ}
 use native.Mathlib.Omega.{arith}
 use lib.Dec.{lit≤}
-use lib.IntN.{ℤ}
-use Rattle.doubles.specs.Limits.{maxC, maxB}
+use lib.IntN.{ℤ, pos}
+use Rattle.doubles.specs.Limits.{maxC, maxB, unit}
 use Rattle.sheet_rules.specs.Sum.{_‼_}
-use Rattle.sheet_terms.proofs.Machine.{result, E, num, mul, exact, fit}
+use Rattle.sheet_terms.proofs.Machine.{result, E, num, mul, exact, fit, sub}
 use mathlib.Core.Bool.{true, _&&_}
-use lib.IntN.{pos}
 use borrow.Author.Tests.{not-true, not-false}
-use Rattle.doubles.specs.Limits.{unit}
 use Rattle.sheet_rules.specs.Sheet.{Sheet, planOf, keptOf, sheetOf}
 use Rattle.sheet_rules.specs.Verdict.{verdict, verdictBy, keptFine, gap, isZero}
 use Rattle.sheet_rules.specs.Words.{Sized, KeptIn}
 use Rattle.sheet_rules.specs.declared.Verdict.the-variants.{Gap}
 use Rattle.sheet_rules.proofs.Tests.{sizes-decide, kept-decides}
-use Rattle.sheet_terms.proofs.Machine.{sub}
 use Rattle.sheet_tests.proofs.Tells.{kept-sized}
 use Rattle.sheet.proofs.verdict.Statement.{statement}
 use Rattle.sheet.proofs.verdict.Tie as tie

@@ -2,14 +2,12 @@
 use mathlib.Core.Path.{_≡_, sym, ap, _∙_}
 use Prim.Native.Nat.{_+_, _*_, _<_}
 use native.Mathlib.Omega.{arith}
-use lib.IntN.{ℤ, _+ℤ_}
+use lib.IntN.{ℤ, _+ℤ_, pos, +ℤ-idr}
 use Rattle.doubles.specs.Limits.{maxCoefficient, maxAmount, maxR}
 use Rattle.sheet_rules.specs.Sum.{_‼_}
-use Rattle.sheet_terms.proofs.Machine.{word, of-word, E, num, mul, exact, fit}
+use Rattle.sheet_terms.proofs.Machine.{word, of-word, E, num, mul, exact, fit, sub, add}
 use Rattle.sheet_rules.specs.Sheet.{Plan, planOf}
 use Rattle.sheet_rules.proofs.Local.{place-in}
-use lib.IntN.{pos, +ℤ-idr}
-use Rattle.sheet_terms.proofs.Machine.{sub, add}
 use Rattle.sheet_after.specs.Change.{rowChange}
 use Rattle.sheet_after.proofs.Laws.{row-1, row-6, row-6-other, row-rest}
 use Rattle.sheet_after.proofs.activity_after.Statement.{statement}

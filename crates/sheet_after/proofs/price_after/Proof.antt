@@ -3,15 +3,12 @@ use mathlib.Core.Path.{_≡_, sym, ap, _∙_}
 use Prim.Native.Nat.{_+_, _*_, _<_}
 use native.Mathlib.Omega.{arith}
 use lib.Dec.{lit≤}
-use lib.IntN.{ℤ, _+ℤ_}
-use Rattle.doubles.specs.Limits.{maxCoefficient, maxCost, maxMultiplier, maxD}
+use lib.IntN.{ℤ, _+ℤ_, pos, +ℤ-idr}
+use Rattle.doubles.specs.Limits.{maxCoefficient, maxCost, maxMultiplier, maxD, unit}
 use Rattle.sheet_rules.specs.Sum.{_‼_}
-use Rattle.sheet_terms.proofs.Machine.{word, of-word, E, num, mul, exact, fit}
+use Rattle.sheet_terms.proofs.Machine.{word, of-word, E, num, mul, exact, fit, sub, add}
 use Rattle.sheet_rules.specs.Sheet.{Plan, planOf}
 use Rattle.sheet_rules.proofs.Local.{place-in}
-use lib.IntN.{pos, +ℤ-idr}
-use Rattle.doubles.specs.Limits.{unit}
-use Rattle.sheet_terms.proofs.Machine.{sub, add}
 use Rattle.sheet_after.specs.Change.{priceChange}
 use Rattle.sheet_after.proofs.Laws.{price-2, price-2-other, price-6, price-6-other, price-7, price-rest}
 use Rattle.sheet_after.proofs.price_after.Statement.{statement}

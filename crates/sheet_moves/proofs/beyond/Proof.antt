@@ -3,7 +3,6 @@ use mathlib.Core.Path.{ap, _∙_}
 use borrow.Author.Needs.{needs}
 use Rattle.sheet_rules.specs.Sum.{bit}
 use Rattle.sheet_terms.proofs.Machine.{of-word, result}
-use borrow.Author.Needs.{needs}
 use Rattle.sheet_moves.proofs.beyond.Statement.{statement}
 use Rattle.sheet_moves.proofs.beyond.Tie as tie
 

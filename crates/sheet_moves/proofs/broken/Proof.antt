@@ -5,7 +5,6 @@ use borrow.Author.Needs.{needs}
 use Rattle.sheet_rules.specs.Sum.{bit}
 use Rattle.sheet_rules.specs.Sheet.{holds}
 use Rattle.sheet_terms.proofs.Machine.{of-word, result}
-use borrow.Author.Needs.{needs}
 use Rattle.sheet_moves.proofs.broken.Statement.{statement}
 use Rattle.sheet_moves.proofs.broken.Tie as tie
 

@@ -1,14 +1,12 @@
 -- `sheet_open::opening` meets its contract. Assumes nothing.
 use mathlib.Core.Path.{sym, _∙_}
 use borrow.Author.Needs.{needs}
-use Rattle.sheet_rules.specs.Sheet.{planOf, keptOf, sheetOf}
+use Rattle.sheet_rules.specs.Sheet.{planOf, keptOf, sheetOf, Sheet}
 use Rattle.sheet_tests.proofs.Tells.{plan-sized}
 use borrow.Author.Tests.{not-true, not-false}
 use Rattle.sheet_rules.specs.Opening.{firstFailed, opening}
-use Rattle.sheet_rules.specs.Sheet.{Sheet}
 use Rattle.sheet_rules.proofs.Tests.{sizes-decide}
 use Rattle.sheet_tests.specs.Sized.{PlanSized}
-use borrow.Author.Needs.{needs}
 use Rattle.sheet_open.proofs.opening.Statement.{statement}
 use Rattle.sheet_open.proofs.opening.Tie as tie
 

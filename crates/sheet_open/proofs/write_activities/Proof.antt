@@ -5,10 +5,9 @@ use native.Mathlib.Nat.{le-trans}
 use native.Mathlib.Omega.{arith}
 use lib.ListN.{length}
 use borrow.Author.Needs.{needs}
-use Rattle.sheet_rules.specs.Sum.{_‼_}
+use Rattle.sheet_rules.specs.Sum.{_‼_, dot}
 use Rattle.sheet_terms.proofs.Machine.{result}
 use Rattle.doubles.proofs.Loops.{Filled, filled-none, filled-more, filled-length, filled-done}
-use Rattle.sheet_rules.specs.Sum.{dot}
 use Rattle.sheet_open.proofs.Laws.{row-in, row-asks, row-is}
 use Rattle.sheet_open.proofs.write_activities.Statement.{statement}
 use Rattle.sheet_open.proofs.write_activities.Tie as tie

@@ -9,7 +9,6 @@ use lib.ListN.{length-set}
 use Rattle.sheet_rules.specs.Sheet.{outsideAmounts, wrongSigns}
 use Rattle.sheet_open.specs.At.{countsAt}
 use Rattle.sheet_terms.proofs.Laws.{set-four}
-use borrow.Author.Needs.{needs}
 use Rattle.sheet_open.proofs.write_counts.Statement.{statement}
 use Rattle.sheet_open.proofs.write_counts.Tie as tie
 

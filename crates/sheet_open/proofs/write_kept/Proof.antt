@@ -4,7 +4,6 @@ use Rattle.sheet_rules.specs.Sheet.{Plan, Kept, planOf, keptOf, sheetOf, activi
 use Rattle.sheet_tests.proofs.Tells.{plan-sized, fine}
 use Rattle.sheet_open.proofs.Laws.{prices-small, kept-law}
 use Rattle.sheet_tests.specs.Sized.{PlanSized}
-use borrow.Author.Needs.{needs}
 use Rattle.sheet_open.proofs.write_kept.Statement.{statement}
 use Rattle.sheet_open.proofs.write_kept.Tie as tie
 

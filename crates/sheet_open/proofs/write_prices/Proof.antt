@@ -3,19 +3,15 @@ use mathlib.Core.Path.{_≡_, ap, _∙_}
 use Prim.Native.Nat.{ℕ, _+_, _*_, _≤_, _<_, _-_}
 use native.Mathlib.Omega.{arith}
 use lib.Dec.{lit≤}
-use lib.IntN.{ℤ, natAbs, _-ℤ_, _*ℤ_}
+use lib.IntN.{ℤ, natAbs, _-ℤ_, _*ℤ_, pos}
 use lib.ListN.{length}
 use borrow.Author.Needs.{needs}
-use Rattle.doubles.specs.Limits.{maxRows, maxCoefficient, maxCost, maxMultiplier}
-use Rattle.sheet_rules.specs.Sum.{_‼_}
+use Rattle.doubles.specs.Limits.{maxRows, maxCoefficient, maxCost, maxMultiplier, unit}
+use Rattle.sheet_rules.specs.Sum.{_‼_, dot}
 use Rattle.sheet_rules.proofs.Sizes.{mul-size}
-use Rattle.sheet_terms.proofs.Machine.{E, num, mul, exact, fit}
+use Rattle.sheet_terms.proofs.Machine.{E, num, mul, exact, fit, val, sub, up-to}
 use Rattle.sheet_rules.proofs.Local.{place-in}
-use lib.IntN.{pos}
-use Rattle.doubles.specs.Limits.{unit}
 use Rattle.doubles.proofs.Loops.{Filled, filled-none, filled-more, filled-length, filled-done}
-use Rattle.sheet_rules.specs.Sum.{dot}
-use Rattle.sheet_terms.proofs.Machine.{val, sub, up-to}
 use Rattle.sheet_open.proofs.write_prices.Statement.{statement}
 use Rattle.sheet_open.proofs.write_prices.Tie as tie
 

@@ -7,14 +7,12 @@ use lib.IntN.{ℤ, _+ℤ_}
 use borrow.Author.Needs.{needs}
 use Rattle.doubles.specs.Limits.{maxColumns, maxMultiplier, maxRightSide, maxBound}
 use Rattle.sheet_terms.specs.Small.{farD}
-use Rattle.sheet_terms.proofs.Machine.{result, E, num, exact, fit}
-use Rattle.sheet_terms.proofs.Machine.{add}
+use Rattle.sheet_terms.proofs.Machine.{result, E, num, exact, fit, add}
 use lib.ListN.{set}
 use Rattle.sheet_rules.specs.Sheet.{Plan, planOf, cost}
 use Rattle.sheet_open.specs.At.{floorAt}
 use Rattle.sheet_open.proofs.Laws.{weaken, dot-small, terms-small}
 use Rattle.sheet_terms.proofs.Laws.{set-one}
-use borrow.Author.Needs.{needs}
 use Rattle.sheet_open.proofs.write_totals.Statement.{statement}
 use Rattle.sheet_open.proofs.write_totals.Tie as tie
 

@@ -2,8 +2,6 @@
 use Rattle.sheet_rules.specs.Sum.{bit}
 use Rattle.sheet_terms.proofs.bit.Statement.{statement}
 use Rattle.sheet_terms.proofs.bit.Tie as tie
-use Rattle.sheet_terms.proofs.bit.Reads as reads
-use Rattle.sheet_terms.proofs.bit.Lts as lts
 
 returns : tie.Need-returns
 unfolding bit

@@ -13,8 +13,6 @@ use Rattle.sheet_terms.proofs.Word.{Below, below}
 use borrow.Author.Needs.{needs}
 use Rattle.sheet_terms.proofs.size.Statement.{statement}
 use Rattle.sheet_terms.proofs.size.Tie as tie
-use Rattle.sheet_terms.proofs.size.Reads as reads
-use Rattle.sheet_terms.proofs.size.Lts as lts
 
 negative : (c : tie.Then1) → Below (c .before .args .z)
 negative c = below (c .before .args .z) (c .before .fits .z) (subst T (sym (ap (λ (z : ℤ). ltZ z (pos 0)) (sym (toZ-ofZ w64 _ (c .before .fits .z))) ∙ c .if1 .taken)) tt)

@@ -1,7 +1,6 @@
 -- `sheet_tests::arrays_fine` meets its contract. Assumes nothing.
 use borrow.Author.Needs.{needs}
 use Rattle.sheet_rules.specs.Opening.{arraysFine}
-use borrow.Author.Needs.{needs}
 use Rattle.sheet_tests.proofs.arrays_fine.Statement.{statement}
 use Rattle.sheet_tests.proofs.arrays_fine.Tie as tie
 

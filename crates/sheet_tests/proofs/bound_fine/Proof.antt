@@ -4,7 +4,6 @@ use borrow.Author.Needs.{needs}
 use Rattle.sheet_rules.specs.Opening.{boundFine}
 use Rattle.sheet_terms.proofs.Machine.{of-word}
 use Rattle.sheet_terms.proofs.Laws.{bound-other}
-use borrow.Author.Needs.{needs}
 use Rattle.sheet_tests.proofs.bound_fine.Statement.{statement}
 use Rattle.sheet_tests.proofs.bound_fine.Tie as tie
 

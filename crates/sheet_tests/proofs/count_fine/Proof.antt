@@ -5,7 +5,6 @@ use mir.Syntax.{w64}
 use mir.ValLaws.{toZ-pos}
 use Rattle.sheet_rules.specs.Verdict.{countFine}
 use Rattle.sheet_terms.proofs.Machine.{of-word}
-use borrow.Author.Needs.{needs}
 use Rattle.sheet_tests.proofs.count_fine.Statement.{statement}
 use Rattle.sheet_tests.proofs.count_fine.Tie as tie
 

@@ -2,7 +2,6 @@
 use borrow.Author.Needs.{needs}
 use Rattle.sheet_rules.specs.Verdict.{countsFine}
 use Rattle.sheet_terms.proofs.Machine.{result}
-use borrow.Author.Needs.{needs}
 use Rattle.sheet_tests.proofs.counts_fine.Statement.{statement}
 use Rattle.sheet_tests.proofs.counts_fine.Tie as tie
 

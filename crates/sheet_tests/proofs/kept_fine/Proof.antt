@@ -1,7 +1,6 @@
 -- `sheet_tests::kept_fine` meets its contract. Assumes nothing.
 use borrow.Author.Needs.{needs}
 use Rattle.sheet_rules.specs.Verdict.{keptFine, countsFine}
-use borrow.Author.Needs.{needs}
 use Rattle.sheet_tests.proofs.kept_fine.Statement.{statement}
 use Rattle.sheet_tests.proofs.kept_fine.Tie as tie
 

@@ -1,7 +1,6 @@
 -- `sheet_tests::numbers_fine` meets its contract. Assumes nothing.
 use borrow.Author.Needs.{needs}
 use Rattle.sheet_rules.specs.Opening.{numbersFine}
-use borrow.Author.Needs.{needs}
 use Rattle.sheet_tests.proofs.numbers_fine.Statement.{statement}
 use Rattle.sheet_tests.proofs.numbers_fine.Tie as tie
 

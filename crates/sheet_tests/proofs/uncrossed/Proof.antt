@@ -3,12 +3,11 @@ use mathlib.Core.Path.{_≡_, refl, sym, ap, _∙_}
 use borrow.Author.Needs.{needs}
 use Prim.Native.Nat.{_≤_, _-_}
 use native.Mathlib.Omega.{arith}
-use mathlib.Core.Bool.{true}
+use mathlib.Core.Bool.{true, not}
 use Rattle.doubles.specs.Loop.{all}
 use Rattle.doubles.proofs.Loops.{all-next, all-fails, all-done}
 use Rattle.sheet_rules.specs.Sum.{_‼_}
 use Rattle.doubles.specs.Lists.{_#_}
-use mathlib.Core.Bool.{not}
 use lib.IntN.{ℤ}
 use Rattle.sheet_rules.specs.Opening.{crosses, uncrossed}
 use Rattle.sheet_terms.proofs.Machine.{result}

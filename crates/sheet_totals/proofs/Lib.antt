@@ -1,0 +1,4 @@
+-- Laws for the proofs.
+pub mod Sizes
+pub mod ByKind
+pub mod Lent

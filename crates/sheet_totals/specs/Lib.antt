@@ -1,0 +1,2 @@
+-- C, B and the counts over numbers alone.
+pub mod Parts
