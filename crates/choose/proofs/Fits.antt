@@ -1,36 +1,22 @@
--- A state that fits its problem has what the choice of a step asks. Assumes nothing.
-use Prim.Native.Nat.{_<_}
-use native.Mathlib.Omega.{arith}
-use Rattle.sparse.specs.Scattered.{Sv}
-use Rattle.rules.specs.Plan.{Problem, State, nOf, mOf}
-use Rattle.rules.specs.Invariant.{ProblemFits, Fits, Vector}
-use Rattle.rules.specs.declared.Entering.{Entering}
+-- A state that fits its problem has what the choice of the entering column asks. Assumes nothing.
+use Rattle.rules.specs.Plan.{Problem, State}
+use Rattle.rules.specs.Invariant.{ProblemFits, Fits}
 use Rattle.cells.specs.Bounds.{Sides}
+use Rattle.cells.proofs.Parts.{boundsOf}
 use Rattle.cells.proofs.Fits as Bounds
-use Rattle.choose.specs.Lent.{Choosing, Stepping}
-use Rattle.choose.proofs.Parts.{boundsOf, choosingOf, steppingOf}
+use Rattle.choose.specs.Lent.{Choosing}
+use Rattle.choose.proofs.Parts.{choosingOf}
 
-module _ {P : Problem} {s : State} (f : ProblemFits P) (g : Fits P s) where
-  sides : Sides (boundsOf P)
+module _ {P : Problem} (f : ProblemFits P) where
+  pub sides : Sides (boundsOf P)
   sides = let b = Bounds.sides f in record { lower = b .lower; upper = b .upper }
 
-  pub choosing : Choosing (boundsOf P) (choosingOf (s .ws))
-  choosing =
+  pub choosing : {s : State} → Fits P s → Choosing (boundsOf P) (choosingOf (s .ws))
+  choosing g =
       record {
         sides = sides;
         columns = record { nbVars-long = g .lengths .nbVars-long; prices-long = g .lengths .nbVarObjCoeffs-long; place = λ c l. g .maps .place c l .var };
         vals-long = g .lengths .nbVarVals-long;
         norms-long = g .lengths .primalEdgeSqNorms-long;
         flags-long = g .lengths .nbVarStates-long;
-      }
-
-  pub stepping : {e : Entering} {c : Sv} → e .col < nOf P → Vector (mOf P) c → Stepping (boundsOf P) (steppingOf (s .ws)) e (c .pat .list) (c .pat .count)
-  stepping l v =
-      record {
-        sides = sides;
-        rows = record { basicVars-long = g .lengths .basicVars-long; basicVarVals-long = g .lengths .basicVarVals-long; row = λ r h. g .maps .row r h .var };
-        listing = record { rows-fit = omega (arith, f .few, f .plan .rows-most); count-fits = v .good .wf .within; rows-listed = record { inside = v .places-below .below } };
-        columns = record { nbVars-long = g .lengths .nbVars-long; prices-long = g .lengths .nbVarObjCoeffs-long; place = λ c h. g .maps .place c h .var };
-        vals-long = g .lengths .nbVarVals-long;
-        col-inside = l;
       }

@@ -1,3 +1,3 @@
--- The choice of a step: what is lent to it, and the answers of its parts.
+-- The choice of the entering column: what is lent to it, and the answers of its parts.
 pub mod Lent
 pub mod Parts

@@ -2,7 +2,7 @@
 // the rows' entries placed in turn. 01 has no text for transpose: the order is that of its columns.
 ghost use mathlib.Core.Path.{_≡_};
 ghost use mathlib.Core.List.{[]};
-ghost use Prim.Native.Nat.{_<_, _≤_, _+_};
+ghost use Prim.Native.Nat.{_≤_, _+_};
 ghost use lib.ListN.{length};
 ghost use Rattle.doubles.specs.Limits.{maxColumns, maxEntries};
 ghost use Rattle.doubles.specs.Loop.{table};

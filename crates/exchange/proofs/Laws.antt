@@ -24,9 +24,12 @@ use Rattle.eta_store.specs.Room.{Room}
 use Rattle.eta_store.proofs.Laws.{fits-room}
 use Rattle.rows.specs.Lent.{Fresh}
 use Rattle.rows.proofs.Parts.{fresh-blank, fits-rows, vector-listed}
-use Rattle.pivot.specs.Halves.{numbersOf, basisOf}
-use Rattle.pivot.specs.Lent.{Listing, Swaps}
-use Rattle.pivot.proofs.Parts.{boundsOf, vector-listing, fits-swaps, exchange-finite-part}
+use Rattle.new_numbers.specs.Lent.{numbersOf, Listing}
+use Rattle.new_numbers.proofs.Parts.{vector-listing, exchange-finite-part}
+use Rattle.pivot.specs.Halves.{basisOf}
+use Rattle.pivot.specs.Lent.{Swaps}
+use Rattle.cells.proofs.Parts.{boundsOf}
+use Rattle.pivot.proofs.Parts.{fits-swaps}
 use Rattle.solves.specs.Lent.{mapped, RowSolve}
 use Rattle.exchange.specs.Left.{on, off, after, stepped}
 use Rattle.exchange.specs.Lent.{Ready, Solved}

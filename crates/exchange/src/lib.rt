@@ -2,18 +2,17 @@
 // From minilp 0.2.2, src/solver.rs, pivot, Apache-2.0, changed: 01's answers 22 and 23, and the vectors are local arrays.
 ghost use mathlib.Core.Path.{_≡_};
 ghost use mathlib.Core.Bool.{Bool, _&&_};
-ghost use mathlib.Core.List.{List, []};
+ghost use mathlib.Core.List.{List};
 ghost use Prim.Native.Nat.{_<_, _≤_};
 ghost use lib.ListN.{length};
 ghost use Rattle.doubles.specs.Limits.{places};
-ghost use Rattle.sparse.specs.Scattered.{Pat, sv, svOf, sqNorm, Within};
+ghost use Rattle.sparse.specs.Scattered.{sv, sqNorm, Within};
 ghost use Rattle.rules.specs.Plan.{Problem};
 ghost use Rattle.rules.specs.Parts.{etasOf, workspaceOf, stateOf};
 ghost use Rattle.rules.specs.Basis.{listedFinite};
 ghost use Rattle.rules.specs.Pivot.{exchangeFinite};
 ghost use Rattle.rules.specs.Step as Step;
-ghost use Rattle.pivot.specs.Halves.{numbersOf};
-ghost use Rattle.pivot.specs.Lent.{Listing};
+ghost use Rattle.new_numbers.specs.Lent.{numbersOf, Listing};
 ghost use Rattle.exchange.specs.Left.{after, leftBy, stepped};
 ghost use Rattle.exchange.specs.Lent.{Ready, Solved};
 
@@ -65,7 +64,7 @@ fn numbers_finite(
     if !rows::listed_finite(helper, helper_list, helper_count) {
         return false;
     }
-    pivot::exchange_finite(
+    new_numbers::exchange_finite(
         basic_var_vals,
         prices,
         norms,

@@ -16,7 +16,8 @@ use Rattle.rules.specs.declared.Stop.the-variants.{Finished}
 use Rattle.rules.proofs.Start.{start-fits}
 use Rattle.columns.specs.Columns.{Matrix, Valued}
 use Rattle.columns.proofs.Callers.{matrixOf, matrix-fits, values-fit}
-use Rattle.start.specs.Lent.{Columns, Scratch, Room}
+use Rattle.start_values.specs.Lent.{Columns}
+use Rattle.start.specs.Lent.{Scratch, Room}
 use Rattle.start.specs.Reckoned.{Numbers, reckoned, written}
 use Rattle.start.proofs.Parts.{unruledOf, lentOf, reckoned-part}
 use Rattle.start.proofs.Start.{still-long, start-is, lengths-room}

@@ -10,7 +10,8 @@ use Rattle.rules.specs.Parts.{planOf, problem, stateOf}
 use Rattle.rules.specs.Start.{dualFeasible}
 use Rattle.rules.specs.Step.{Ended, ended, runOf}
 use Rattle.rules.specs.declared.Stop.the-variants.{Finished}
-use Rattle.start.specs.Lent.{Columns, Scratch, Room}
+use Rattle.start_values.specs.Lent.{Columns}
+use Rattle.start.specs.Lent.{Scratch, Room}
 use Rattle.start.specs.Reckoned.{Numbers, written}
 use Rattle.exchange.specs.Lent.{Ready}
 

@@ -68,7 +68,7 @@ pub fn launch(
         var_states,
         eta_starts,
     );
-    if start::dual_feasible(costs, lowers, uppers, n) {
+    if start_values::dual_feasible(costs, lowers, uppers, n) {
         return run::Ran {
             why: rules::Stop::Finished,
             eta_count: 0,

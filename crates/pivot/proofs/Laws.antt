@@ -1,6 +1,5 @@
--- Tests in a row, a store at listed places that reads the cell it writes, and the norms by their parts. No contract cites this file. Assumes nothing.
+-- A store at listed places that reads the cell it writes, and what the stores leave. No contract cites this file. Assumes nothing.
 use mathlib.Core.Path.{_≡_, refl, ap, _∙_}
-use mathlib.Core.Bool.{Bool, true, false, _&&_}
 use mathlib.Core.List.{List}
 use Prim.Native.Nat.{ℕ, suc, _+_, _<_}
 use native.Mathlib.Nat.{le-refl}
@@ -8,27 +7,18 @@ use native.Mathlib.Omega.{arith}
 use lib.ListN.{length, set, length-set}
 use lib.Seq.{getD-set-other}
 use lib.Ieee.{Float, nan}
-use Rattle.doubles.specs.Num.{_⊕_, _⊗_, f1}
 use Rattle.doubles.specs.Loop.{run}
 use Rattle.doubles.specs.Lists.{_!_, _#_}
 use Rattle.doubles.proofs.Loops.{next, keeps}
-use Rattle.sparse.specs.Scattered.{Sv, listed, sqNorm}
+use Rattle.sparse.specs.Scattered.{Sv, listed}
 use Rattle.rules.specs.Plan.{Problem, Workspace, State, nOf, varCell}
 use Rattle.rules.specs.Parts.{workspaceOf, stateOf}
 use Rattle.rules.specs.Basis.{pushEta}
 use Rattle.rules.specs.Pivot.{storeTurn, stored, flagsAt, newObjective, movedVal, flipped, newVal, newPrice, newNorm, exchanged}
 use Rattle.rules.specs.declared.Entering.{Entering}
 use Rattle.rules.specs.declared.VarState.the-variants.{Basic, NonBasic}
-use Rattle.pivot.specs.New.{normBy}
-use Rattle.pivot.specs.Halves.{numbersOf, basisOf, numbersStored, basisStored}
-use Rattle.pivot.specs.Lent.{Listing}
-
--- tests in a row: one that fails, and one after those that pass
-pub fails : {a : Bool} (b : Bool) → a ≡ false → a && b ≡ false
-fails b e = rw e
-
-pub passes : {a b d : Bool} → a ≡ true → b ≡ d → a && b ≡ d
-passes e f = rw e f
+use Rattle.new_numbers.specs.Lent.{numbersOf, Listing}
+use Rattle.pivot.specs.Halves.{basisOf, numbersStored, basisStored}
 
 module _ (c : Sv) (l₀ : List Float) where
   pub storing-long : (f : ℕ → Float) (k : ℕ) → length (run (storeTurn c f) k l₀) ≡ length l₀
@@ -48,13 +38,6 @@ module _ (c : Sv) (l₀ : List Float) where
     store-next g k {l} x h e q =
         let cell : l ! listed c k ≡ l₀ ! listed c k = ap (λ (t : List Float). t ! listed c k) e ∙ unread (λ j. g j (l₀ ! j)) k h in
         next (storeTurn c (λ j. g j (l₀ ! j))) l₀ k e (ap (set l (listed c k)) (q ∙ ap (g (listed c k)) cell))
-
--- the new norm, with the entering column's sum of squares known
-pub norm-is : (w : Workspace) (e : Entering) (c : Sv) (pivot : Float) (row helper : Sv) (sq : Float) → sq ≡ sqNorm c
-    → (λ (j : ℕ). normBy (e .col) (sq ⊕ f1) pivot (pivot ⊗ pivot) j (w .primalEdgeSqNorms ! j) (row .vals ! j) (helper .vals ! j)) ≡ newNorm w e c pivot row helper
-unfolding newNorm normBy
-norm-is w e c pivot row helper sq q =
-    ap {B = ℕ → Float} (λ x j. normBy (e .col) (x ⊕ f1) pivot (pivot ⊗ pivot) j (w .primalEdgeSqNorms ! j) (row .vals ! j) (helper .vals ! j)) q
 
 -- ---- what the stores leave, put together
 module _ (P : Problem) (s : State) (e : Entering) (c : Sv) (value diff : Float) where

@@ -1,3 +1,3 @@
--- Laws of a step's new numbers and of their stores, for the proofs of this crate and of those that take a step.
+-- Laws of a step's stores, for the proofs of this crate and of those that take a step.
 pub mod Laws
 pub mod Parts

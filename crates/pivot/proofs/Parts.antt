@@ -1,36 +1,21 @@
--- What callers use: a step of the whole state from the parts that are lent, and what the functions ask, from a problem, a state and vectors that fit. Assumes nothing.
-use mathlib.Core.Path.{_≡_, refl, ap}
+-- What callers use: a step of the whole state from the parts that are lent, and what the stores ask, from a problem and a state that fit. Assumes nothing.
+use mathlib.Core.Path.{_≡_, ap}
 use mathlib.Core.List.{List, []}
-use Prim.Native.Nat.{ℕ, suc, _+_, _<_, _≤_}
+use Prim.Native.Nat.{ℕ, suc, _+_, _<_}
 use native.Mathlib.Omega.{arith}
 use lib.Ieee.{Float}
 use Rattle.sparse.specs.Scattered.{Sv}
-use Rattle.sparse.proofs.Laws.{wf-listed}
 use Rattle.rules.specs.Plan.{Problem, Etas, State, nOf, mOf, varMin, varMax}
-use Rattle.rules.specs.Parts.{bounded, workspaceOf, noEtas, stateOf}
+use Rattle.rules.specs.Parts.{workspaceOf, noEtas, stateOf}
 use Rattle.rules.specs.Basis.{pushEta}
-use Rattle.rules.specs.Pivot.{flagsAt, newObjective, movedVal, flipFinite, flipped, newVal, newPrice, newNorm, exchangeFinite, exchanged}
-use Rattle.rules.specs.Invariant.{ProblemFits, Fits, Vector}
-use Rattle.rules.proofs.Vectors.{vector-once}
+use Rattle.rules.specs.Pivot.{flagsAt, newObjective, movedVal, flipped, exchanged}
+use Rattle.rules.specs.Invariant.{ProblemFits, Fits}
 use Rattle.rules.specs.declared.Entering.{Entering}
-use Rattle.pivot.specs.Halves.{numbersOf, basisOf}
-use Rattle.pivot.specs.Lent.{Listing, Bounded, Flips, Swaps}
+use Rattle.cells.proofs.Parts.{boundsOf}
+use Rattle.pivot.specs.Halves.{basisOf}
+use Rattle.pivot.specs.Lent.{Bounded, Flips, Swaps}
 
--- ---- what the functions ask
-
--- of a vector whose places are below m, and an array of at least m cells
-pub vector-listing : {m : ℕ} (c : Sv) (cells : ℕ) → Vector m c → m ≤ cells → Listing cells (c .pat .count) (c .pat .list)
-vector-listing c cells v h =
-    record {
-      few = v .good .wf .within;
-      place = wf-listed (c .pat) (v .good .wf);
-      cell = λ k l. omega (arith, v .places-below .below k l);
-      once = vector-once c v;
-    }
-
-abbrev pub boundsOf : Problem → Problem
-boundsOf P = bounded (nOf P) (P .plan .lowers) (P .plan .uppers) (P .plan .ops) (P .kept)
-
+-- ---- what the stores ask
 module _ (P : Problem) (f : ProblemFits P) where
   fits-bounded : (v : ℕ) → v < nOf P + mOf P → Bounded (boundsOf P) v
   fits-bounded v h =
@@ -58,18 +43,6 @@ module _ (P : Problem) (f : ProblemFits P) where
           leaves = omega arith;
           leaves-bounds = fits-bounded _ (b .var);
         }
-
--- ---- the tests, of the parts and of the whole
-module _ (P Q : Problem) (s : State) (e : Entering) (c : Sv) (value diff : Float) where
-  pub flip-finite-part : flipFinite P s e c value diff ≡ flipFinite Q (stateOf (numbersOf (s .ws .basicVarVals) [] []) 0 (s .objective) 0) e c value diff
-  unfolding flipFinite newObjective movedVal
-  flip-finite-part = refl
-
-  pub exchange-finite-part : (rowSv helper : Sv) (row : ℕ) (pivot leaving : Float)
-      → exchangeFinite P s e c rowSv helper value diff row pivot leaving
-      ≡ exchangeFinite Q (stateOf (numbersOf (s .ws .basicVarVals) (s .ws .nbVarObjCoeffs) (s .ws .primalEdgeSqNorms)) 0 (s .objective) 0) e c rowSv helper value diff row pivot leaving
-  unfolding exchangeFinite newObjective newVal movedVal newPrice newNorm
-  exchange-finite-part rowSv helper row pivot leaving = refl
 
 -- ---- the state after a flip, from what `store_flip` leaves
 module _ (P : Problem) (s : State) (e : Entering) (c : Sv) (value diff : Float) where

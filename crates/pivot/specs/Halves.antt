@@ -12,10 +12,7 @@ use Rattle.rules.specs.Pivot.{stored, flagsAt, newVal, newPrice, newNorm}
 use Rattle.rules.specs.declared.Entering.{Entering}
 use Rattle.rules.specs.declared.VarState.the-variants.{Basic, NonBasic}
 
--- the arrays of each half, the others empty
-abbrev pub numbersOf : List Float → List Float → List Float → Workspace
-numbersOf basicVarVals prices norms = workspaceOf [] basicVarVals [] [] prices norms [] [] noEtas
-
+-- the arrays of the second half, the others empty: `numbersOf` of `new_numbers` has the first's
 abbrev pub basisOf : List ℕ → List ℕ → List Float → List ℕ → List ℕ → Workspace
 basisOf basicVars nbVars nbVarVals flags varStates = workspaceOf basicVars [] nbVars nbVarVals [] [] flags varStates noEtas
 

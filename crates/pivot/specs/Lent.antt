@@ -1,18 +1,8 @@
--- What the functions ask of the arrays that they are lent. Assumes nothing.
-use mathlib.Core.Path.{_≡_}
-use mathlib.Core.List.{List}
+-- What the stores ask of the arrays that they are lent. Assumes nothing.
 use Prim.Native.Nat.{ℕ, _+_, _<_, _≤_}
 use lib.ListN.{length}
-use Rattle.doubles.specs.Limits.{places}
 use Rattle.doubles.specs.Lists.{_#_}
 use Rattle.rules.specs.Plan.{Problem, Workspace, nOf, mOf}
-
--- the first n places of a list are places of a vector and cells of an array of `cells`, each once
-pub record Listing (cells n : ℕ) (list : List ℕ) : Type 0 where
-  pub few : n ≤ places
-  pub place : (k : ℕ) → k < n → list # k < places
-  pub cell : (k : ℕ) → k < n → list # k < cells
-  pub once : (j k : ℕ) → j < n → k < n → list # j ≡ list # k → j ≡ k
 
 -- the bounds of variable v can be looked up
 pub record Bounded (P : Problem) (v : ℕ) : Type 0 where

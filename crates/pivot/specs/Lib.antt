@@ -1,4 +1,3 @@
--- The new numbers of a step one by one, the two halves of an exchange, and what a step asks of the arrays that it is lent.
-pub mod New
+-- The two halves of an exchange, and what the stores ask of the arrays that they are lent.
 pub mod Halves
 pub mod Lent

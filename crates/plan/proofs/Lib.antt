@@ -1,5 +1,6 @@
--- Laws of the refusals' parts, for the proofs of this crate and of its callers.
+-- Laws of the refusals' parts and of kept rows, for the proofs of this crate and of its callers.
 pub mod Laws
 pub mod Parts
 pub mod Ladder
 pub mod Fits
+pub mod Kept

@@ -6,7 +6,7 @@ use Rattle.doubles.specs.Num.{f0}
 use Rattle.rules.specs.Plan.{Plan, rowCols, rowCoeffs, keptRows}
 use Rattle.rules.specs.Parts.{planOf}
 use Rattle.rules.specs.Refusals.{sizesFit, planLong, startsRise, passes2, firstBadRow, firstCrossed, firstFalse}
-use Rattle.plan.specs.Lent.{rowsOf, boundsOf, emptiesOf, numbersOf}
+use Rattle.plan.specs.Lent.{rowsOf, boundsOf, emptiesOf}
 use Rattle.plan.specs.Refused.{badEntry, refusalOf}
 
 module _ (p : Plan) where
@@ -21,10 +21,6 @@ module _ (p : Plan) where
   pub starts-part : startsRise p ≡ startsRise (planOf 0 (p .rows) (p .entries) 0 f0 [] [] [] (p .starts) [] [] [] [])
   unfolding startsRise
   starts-part = refl
-
-  pub numbers-part : passes2 p ≡ passes2 (numbersOf (p .columns) (p .rows) (p .entries) (p .tolerance) (p .costs) (p .lowers) (p .uppers) (p .coeffs) (p .ops) (p .rhs))
-  unfolding passes2
-  numbers-part = refl
 
   pub cols-part : (i : ℕ) → rowCols p i ≡ rowCols (rowsOf 0 0 (p .starts) (p .cols)) i
   cols-part i = refl

@@ -21,10 +21,6 @@ boundsOf n lowers uppers = planOf n 0 0 0 f0 [] lowers uppers [] [] [] [] []
 abbrev pub emptiesOf : ℕ → List ℕ → List ℕ → List Float → Plan
 emptiesOf m starts ops rhs = planOf 0 m 0 0 f0 [] [] [] starts [] [] ops rhs
 
--- everything that is tested by itself
-abbrev pub numbersOf : ℕ → ℕ → ℕ → Float → List Float → List Float → List Float → List Float → List ℕ → List Float → Plan
-numbersOf n m e t costs lowers uppers coeffs ops rhs = planOf n m e 0 t costs lowers uppers [] [] coeffs ops rhs
-
 -- row i of the starts S is a part of n cells
 pub record RowIn (S : List ℕ) (n i : ℕ) : Type 0 where
   pub has : i + 1 < length S
@@ -33,15 +29,6 @@ pub record RowIn (S : List ℕ) (n i : ℕ) : Type 0 where
 
 pub record Rows (m : ℕ) (S : List ℕ) (n : ℕ) : Type 0 where
   pub row : (i : ℕ) → i < m → RowIn S n i
-
--- what is tested by itself is there
-pub record Numbers (p : Plan) : Type 0 where
-  pub costs-long : p .columns ≤ length (p .costs)
-  pub lowers-long : p .columns ≤ length (p .lowers)
-  pub uppers-long : p .columns ≤ length (p .uppers)
-  pub coeffs-long : p .entries ≤ length (p .coeffs)
-  pub ops-long : p .rows ≤ length (p .ops)
-  pub rhs-long : p .rows ≤ length (p .rhs)
 
 -- xs is written over the front of l, and counted
 pub record Front (xs l : List ℕ) (k : ℕ) (l′ : List ℕ) : Type 0 where

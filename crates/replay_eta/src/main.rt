@@ -2,7 +2,7 @@
 // The input is words of eight bytes, the lowest byte first: how many stores; then for each its columns, entries and listed places, the
 // leaving rows, the starts, the row numbers and the bits of the coefficients, the listed places and the bits of their values.
 ghost use mathlib.Core.Path.{_≡_};
-ghost use Prim.Native.Nat.{_<_, _≤_};
+ghost use Prim.Native.Nat.{_≤_};
 ghost use lib.Dec.{ltb};
 ghost use lib.ListN.{length};
 ghost use Rattle.doubles.specs.Limits.{places};

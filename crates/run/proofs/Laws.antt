@@ -20,7 +20,8 @@ use Rattle.rules.specs.declared.Stop.{Stop}
 use Rattle.rules.specs.declared.Stop.the-variants.{Finished, Spent}
 use Rattle.rules.proofs.Moved.{enters-below}
 use Rattle.choose.specs.Lent.{Choosing}
-use Rattle.choose.proofs.Parts.{boundsOf, choosingOf, choose-part}
+use Rattle.cells.proofs.Parts.{boundsOf}
+use Rattle.choose.proofs.Parts.{choosingOf, choose-part}
 use Rattle.choose.proofs.Fits.{choosing}
 use Rattle.exchange.specs.Left.{on, after, leftBy, stepped}
 use Rattle.exchange.specs.Lent.{Ready}

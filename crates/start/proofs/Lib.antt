@@ -1,6 +1,4 @@
 -- Laws of the start, for the proofs of this crate and of its callers.
-pub mod Norms
-pub mod Rows
 pub mod Written
 pub mod Parts
 pub mod Start

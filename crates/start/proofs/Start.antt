@@ -16,7 +16,9 @@ use Rattle.rules.specs.Parts.{workspaceOf, etasOf, stateOf}
 use Rattle.rules.specs.Start.{startValAt, startVals, startObjective, objectiveTurn, startSlack, startNorm, startFlags, startWorkspace, startState, inBounds, passes6, passes7}
 use Rattle.rules.specs.Invariant.{ProblemFits, Lengths}
 use Rattle.rules.proofs.Lists.{over-at, over-enough}
-use Rattle.start.specs.Lent.{costed, bare, RowReads, Reckonable, Scratch, Room}
+use Rattle.plan.specs.Kept.{bare, RowReads}
+use Rattle.start_values.specs.Lent.{costed}
+use Rattle.start.specs.Lent.{Reckonable, Scratch, Room}
 use Rattle.start.specs.Reckoned.{Numbers, numbers, reckoned, allFinite, slacksInside, written}
 use Rattle.start.proofs.Parts.{unruledOf, lentOf, reckoned-part}
 

@@ -11,7 +11,7 @@ use Rattle.doubles.proofs.Loops.{over-same}
 use Rattle.rules.specs.Plan.{Workspace}
 use Rattle.rules.specs.Parts.{workspaceOf, etasOf}
 use Rattle.rules.specs.Start.{startFlags}
-use Rattle.start.specs.Lent.{costed}
+use Rattle.start_values.specs.Lent.{costed}
 use Rattle.start.specs.Reckoned.{written}
 
 -- counted from 0 on

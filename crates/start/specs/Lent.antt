@@ -5,42 +5,15 @@ use lib.ListN.{length}
 use lib.Ieee.{Float}
 use Rattle.doubles.specs.Num.{f0}
 use Rattle.doubles.specs.Limits.{maxColumns, maxRows}
-use Rattle.doubles.specs.Lists.{_#_}
 use Rattle.sparse.specs.Scattered.{Within}
-use Rattle.rules.specs.Plan.{Plan, Problem, Workspace, nOf, mOf, rowCols}
-use Rattle.rules.specs.Parts.{planOf, problem, rowed}
-
--- costs and bounds by columns
-abbrev pub costed : ℕ → List Float → List Float → List Float → Plan
-costed n costs lowers uppers = planOf n 0 0 0 f0 costs lowers uppers [] [] [] [] []
-
--- rows with their right sides
-abbrev pub sided : List ℕ → List ℕ → List Float → List Float → List ℕ → Problem
-sided starts cols coeffs rhs kept = problem (planOf 0 0 0 0 f0 [] [] [] starts cols coeffs [] rhs) kept
+use Rattle.rules.specs.Plan.{Problem, Workspace, nOf, mOf}
+use Rattle.rules.specs.Parts.{planOf, problem}
+use Rattle.plan.specs.Kept.{bare, RowsRead}
+use Rattle.start_values.specs.Lent.{Columns}
 
 -- all but comparisons
 abbrev pub unruled : ℕ → List Float → List Float → List Float → List ℕ → List ℕ → List Float → List Float → List ℕ → Problem
 unruled n costs lowers uppers starts cols coeffs rhs kept = problem (planOf n 0 0 0 f0 costs lowers uppers starts cols coeffs [] rhs) kept
-
--- rows alone
-abbrev pub bare : Problem → Problem
-bare P = rowed 0 (P .plan .starts) (P .plan .cols) (P .plan .coeffs) (P .kept)
-
-pub record Columns (n : ℕ) (costs lowers uppers : List Float) : Type 0 where
-  pub costs-long : n ≤ length costs
-  pub lowers-long : n ≤ length lowers
-  pub uppers-long : n ≤ length uppers
-
--- kept row r is a part of the entries, and its columns are below w. Contracts say it of the bare problem.
-pub record RowReads (P : Problem) (w r : ℕ) : Type 0 where
-  pub has : P .kept # r + 1 < length (P .plan .starts)
-  pub rises : P .plan .starts # (P .kept # r) ≤ P .plan .starts # (P .kept # r + 1)
-  pub cols-end : P .plan .starts # (P .kept # r + 1) ≤ length (P .plan .cols)
-  pub coeffs-end : P .plan .starts # (P .kept # r + 1) ≤ length (P .plan .coeffs)
-  pub col : (k : ℕ) → k < length (rowCols (P .plan) (P .kept # r)) → rowCols (P .plan) (P .kept # r) # k < w
-
-pub record RowsRead (P : Problem) (w : ℕ) : Type 0 where
-  pub row : (r : ℕ) → r < mOf P → RowReads P w r
 
 -- what the start's numbers are reckoned from
 pub record Reckonable (P : Problem) : Type 0 where

@@ -4,26 +4,12 @@ use mathlib.Core.List.{List, []}
 use Prim.Native.Nat.{ℕ, _+_}
 use lib.ListN.{length, set}
 use lib.Ieee.{Float}
-use Rattle.doubles.specs.Num.{_⊕_, _⊗_, finite}
-use Rattle.doubles.specs.Loop.{run, all, table}
+use Rattle.doubles.specs.Num.{finite}
+use Rattle.doubles.specs.Loop.{all, table}
 use Rattle.doubles.specs.Lists.{_!_, _#_, over}
-use Rattle.rules.specs.Plan.{Problem, Workspace, nOf, mOf, rowCols, rowCoeffs, slackMin, slackMax}
+use Rattle.rules.specs.Plan.{Problem, Workspace, nOf, mOf, slackMin, slackMax}
 use Rattle.rules.specs.Start.{startVals, startObjective, startSlack, startNorm, startFlags, inBounds}
-use Rattle.start.specs.Lent.{costed}
-
--- a row's squares, each added at its column
-abbrev pub squareTurn : List ℕ → List Float → ℕ → List Float → List Float
-squareTurn cols xs k ns = set ns (cols # k) (ns ! (cols # k) ⊕ xs ! k ⊗ xs ! k)
-
-unfoldable pub addSquares : List ℕ → List Float → List Float → List Float
-addSquares cols xs ns = run (squareTurn cols xs) (length cols) ns
-
-abbrev pub squareRow : Problem → ℕ → List Float → List Float
-squareRow P r ns = addSquares (rowCols (P .plan) (P .kept # r)) (rowCoeffs (P .plan) (P .kept # r)) ns
-
--- those of all kept rows, in order: proofs/Norms.antt shows that they are the columns' sums
-unfoldable pub squares : Problem → List Float → List Float
-squares P ns = run (squareRow P) (mOf P) ns
+use Rattle.start_values.specs.Lent.{costed}
 
 pub record Numbers : Type 0 where
   pub vals : List Float

@@ -33,12 +33,14 @@ use Rattle.eta.specs.Store.{Readable}
 use Rattle.eta.proofs.Laws.{fits-readable}
 use Rattle.rows.specs.Lent.{Fresh}
 use Rattle.rows.proofs.Parts.{fresh-blank, vector-listed}
-use Rattle.choose.specs.Lent.{Stepping}
-use Rattle.choose.proofs.Parts.{steppingOf, ratio-part}
-use Rattle.choose.proofs.Fits.{stepping}
-use Rattle.pivot.specs.Halves.{numbersOf}
-use Rattle.pivot.specs.Lent.{Listing, Flips}
-use Rattle.pivot.proofs.Parts.{boundsOf, vector-listing, fits-flips, flip-finite-part}
+use Rattle.ratio.specs.Lent.{Stepping}
+use Rattle.ratio.proofs.Parts.{steppingOf, ratio-part}
+use Rattle.ratio.proofs.Fits.{stepping}
+use Rattle.new_numbers.specs.Lent.{numbersOf, Listing}
+use Rattle.new_numbers.proofs.Parts.{vector-listing, flip-finite-part}
+use Rattle.pivot.specs.Lent.{Flips}
+use Rattle.cells.proofs.Parts.{boundsOf}
+use Rattle.pivot.proofs.Parts.{fits-flips}
 use Rattle.columns.specs.Columns.{ByColumns}
 use Rattle.columns.proofs.Callers.{columns-part}
 use Rattle.solves.specs.Lent.{mapped, ColumnLent}

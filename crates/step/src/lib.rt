@@ -12,7 +12,8 @@ ghost use Rattle.rules.specs.Plan.{Etas};
 ghost use Rattle.rules.specs.Parts.{bounded, rowed, etasOf, noEtas, workspaceOf, stateOf};
 ghost use Rattle.rules.specs.Step as Step;
 ghost use Rattle.columns.specs.Columns.{ByColumns};
-ghost use Rattle.pivot.specs.Lent.{Listing, Flips};
+ghost use Rattle.new_numbers.specs.Lent.{Listing};
+ghost use Rattle.pivot.specs.Lent.{Flips};
 ghost use Rattle.exchange.specs.Left.{after, leftBy, stepped};
 ghost use Rattle.exchange.specs.Lent.{Ready};
 
@@ -46,7 +47,7 @@ fn flip(
         (stateOf (workspaceOf b (now («basic_var_vals» .entry)) (now («nb_vars» .entry)) (now («nb_var_vals» .entry)) p q (now («nb_var_states» .entry)) v h) «eta_count» objective steps)
         e (sv (now (values .entry)) m (now (list .entry)) count) value diff)) ⌝ }
 {
-    if !pivot::flip_finite(
+    if !new_numbers::flip_finite(
         basic_var_vals,
         values,
         list,
@@ -151,7 +152,7 @@ pub fn step(
     if !rows::listed_finite(&values, &list, count) {
         return exchange::Went::Stops(rules::Stop::NotFinite);
     }
-    let found = choose::ratio(
+    let found = ratio::ratio(
         e,
         n,
         lowers,

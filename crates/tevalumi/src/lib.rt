@@ -1,47 +1,16 @@
-// The library's face: the public calls for C and Rust, and nothing else. A slice is a pointer and a
-// length. An enum can't be returned here, so its numbers are, as the definition gives them.
+// The library's face: the public calls for C and Rust, and nothing else. A slice is a pointer and a length.
 ghost use mathlib.Core.Path.{_≡_};
 ghost use mathlib.Core.Bool.{true, false, not};
 ghost use mathlib.Core.List.{[]};
 ghost use lib.Dec.{eqb};
 ghost use Rattle.lu_solve.specs.Solve.{tri};
-ghost use Rattle.lu.specs.Result.{result, solveSparse, solveDense};
+ghost use Rattle.lu.specs.Result.{solveSparse, solveDense};
 ghost use Rattle.sheet_rules.specs.Promises.{Opens, Edits};
 ghost use Rattle.sheet_rules.specs.Sheet.{planOf, keptOf, sheetOf};
 ghost use Rattle.sheet_rules.specs.Verdict.{verdict, verdictNumbers};
 ghost use Rattle.rules.specs.Parts as Parts;
 ghost use Rattle.rules.specs.Solve.{solvePlan};
-ghost use Rattle.tevalumi.specs.Face.{triAnswer, triResult, sheetNumbers, answer, answerNumbers, faced, facedBy};
-
-// 01's number of a triangle solve, and how many places are listed afterwards.
-#[repr(C)]
-pub struct TriAnswer {
-    pub status: usize,
-    pub places: usize,
-}
-
-fn tri_answer(a: lu::Answer) -> TriAnswer
-    ensures { λ r. ⌜ r ≡ triAnswer a ⌝ }
-{
-    match a {
-        lu::Answer::Solved(n) => TriAnswer {
-            status: 0,
-            places: n,
-        },
-        lu::Answer::BadTriangle => TriAnswer {
-            status: 1,
-            places: 0,
-        },
-        lu::Answer::NotFinite => TriAnswer {
-            status: 2,
-            places: 0,
-        },
-        lu::Answer::BadList => TriAnswer {
-            status: 3,
-            places: 0,
-        },
-    }
-}
+ghost use Rattle.face.specs.Face.{triResult, sheetNumbers, faced, facedBy};
 
 // with_diag 0: all ones on the diagonal, and diag isn't read.
 #[no_mangle]
@@ -56,7 +25,7 @@ pub extern "C" fn tevalumi_lower_sparse(
     list: &mut [usize],
     listed: usize,
     values: &mut [f64],
-) -> TriAnswer
+) -> face::TriAnswer
     ensures { λ r. ⌜ triResult r (now (values .exit)) (now (list .exit))
         ≡ solveSparse (tri true size (now (starts .entry)) (now (rows .entry)) (now (vals .entry)) (not (eqb «with_diag» 0)) (now (diag .entry)))
         entries (now (list .entry)) listed (now (values .entry)) ⌝ }
@@ -75,7 +44,7 @@ pub extern "C" fn tevalumi_lower_sparse(
         listed,
         values,
     );
-    tri_answer(a)
+    face::tri_answer(a)
 }
 
 #[no_mangle]
@@ -90,7 +59,7 @@ pub extern "C" fn tevalumi_upper_sparse(
     list: &mut [usize],
     listed: usize,
     values: &mut [f64],
-) -> TriAnswer
+) -> face::TriAnswer
     ensures { λ r. ⌜ triResult r (now (values .exit)) (now (list .exit))
         ≡ solveSparse (tri false size (now (starts .entry)) (now (rows .entry)) (now (vals .entry)) (not (eqb «with_diag» 0)) (now (diag .entry)))
         entries (now (list .entry)) listed (now (values .entry)) ⌝ }
@@ -109,7 +78,7 @@ pub extern "C" fn tevalumi_upper_sparse(
         listed,
         values,
     );
-    tri_answer(a)
+    face::tri_answer(a)
 }
 
 #[no_mangle]
@@ -122,7 +91,7 @@ pub extern "C" fn tevalumi_lower_dense(
     with_diag: usize,
     diag: &[f64],
     values: &mut [f64],
-) -> TriAnswer
+) -> face::TriAnswer
     ensures { λ r. ⌜ triResult r (now (values .exit)) []
         ≡ solveDense (tri true size (now (starts .entry)) (now (rows .entry)) (now (vals .entry)) (not (eqb «with_diag» 0)) (now (diag .entry))) entries (now (values .entry)) ⌝ }
 {
@@ -138,7 +107,7 @@ pub extern "C" fn tevalumi_lower_dense(
         diag,
         values,
     );
-    tri_answer(a)
+    face::tri_answer(a)
 }
 
 #[no_mangle]
@@ -151,7 +120,7 @@ pub extern "C" fn tevalumi_upper_dense(
     with_diag: usize,
     diag: &[f64],
     values: &mut [f64],
-) -> TriAnswer
+) -> face::TriAnswer
     ensures { λ r. ⌜ triResult r (now (values .exit)) []
         ≡ solveDense (tri false size (now (starts .entry)) (now (rows .entry)) (now (vals .entry)) (not (eqb «with_diag» 0)) (now (diag .entry))) entries (now (values .entry)) ⌝ }
 {
@@ -167,42 +136,7 @@ pub extern "C" fn tevalumi_upper_dense(
         diag,
         values,
     );
-    tri_answer(a)
-}
-
-// 01's number of a verdict, its kind (0 not a plan, 1 no floor, 2 gap), and the gap.
-#[repr(C)]
-pub struct SheetVerdict {
-    pub status: usize,
-    pub kind: usize,
-    pub value: i64,
-}
-
-fn sheet_verdict(v: sheet_rules::Verdict) -> SheetVerdict
-    ensures { λ z. ⌜ sheetNumbers z ≡ verdictNumbers v ⌝ }
-{
-    match v {
-        sheet_rules::Verdict::NotPlan => SheetVerdict {
-            status: 0,
-            kind: 0,
-            value: 0,
-        },
-        sheet_rules::Verdict::NoFloor => SheetVerdict {
-            status: 0,
-            kind: 1,
-            value: 0,
-        },
-        sheet_rules::Verdict::Gap(gap) => SheetVerdict {
-            status: 0,
-            kind: 2,
-            value: gap,
-        },
-        sheet_rules::Verdict::Refused(number) => SheetVerdict {
-            status: number,
-            kind: 0,
-            value: 0,
-        },
-    }
+    face::tri_answer(a)
 }
 
 // Works the kept numbers out afresh.
@@ -321,7 +255,7 @@ pub extern "C" fn tevalumi_verdict(
     c: &[i64],
     b: &[i64],
     counts: &[i64],
-) -> SheetVerdict
+) -> face::SheetVerdict
     ensures { λ z. ⌜ sheetNumbers z ≡ verdictNumbers (verdict (sheetOf (planOf rows columns (now (coefs .entry)) (now (costs .entry)) (now (lowers .entry)) (now (uppers .entry)) (now («lower_marks» .entry)) (now («upper_marks» .entry)) (now (rights .entry)) (now (ops .entry)) (now (amounts .entry)) (now (mults .entry))) (keptOf (now (r .entry)) (now (d .entry)) (now (c .entry)) (now (b .entry)) (now (counts .entry))))) ⌝ }
 {
     let v = sheet::verdict(
@@ -343,68 +277,7 @@ pub extern "C" fn tevalumi_verdict(
         b,
         counts,
     );
-    sheet_verdict(v)
-}
-
-// 01's answer of a solve. `place` says what `at` is: 0 nothing, 1 the row of an entry, whose place in that row is
-// `within`, 2 a column, 3 a row, 4 a value, 5 a kept row.
-#[repr(C)]
-pub struct TevalumiAnswer {
-    pub status: usize,
-    pub objective: f64,
-    pub steps: usize,
-    pub place: usize,
-    pub at: usize,
-    pub within: usize,
-}
-
-fn answer(
-    status: usize,
-    objective: f64,
-    steps: usize,
-    place: usize,
-    at: usize,
-    within: usize,
-) -> TevalumiAnswer
-    ensures { λ r. ⌜ r ≡ answer status objective steps place at within ⌝ }
-{
-    TevalumiAnswer {
-        status,
-        objective,
-        steps,
-        place,
-        at,
-        within,
-    }
-}
-
-fn solve_answer(a: rules::Answer) -> TevalumiAnswer
-    ensures { λ r. ⌜ r ≡ answerNumbers a ⌝ }
-{
-    match a {
-        rules::Answer::Optimal { objective, steps } => answer(0, objective, steps, 0, 0, 0),
-        rules::Answer::BadSize => answer(1, 0.0, 0, 0, 0, 0),
-        rules::Answer::BadNumber => answer(2, 0.0, 0, 0, 0, 0),
-        rules::Answer::BadEntry { row, place } => answer(3, 0.0, 0, 1, row, place),
-        rules::Answer::BadBounds { column } => answer(4, 0.0, 0, 2, column, 0),
-        rules::Answer::FalseRow { row } => answer(5, 0.0, 0, 3, row, 0),
-        rules::Answer::StartNotFinite => answer(6, 0.0, 0, 0, 0, 0),
-        rules::Answer::SlackOutside => answer(7, 0.0, 0, 0, 0, 0),
-        rules::Answer::Unbounded { objective, steps } => answer(20, objective, steps, 0, 0, 0),
-        rules::Answer::Spent { objective, steps } => answer(21, objective, steps, 0, 0, 0),
-        rules::Answer::StoreFull { objective, steps } => answer(22, objective, steps, 0, 0, 0),
-        rules::Answer::NotFinite { objective, steps } => answer(23, objective, steps, 0, 0, 0),
-        rules::Answer::ValueRejected {
-            objective,
-            steps,
-            value,
-        } => answer(24, objective, steps, 4, value, 0),
-        rules::Answer::RowRejected {
-            objective,
-            steps,
-            row,
-        } => answer(24, objective, steps, 5, row, 0),
-    }
+    face::sheet_verdict(v)
 }
 
 #[no_mangle]
@@ -438,7 +311,7 @@ pub extern "C" fn tevalumi_solve(
     eta_coeffs: &mut [f64],
     counts: &mut [usize],
     objective: &mut [f64],
-) -> TevalumiAnswer
+) -> face::TevalumiAnswer
     ensures { λ r. ⌜ faced r (Parts.memoryOf (now (values .exit)) (now (kept .exit)) (Parts.workspaceOf (now («basic_vars» .exit)) (now («basic_var_vals» .exit)) (now («nb_vars» .exit)) (now («nb_var_vals» .exit))
         (now («nb_var_obj_coeffs» .exit)) (now («primal_edge_sq_norms» .exit)) (now («nb_var_states» .exit)) (now («var_states» .exit))
         (Parts.etasOf (now («eta_leaving» .exit)) (now («eta_starts» .exit)) (now («eta_rows» .exit)) (now («eta_coeffs» .exit)))) (now (counts .exit)) (now (objective .exit)))
@@ -479,5 +352,5 @@ pub extern "C" fn tevalumi_solve(
         counts,
         objective,
     );
-    solve_answer(a)
+    face::solve_answer(a)
 }

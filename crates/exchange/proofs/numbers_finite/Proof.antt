@@ -1,7 +1,7 @@
 -- `exchange::numbers_finite` meets its contract: each test is the definition's, in its order. Assumes nothing.
 use mathlib.Core.Path.{sym, _∙_}
 use borrow.Author.Tests.{not-true, not-false}
-use Rattle.pivot.proofs.Laws.{fails, passes}
+use Rattle.new_numbers.proofs.Laws.{fails, passes}
 use Rattle.exchange.proofs.numbers_finite.Statement.{statement}
 use Rattle.exchange.proofs.numbers_finite.Tie as tie
 

@@ -5,7 +5,7 @@ use borrow.Author.Needs.{needs}
 use Rattle.rules.specs.Plan.{Problem, Workspace}
 use Rattle.rules.specs.Parts.{etasOf, workspaceOf}
 use Rattle.start.specs.Reckoned.{Numbers, numbers}
-use Rattle.start.proofs.Parts.{dual-part}
+use Rattle.start_values.proofs.Parts.{dual-part}
 use Rattle.launch.specs.Launched.{launchedOf}
 use Rattle.launch.proofs.Laws.{writes, transposes, runs-from, ends-at-once, ends-after}
 use Rattle.launch.proofs.launch.Statement.{statement}

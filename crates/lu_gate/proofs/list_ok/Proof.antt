@@ -3,13 +3,11 @@ use mathlib.Core.Path.{_≡_, refl, sym}
 use Prim.Native.Nat.{_-_, _≤_}
 use native.Mathlib.Omega.{arith}
 use mathlib.Core.Bool.{true, false}
-use Rattle.doubles.specs.Loop.{all}
-use Rattle.doubles.proofs.Loops.{all-next, all-fails, all-done}
+use Rattle.doubles.specs.Loop.{all, run}
+use Rattle.doubles.proofs.Loops.{all-next, all-fails, all-done, next}
 use lib.ListN.{length, length-set, length-replicate, replicate}
 use borrow.Author.Tests.{lt-ltb, le-ltb}
 use Rattle.doubles.specs.Limits.{maxRows}
-use Rattle.doubles.specs.Loop.{run}
-use Rattle.doubles.proofs.Loops.{next}
 use Rattle.lu_solve.specs.Solve.{markTurn, given}
 use Rattle.lu_gate.specs.Gate.{newAt, okList}
 use Rattle.lu_gate.proofs.list_ok.Statement.{statement}

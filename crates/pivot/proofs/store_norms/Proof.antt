@@ -12,9 +12,10 @@ use Rattle.doubles.specs.Lists.{_!_}
 use Rattle.doubles.proofs.Loops.{done}
 use Rattle.sparse.specs.Scattered.{Sv, sv, svOf}
 use Rattle.rules.specs.Pivot.{storeTurn, stored}
-use Rattle.pivot.specs.New.{normBy}
-use Rattle.pivot.specs.Halves.{numbersOf}
-use Rattle.pivot.proofs.Laws.{storing-long, store-next, norm-is}
+use Rattle.new_numbers.specs.New.{normBy}
+use Rattle.new_numbers.specs.Lent.{numbersOf}
+use Rattle.new_numbers.proofs.Laws.{norm-is}
+use Rattle.pivot.proofs.Laws.{storing-long, store-next}
 use Rattle.pivot.proofs.store_norms.Statement.{statement}
 use Rattle.pivot.proofs.store_norms.Tie as tie
 

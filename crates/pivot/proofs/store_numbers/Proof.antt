@@ -2,7 +2,7 @@
 use borrow.Author.Needs.{needs}
 use Rattle.sparse.specs.Scattered.{sv, svOf}
 use Rattle.rules.specs.Pivot.{newVal, movedVal, newPrice, newNorm}
-use Rattle.pivot.specs.Halves.{numbersOf}
+use Rattle.new_numbers.specs.Lent.{numbersOf}
 use Rattle.pivot.proofs.Laws.{numbers-is}
 use Rattle.pivot.proofs.store_numbers.Statement.{statement}
 use Rattle.pivot.proofs.store_numbers.Tie as tie

@@ -12,7 +12,7 @@ use Rattle.doubles.specs.Lists.{_!_}
 use Rattle.doubles.proofs.Loops.{done}
 use Rattle.sparse.specs.Scattered.{Sv, sv}
 use Rattle.rules.specs.Pivot.{storeTurn, stored, newPrice}
-use Rattle.pivot.specs.New.{priceBy}
+use Rattle.new_numbers.specs.New.{priceBy}
 use Rattle.pivot.proofs.Laws.{storing-long, store-next}
 use Rattle.pivot.proofs.store_prices.Statement.{statement}
 use Rattle.pivot.proofs.store_prices.Tie as tie

@@ -11,7 +11,7 @@ use Rattle.doubles.specs.Lists.{_!_}
 use Rattle.doubles.proofs.Loops.{done}
 use Rattle.sparse.specs.Scattered.{Sv, sv}
 use Rattle.rules.specs.Pivot.{storeTurn, stored, movedVal, newVal}
-use Rattle.pivot.specs.New.{valBy}
+use Rattle.new_numbers.specs.New.{valBy}
 use Rattle.pivot.proofs.Laws.{storing-long, store-next}
 use Rattle.pivot.proofs.store_vals.Statement.{statement}
 use Rattle.pivot.proofs.store_vals.Tie as tie

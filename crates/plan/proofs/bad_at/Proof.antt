@@ -1,5 +1,4 @@
 -- `plan::bad_at` meets its contract: each answer is the test's, by the tests that led to it. Assumes nothing.
-use borrow.Author.Needs.{needs}
 use borrow.Author.Tests.{le-leb, lt-leb, lt-ltb, le-ltb}
 use Rattle.rules.specs.Refusals.{badAt}
 use borrow.Author.Needs.{needs}

@@ -1,6 +1,5 @@
 -- `plan::false_row` meets its contract. Assumes nothing.
 use borrow.Author.Needs.{needs}
-use borrow.Author.Needs.{needs}
 use Rattle.plan.proofs.false_row.Statement.{statement}
 use Rattle.plan.proofs.false_row.Tie as tie
 

@@ -14,7 +14,8 @@ use Rattle.plan.specs.declared.Bad.the-variants.{Nothing}
 use Rattle.plan.specs.declared.Refusal.the-variants.{By}
 use Rattle.plan.specs.Refused.{badEntry}
 use Rattle.rules.proofs.Lengths.{Arrays, arrays}
-use Rattle.plan.proofs.Parts.{starts-part, numbers-part, bad-part, crossed-part, false-part}
+use Rattle.plan_numbers.proofs.Parts.{numbers-part}
+use Rattle.plan.proofs.Parts.{starts-part, bad-part, crossed-part, false-part}
 use Rattle.plan.proofs.Ladder.{rows-in, says-1, says-2, says-3, says-4, says-5, says-nothing}
 use Rattle.plan.proofs.first_refusal.Statement.{statement}
 use Rattle.plan.proofs.first_refusal.Tie as tie

@@ -1,5 +1,4 @@
 -- `plan::starts_rise` meets its contract. Assumes nothing.
-use borrow.Author.Needs.{needs}
 use Rattle.rules.specs.Refusals.{startsRise}
 use borrow.Author.Needs.{needs}
 use Rattle.plan.proofs.starts_rise.Statement.{statement}

@@ -2,9 +2,10 @@
 use Rattle.doubles.specs.Num.{f0}
 use Rattle.rules.specs.Plan.{column}
 use Rattle.rules.specs.Start.{startVals, startSlack, startNorm, startObjective}
-use Rattle.start.specs.Lent.{costed, unruled}
+use Rattle.start_values.specs.Lent.{costed}
+use Rattle.start.specs.Lent.{unruled}
 use Rattle.start.specs.Reckoned.{numbers}
-use Rattle.start.proofs.Rows.{widened}
+use Rattle.plan.proofs.Kept.{widened}
 use Rattle.start.proofs.Start.{vals-long, reckoned-is}
 use borrow.Author.Needs.{needs}
 use Rattle.start.proofs.reckon.Statement.{statement}

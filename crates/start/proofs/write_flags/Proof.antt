@@ -5,7 +5,7 @@ use lib.ListN.{length, length-set}
 use Rattle.doubles.proofs.Loops.{Filled, filled-none, filled-more, filled-over}
 use mathlib.Core.List.{[]}
 use Rattle.rules.specs.Start.{startFlags}
-use Rattle.start.specs.Lent.{costed}
+use Rattle.start_values.specs.Lent.{costed}
 use borrow.Author.Needs.{needs}
 use native.Mathlib.Omega.{arith}
 use Rattle.start.proofs.write_flags.Statement.{statement}

@@ -4,8 +4,8 @@ use borrow.Author.Needs.{needs}
 use Rattle.rules.specs.Plan.{Memory}
 use Rattle.rules.specs.Solve.{Solved, solved}
 use Rattle.rules.specs.declared.Answer.{Answer}
-use Rattle.tevalumi.specs.declared.TevalumiAnswer.{TevalumiAnswer}
-use Rattle.tevalumi.specs.Face.{answerNumbers, faced, facedBy}
+use Rattle.face.specs.declared.TevalumiAnswer.{TevalumiAnswer}
+use Rattle.face.specs.Face.{answerNumbers, faced, facedBy}
 use Rattle.tevalumi.proofs.tevalumi_solve.Statement.{statement}
 use Rattle.tevalumi.proofs.tevalumi_solve.Tie as tie
 

@@ -1,0 +1,52 @@
+-- The numbers that the face hands out for each answer. Assumes nothing.
+use mathlib.Core.List.{List}
+use Prim.Native.Nat.{ℕ}
+use lib.Ieee.{Float}
+use Rattle.lu.specs.Result.{Result, numberOf, placesOf}
+use Rattle.lu.specs.declared.Answer.{Answer}
+use Rattle.sheet_rules.specs.Verdict.{Numbers, numbersOf}
+use Rattle.rules.specs.Plan.{Memory}
+use Rattle.rules.specs.Answers.{Place, nowhere, entryAt, columnAt, rowAt, valueAt, keptRowAt, asRow}
+use Rattle.rules.specs.Solve.{Solved}
+use Rattle.rules.specs.declared.Answer.{Answer as Rules·Answer}
+use Rattle.face.specs.declared.TriAnswer.{TriAnswer}
+use Rattle.face.specs.declared.SheetVerdict.{SheetVerdict}
+use Rattle.face.specs.declared.TevalumiAnswer.{TevalumiAnswer}
+
+abbrev pub triAnswer : Answer → TriAnswer
+triAnswer a = record { status = numberOf a; places = placesOf a }
+
+abbrev pub triResult : TriAnswer → List Float → List ℕ → Result
+triResult r v l = record { number = r .status; places = r .places; values = v; list = l }
+
+abbrev pub sheetNumbers : SheetVerdict → Numbers
+sheetNumbers v = numbersOf (v .status) (v .kind) (v .value)
+
+-- ---- a solve
+
+abbrev pub answer : ℕ → Float → ℕ → ℕ → ℕ → ℕ → TevalumiAnswer
+answer n o k p i j = record { status = n; objective = o; steps = k; place = p; at = i; within = j }
+
+-- a place as three numbers: what it is, where, and for an entry which place of its row
+unfoldable pub placed : ℕ → Float → ℕ → Place → TevalumiAnswer
+placed n o k nowhere = answer n o k 0 0 0
+placed n o k (entryAt i j) = answer n o k 1 i j
+placed n o k (columnAt i) = answer n o k 2 i 0
+placed n o k (rowAt i) = answer n o k 3 i 0
+placed n o k (valueAt i) = answer n o k 4 i 0
+placed n o k (keptRowAt i) = answer n o k 5 i 0
+
+-- the numbers of 01's table for each answer
+unfoldable pub answerNumbers : Rules·Answer → TevalumiAnswer
+answerNumbers a = let t = asRow a in placed (t .number) (t .objective) (t .steps) (t .place)
+
+-- with every lent cell
+pub record Faced : Type 0 where
+  pub numbers : TevalumiAnswer
+  pub memory : Memory
+
+abbrev pub faced : TevalumiAnswer → Memory → Faced
+faced n m = record { numbers = n; memory = m }
+
+abbrev pub facedBy : Solved → Faced
+facedBy s = faced (answerNumbers (s .answer)) (s .memory)

@@ -1,0 +1,2 @@
+-- The numbers that the exported calls hand out.
+pub mod Face

@@ -1,0 +1,130 @@
+// An answer as the numbers that the face hands out: an enum can't be returned by an exported call.
+ghost use mathlib.Core.Path.{_≡_};
+ghost use Rattle.sheet_rules.specs.Verdict.{verdictNumbers};
+ghost use Rattle.face.specs.Face.{triAnswer, sheetNumbers, answer, answerNumbers};
+
+// 01's number of a triangle solve, and how many places are listed afterwards.
+#[repr(C)]
+pub struct TriAnswer {
+    pub status: usize,
+    pub places: usize,
+}
+
+pub fn tri_answer(a: lu::Answer) -> TriAnswer
+    ensures { λ r. ⌜ r ≡ triAnswer a ⌝ }
+{
+    match a {
+        lu::Answer::Solved(n) => TriAnswer {
+            status: 0,
+            places: n,
+        },
+        lu::Answer::BadTriangle => TriAnswer {
+            status: 1,
+            places: 0,
+        },
+        lu::Answer::NotFinite => TriAnswer {
+            status: 2,
+            places: 0,
+        },
+        lu::Answer::BadList => TriAnswer {
+            status: 3,
+            places: 0,
+        },
+    }
+}
+
+// 01's number of a verdict, its kind (0 not a plan, 1 no floor, 2 gap), and the gap.
+#[repr(C)]
+pub struct SheetVerdict {
+    pub status: usize,
+    pub kind: usize,
+    pub value: i64,
+}
+
+pub fn sheet_verdict(v: sheet_rules::Verdict) -> SheetVerdict
+    ensures { λ z. ⌜ sheetNumbers z ≡ verdictNumbers v ⌝ }
+{
+    match v {
+        sheet_rules::Verdict::NotPlan => SheetVerdict {
+            status: 0,
+            kind: 0,
+            value: 0,
+        },
+        sheet_rules::Verdict::NoFloor => SheetVerdict {
+            status: 0,
+            kind: 1,
+            value: 0,
+        },
+        sheet_rules::Verdict::Gap(gap) => SheetVerdict {
+            status: 0,
+            kind: 2,
+            value: gap,
+        },
+        sheet_rules::Verdict::Refused(number) => SheetVerdict {
+            status: number,
+            kind: 0,
+            value: 0,
+        },
+    }
+}
+
+// 01's answer of a solve. `place` says what `at` is: 0 nothing, 1 the row of an entry, whose place in that row is
+// `within`, 2 a column, 3 a row, 4 a value, 5 a kept row.
+#[repr(C)]
+pub struct TevalumiAnswer {
+    pub status: usize,
+    pub objective: f64,
+    pub steps: usize,
+    pub place: usize,
+    pub at: usize,
+    pub within: usize,
+}
+
+fn answer(
+    status: usize,
+    objective: f64,
+    steps: usize,
+    place: usize,
+    at: usize,
+    within: usize,
+) -> TevalumiAnswer
+    ensures { λ r. ⌜ r ≡ answer status objective steps place at within ⌝ }
+{
+    TevalumiAnswer {
+        status,
+        objective,
+        steps,
+        place,
+        at,
+        within,
+    }
+}
+
+pub fn solve_answer(a: rules::Answer) -> TevalumiAnswer
+    ensures { λ r. ⌜ r ≡ answerNumbers a ⌝ }
+{
+    match a {
+        rules::Answer::Optimal { objective, steps } => answer(0, objective, steps, 0, 0, 0),
+        rules::Answer::BadSize => answer(1, 0.0, 0, 0, 0, 0),
+        rules::Answer::BadNumber => answer(2, 0.0, 0, 0, 0, 0),
+        rules::Answer::BadEntry { row, place } => answer(3, 0.0, 0, 1, row, place),
+        rules::Answer::BadBounds { column } => answer(4, 0.0, 0, 2, column, 0),
+        rules::Answer::FalseRow { row } => answer(5, 0.0, 0, 3, row, 0),
+        rules::Answer::StartNotFinite => answer(6, 0.0, 0, 0, 0, 0),
+        rules::Answer::SlackOutside => answer(7, 0.0, 0, 0, 0, 0),
+        rules::Answer::Unbounded { objective, steps } => answer(20, objective, steps, 0, 0, 0),
+        rules::Answer::Spent { objective, steps } => answer(21, objective, steps, 0, 0, 0),
+        rules::Answer::StoreFull { objective, steps } => answer(22, objective, steps, 0, 0, 0),
+        rules::Answer::NotFinite { objective, steps } => answer(23, objective, steps, 0, 0, 0),
+        rules::Answer::ValueRejected {
+            objective,
+            steps,
+            value,
+        } => answer(24, objective, steps, 4, value, 0),
+        rules::Answer::RowRejected {
+            objective,
+            steps,
+            row,
+        } => answer(24, objective, steps, 5, row, 0),
+    }
+}

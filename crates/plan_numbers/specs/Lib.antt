@@ -1,0 +1,2 @@
+-- The plan as refusal 2 is lent it.
+pub mod Lent

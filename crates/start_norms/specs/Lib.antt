@@ -1,0 +1,2 @@
+-- How the norms' squares are added.
+pub mod Squares

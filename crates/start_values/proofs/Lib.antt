@@ -1,0 +1,2 @@
+-- Laws of the parts that are lent, for callers.
+pub mod Parts

@@ -1,0 +1,2 @@
+-- What the start's values are reckoned from.
+pub mod Lent
