@@ -590,7 +590,37 @@ pub enum Wanted {
     Never,
 }
 
-/// Everything that issue 3's tests ask for, and what the reading of 01 makes worth asking.
+/// What has a limit at opening and before an edit, beside the coefficients.
+const LIMITED: [&str; 11] = [
+    "cost",
+    "lower",
+    "upper",
+    "lower mark",
+    "upper mark",
+    "absent lower's number",
+    "absent upper's number",
+    "right side",
+    "comparison",
+    "amount",
+    "multiplier",
+];
+
+/// The kept numbers, which have theirs before an edit and after it.
+const KEPT: [&str; 8] = [
+    "R",
+    "D",
+    "C",
+    "B",
+    "broken count",
+    "amounts count",
+    "signs count",
+    "absent count",
+];
+
+/// The coefficients that an edit looks at.
+const EDITED: [&str; 2] = ["edited column's coefficient", "edited row's coefficient"];
+
+/// Every kind, refusal, verdict and limit, and what the reading of 01 makes worth asking.
 pub fn targets() -> Vec<(String, Wanted)> {
     let mut list: Vec<(String, Wanted)> = Vec::new();
     let mut want = |name: &str, least: u64| list.push((name.to_string(), Wanted::AtLeast(least)));
@@ -657,44 +687,13 @@ pub fn targets() -> Vec<(String, Wanted)> {
         want(&format!("answered {status} with any row and column"), 100);
         want(&format!("answered {status} where 14 holds too"), 50);
     }
-    for reason in [
-        "cost",
-        "lower",
-        "upper",
-        "lower mark",
-        "upper mark",
-        "absent lower's number",
-        "absent upper's number",
-        "right side",
-        "comparison",
-        "amount",
-        "multiplier",
-        "R",
-        "D",
-        "C",
-        "B",
-        "broken count",
-        "amounts count",
-        "signs count",
-        "absent count",
-        "edited column's coefficient",
-        "edited row's coefficient",
-    ] {
+    for reason in LIMITED.iter().chain(&KEPT).chain(&EDITED) {
         want(&format!("answered 14 before for {reason} alone"), 50);
     }
-    for reason in ["edited column's coefficient", "edited row's coefficient"] {
+    for reason in EDITED {
         want(&format!("kind 6 answered 14 for {reason} alone"), 20);
     }
-    for reason in [
-        "R",
-        "D",
-        "C",
-        "B",
-        "broken count",
-        "amounts count",
-        "signs count",
-        "absent count",
-    ] {
+    for reason in KEPT {
         want(&format!("answered 14 after for {reason} alone"), 50);
     }
     want("answered 14, not 13, past an unknown mark's number", 50);
@@ -727,20 +726,7 @@ pub fn targets() -> Vec<(String, Wanted)> {
     for array in PLAN_ARRAYS {
         want(&format!("openings refused for short {}", array.name()), 50);
     }
-    for reason in [
-        "coefficient",
-        "cost",
-        "lower",
-        "upper",
-        "lower mark",
-        "upper mark",
-        "absent lower's number",
-        "absent upper's number",
-        "right side",
-        "comparison",
-        "amount",
-        "multiplier",
-    ] {
+    for reason in LIMITED.iter().chain(&["coefficient"]) {
         want(&format!("openings refused for {reason}"), 50);
     }
     want("openings answered 12 where bounds cross too", 20);
