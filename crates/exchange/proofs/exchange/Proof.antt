@@ -20,30 +20,72 @@ Q c = stepped (c .args .n) (c .args .lowers .now) (c .args .uppers .now) (c .arg
 abbrev S : tie.Start → State
 S c = stateOf (workspaceOf (c .args .basic-vars .now) (c .args .basic-var-vals .now) (c .args .nb-vars .now) (c .args .nb-var-vals .now) (c .args .prices .now) (c .args .norms .now) (c .args .nb-var-states .now) (c .args .var-states .now) (etasOf (c .args .eta-leaving .now) (c .args .eta-starts .now) (c .args .eta-rows .now) (c .args .eta-coeffs .now))) (c .args .eta-count) (c .args .objective) (c .args .steps)
 
+-- the way back: from before a call, or from the end, to where the call or the test before it left off
+abbrev before-fits : tie.After-eta-fits-arg → tie.Start
+before-fits c = c .before .before .before .before .before .before .before .before .before .before .before .before .before .before .before .before .before .before .before .before
+
+abbrev start : tie.Else1 → tie.Start
+start c = before-fits (c .before .before)
+
+abbrev before-row : tie.After-row-coeffs-arg5 → tie.Else1
+before-row c = c .before .before .before .before .before .before .before .before
+
+abbrev fits-at : tie.After-row-coeffs → tie.Else1
+fits-at c = before-row (c .before)
+
+abbrev before-helper : tie.After-helper-arg5 → tie.After-row-coeffs
+before-helper c = c .before .before .before .before .before .before .before .before
+
+abbrev row-at : tie.After-helper2 → tie.After-row-coeffs
+row-at c = before-helper (c .before)
+
+abbrev before-finite : tie.After-helper-list2 → tie.After-sq-norm
+before-finite c = c .before .before .before .before .before .before .before
+
+abbrev norm-at : tie.Else2 → tie.After-sq-norm
+norm-at c = before-finite (c .before .before)
+
+abbrev before-store : tie.After-helper4 → tie.Else2
+before-store c = c .before .before .before .before .before .before .before .before .before .before .before
+
+abbrev before-push : tie.After-push-eta-arg4 → tie.After-store-exchange
+before-push c = c .before .before .before .before .before .before .before .before .before .before .before .before .before .before .before .before .before .before .before .before
+
+abbrev push-at : tie.After-slice-known24 → tie.After-push-eta
+push-at c = c .before .before .before .before .before .before .before .before
+
+abbrev store-at : tie.After-slice-known24 → tie.After-store-exchange
+store-at c = before-push (push-at c .before)
+
+abbrev end-start : tie.After-slice-known24 → tie.Start
+end-start c = start (fits-at (row-at (norm-at (before-store (store-at c .before)) .before)))
+
 eta-fits-requires : tie.Need-eta-fits-requires
-eta-fits-requires c κs = let s = (c .before .before .before .before .before .before .before .before .before .before .before .before .before .before .before .before .before .before .before .before) in fits-asks _ _ _ _ _ _ _ _ (S s) (s .pre .0) _ _ _ (s .pre .1 .0)
+eta-fits-requires c κs = let s = before-fits c in fits-asks _ _ _ _ _ _ _ _ (S s) (s .pre .0) _ _ _ (s .pre .1 .0)
 
 same-length : tie.Need-same-length
 same-length c = search needs
 
 returns : tie.Need-returns
 returns c m =
-    let s = (c .before .before .before .before .before .before .before .before .before .before .before .before .before .before .before .before .before .before .before .before .before .before) in
-    exchange-full (Q s) (S s) (s .args .e) (sv (s .args .values .now) m (s .args .list .now) (s .args .count)) _ _ _ _ _ (fits-part (Q s) (S s) (s .args .e) (sv (s .args .values .now) m (s .args .list .now) (s .args .count)) (s .args .value) (s .args .diff) (s .args .row) (s .args .pivot) (s .args .leaving) _ ((c .before) .eta-fits .ensures) ∙ not-true _ (c .if1 .taken))
+    let s = before-fits (c .before .before) in
+    exchange-full (Q s) (S s) (s .args .e) (sv (s .args .values .now) m (s .args .list .now) (s .args .count)) _ _ _ _ _ (fits-part (Q s) (S s) (s .args .e) (sv (s .args .values .now) m (s .args .list .now) (s .args .count)) (s .args .value) (s .args .diff) (s .args .row) (s .args .pivot) (s .args .leaving) _ (c .before .eta-fits .ensures) ∙ not-true _ (c .if1 .taken))
 
 row-coeffs-requires : tie.Need-row-coeffs-requires
-row-coeffs-requires c κs = let s = (c .before .before .before .before .before .before .before .before .before .before .before .before .before .before .before .before .before .before .before .before .before .before .before .before .before .before .before .before .before .before) in row-asks _ _ _ _ _ _ _ _ (S s) (s .pre .0) _ _ _ (s .pre .1 .0) _ (s .pre .1 .2)
+row-coeffs-requires c κs = let s = start (before-row c) in row-asks _ _ _ _ _ _ _ _ (S s) (s .pre .0) _ _ _ (s .pre .1 .0) _ (s .pre .1 .2)
 
 helper-requires : tie.Need-helper-requires
-helper-requires c κs = let s = (c .before .before .before .before .before .before .before .before .before .before .before .before .before .before .before .before .before .before .before .before .before .before .before .before .before .before .before .before .before .before .before .before .before .before .before .before .before .before .before) in helper-asks _ _ _ _ _ _ _ _ (S s) (s .pre .0) _ _ _ (s .pre .1 .0)
+helper-requires c κs = let s = start (fits-at (before-helper c)) in helper-asks _ _ _ _ _ _ _ _ (S s) (s .pre .0) _ _ _ (s .pre .1 .0)
 
 sq-norm-requires : tie.Need-sq-norm-requires
-sq-norm-requires c κs = let s = (c .before .before .before .before .before .before .before .before .before .before .before .before .before .before .before .before .before .before .before .before .before .before .before .before .before .before .before .before .before .before .before .before .before .before .before .before .before .before .before .before) in listed-asks _ _ _ _ _ _ _ _ (S s) (s .pre .0) _ _ _ (s .pre .1 .0)
+sq-norm-requires c κs = let s = start (fits-at (row-at c)) in listed-asks _ _ _ _ _ _ _ _ (S s) (s .pre .0) _ _ _ (s .pre .1 .0)
 
 numbers-finite-requires : tie.Need-numbers-finite-requires
 numbers-finite-requires c κs =
-    let s = (c .before .before .before .before .before .before .before .before .before .before .before .before .before .before .before .before .before .before .before .before .before .before .before .before .before .before .before .before .before .before .before .before .before .before .before .before .before .before .before .before .before .before .before .before .before .before .before .before) in
-    ((column-listing _ _ _ _ _ _ _ _ (S s) (s .pre .0) _ _ _ (s .pre .1 .0), (c .before .before .before .before .before .before .before) .sq-norm .ensures), (row-listing _ _ _ _ _ _ _ _ (S s) (s .pre .0) _ _ _ (s .pre .1 .0) (s .args .row) _ ((c .before .before .before .before .before .before .before .before .before .before .before .before .before .before .before .before .before) .row-coeffs .ensures), helper-listing _ _ _ _ _ _ _ _ (S s) (s .pre .0) _ _ _ (s .pre .1 .0) [] _ ((c .before .before .before .before .before .before .before .before) .helper2 .ensures [])))
+    let q = before-finite c in
+    let r = row-at (q .before) in
+    let s = start (fits-at r) in
+    ((column-listing _ _ _ _ _ _ _ _ (S s) (s .pre .0) _ _ _ (s .pre .1 .0), q .sq-norm .ensures), (row-listing _ _ _ _ _ _ _ _ (S s) (s .pre .0) _ _ _ (s .pre .1 .0) (s .args .row) _ (r .row-coeffs .ensures), helper-listing _ _ _ _ _ _ _ _ (S s) (s .pre .0) _ _ _ (s .pre .1 .0) [] _ (q .before .helper2 .ensures [])))
 
 same-length-2 : tie.Need-same-length-2
 same-length-2 c = search needs
@@ -71,68 +113,79 @@ same-length-9 c = search needs
 
 returns-2 : tie.Need-returns-2
 returns-2 c m =
-    let s = (c .before .before .before .before .before .before .before .before .before .before .before .before .before .before .before .before .before .before .before .before .before .before .before .before .before .before .before .before .before .before .before .before .before .before .before .before .before .before .before .before .before .before .before .before .before .before .before .before .before .before) in
+    let h = before-finite (c .before .before) .before in
+    let r = row-at h in
+    let e = fits-at r in
+    let s = start e in
     let v = sv (s .args .values .now) m (s .args .list .now) (s .args .count) in
-    exchange-bad (Q s) (S s) (s .args .e) v (s .args .value) (s .args .diff) (s .args .row) (s .args .pivot) (s .args .leaving) (fits-part (Q s) (S s) (s .args .e) v (s .args .value) (s .args .diff) (s .args .row) (s .args .pivot) (s .args .leaving) _ ((c .before .before .before .before .before .before .before .before .before .before .before .before .before .before .before .before .before .before .before .before .before .before .before .before .before .before .before .before .before) .eta-fits .ensures) ∙ not-false _ ((c .before .before .before .before .before .before .before .before .before .before .before .before .before .before .before .before .before .before .before .before .before .before .before .before .before .before .before .before) .if1 .left)) _ _ ((c .before .before .before .before .before .before .before .before .before .before .before .before .before .before .before .before .before .before .before) .row-coeffs .ensures) ((c .before .before .before .before .before .before .before .before .before .before) .helper2 .ensures m) _ (λ A. (c .before) .numbers-finite .ensures A m _ _) (not-true _ (c .if2 .taken))
+    exchange-bad (Q s) (S s) (s .args .e) v (s .args .value) (s .args .diff) (s .args .row) (s .args .pivot) (s .args .leaving) (fits-part (Q s) (S s) (s .args .e) v (s .args .value) (s .args .diff) (s .args .row) (s .args .pivot) (s .args .leaving) _ (e .before .eta-fits .ensures) ∙ not-false _ (e .if1 .left)) _ _ (r .row-coeffs .ensures) (h .helper2 .ensures m) _ (λ A. c .before .numbers-finite .ensures A m _ _) (not-true _ (c .if2 .taken))
 
 store-exchange-requires : tie.Need-store-exchange-requires
 store-exchange-requires c κs =
-    let s = (c .before .before .before .before .before .before .before .before .before .before .before .before .before .before .before .before .before .before .before .before .before .before .before .before .before .before .before .before .before .before .before .before .before .before .before .before .before .before .before .before .before .before .before .before .before .before .before .before .before .before .before .before .before .before .before .before .before .before .before .before .before) in
-    ((column-listing _ _ _ _ _ _ _ _ (S s) (s .pre .0) _ _ _ (s .pre .1 .0), (c .before .before .before .before .before .before .before .before .before .before .before .before .before .before .before .before .before .before .before .before) .sq-norm .ensures), (row-listing _ _ _ _ _ _ _ _ (S s) (s .pre .0) _ _ _ (s .pre .1 .0) (s .args .row) _ ((c .before .before .before .before .before .before .before .before .before .before .before .before .before .before .before .before .before .before .before .before .before .before .before .before .before .before .before .before .before .before) .row-coeffs .ensures), swap-asks _ _ _ _ _ _ _ _ (S s) (s .pre .0) _ _ _ (s .pre .1 .0) _ _ (s .pre .1 .1) (s .pre .1 .2)))
+    let q = norm-at (before-store c) in
+    let r = row-at (q .before) in
+    let s = start (fits-at r) in
+    ((column-listing _ _ _ _ _ _ _ _ (S s) (s .pre .0) _ _ _ (s .pre .1 .0), q .sq-norm .ensures), (row-listing _ _ _ _ _ _ _ _ (S s) (s .pre .0) _ _ _ (s .pre .1 .0) (s .args .row) _ (r .row-coeffs .ensures), swap-asks _ _ _ _ _ _ _ _ (S s) (s .pre .0) _ _ _ (s .pre .1 .0) _ _ (s .pre .1 .1) (s .pre .1 .2)))
 
 push-eta-requires : tie.Need-push-eta-requires
 push-eta-requires c κs =
-    let s = (c .before .before .before .before .before .before .before .before .before .before .before .before .before .before .before .before .before .before .before .before .before .before .before .before .before .before .before .before .before .before .before .before .before .before .before .before .before .before .before .before .before .before .before .before .before .before .before .before .before .before .before .before .before .before .before .before .before .before .before .before .before .before .before .before .before .before .before .before .before .before .before .before .before .before .before .before .before .before .before .before .before .before) in
-    let p = push-asks _ _ _ _ _ _ _ _ (S s) (s .pre .0) _ _ _ (s .pre .1 .0) (fits-part (Q s) (S s) (s .args .e) (sv (s .args .values .now) [] (s .args .list .now) (s .args .count)) (s .args .value) (s .args .diff) (s .args .row) (s .args .pivot) (s .args .leaving) _ ((c .before .before .before .before .before .before .before .before .before .before .before .before .before .before .before .before .before .before .before .before .before .before .before .before .before .before .before .before .before .before .before .before .before .before .before .before .before .before .before .before .before .before .before .before .before .before .before .before .before .before .before .before .before .before .before .before .before .before .before .before .before) .eta-fits .ensures) ∙ not-false _ ((c .before .before .before .before .before .before .before .before .before .before .before .before .before .before .before .before .before .before .before .before .before .before .before .before .before .before .before .before .before .before .before .before .before .before .before .before .before .before .before .before .before .before .before .before .before .before .before .before .before .before .before .before .before .before .before .before .before .before .before .before) .if1 .left)) in
+    let e = fits-at (row-at (norm-at (before-store (before-push c .before)) .before)) in
+    let s = start e in
+    let p = push-asks _ _ _ _ _ _ _ _ (S s) (s .pre .0) _ _ _ (s .pre .1 .0) (fits-part (Q s) (S s) (s .args .e) (sv (s .args .values .now) [] (s .args .list .now) (s .args .count)) (s .args .value) (s .args .diff) (s .args .row) (s .args .pivot) (s .args .leaving) _ (e .before .eta-fits .ensures) ∙ not-false _ (e .if1 .left)) in
     (p .0, (p .1, p .2))
 
 add-t113 : tie.Need-add-t113
-add-t113 c = let s = (c .before .before .before .before .before .before .before .before .before .before .before .before .before .before .before .before .before .before .before .before .before .before .before .before .before .before .before .before .before .before .before .before .before .before .before .before .before .before .before .before .before .before .before .before .before .before .before .before .before .before .before .before .before .before .before .before .before .before .before .before .before .before .before .before .before .before .before .before .before .before .before .before .before .before .before .before .before .before .before .before .before .before .before .before .before .before .before .before .before .before .before) in omega (arith, s .pre .0 .state-fits .store .columns-fit)
+add-t113 c = let s = end-start c in omega (arith, s .pre .0 .state-fits .store .columns-fit)
 
 add-t114 : tie.Need-add-t114
-add-t114 c = let s = (c .before .before .before .before .before .before .before .before .before .before .before .before .before .before .before .before .before .before .before .before .before .before .before .before .before .before .before .before .before .before .before .before .before .before .before .before .before .before .before .before .before .before .before .before .before .before .before .before .before .before .before .before .before .before .before .before .before .before .before .before .before .before .before .before .before .before .before .before .before .before .before .before .before .before .before .before .before .before .before .before .before .before .before .before .before .before .before .before .before .before .before) in omega (arith, s .pre .0 .budget-left)
+add-t114 c = let s = end-start c in omega (arith, s .pre .0 .budget-left)
 
 same-length-10 : tie.Need-same-length-10
-same-length-10 c = (c .before .before .before .before .before .before .before .before .before .before .before .before .before .before .before .before .before .before .before .before .before .before .before .before .before .before .before .before .before) .store-exchange .kept .0
+same-length-10 c = store-at c .store-exchange .kept .0
 
 same-length-11 : tie.Need-same-length-11
-same-length-11 c = (c .before .before .before .before .before .before .before .before .before .before .before .before .before .before .before .before .before .before .before .before .before .before .before .before .before .before .before .before .before) .store-exchange .kept .1 .0
+same-length-11 c = store-at c .store-exchange .kept .1 .0
 
 same-length-12 : tie.Need-same-length-12
-same-length-12 c = (c .before .before .before .before .before .before .before .before .before .before .before .before .before .before .before .before .before .before .before .before .before .before .before .before .before .before .before .before .before) .store-exchange .kept .1 .1 .0
+same-length-12 c = store-at c .store-exchange .kept .1 .1 .0
 
 same-length-13 : tie.Need-same-length-13
-same-length-13 c = (c .before .before .before .before .before .before .before .before .before .before .before .before .before .before .before .before .before .before .before .before .before .before .before .before .before .before .before .before .before) .store-exchange .kept .1 .1 .1 .0
+same-length-13 c = store-at c .store-exchange .kept .1 .1 .1 .0
 
 same-length-14 : tie.Need-same-length-14
-same-length-14 c = (c .before .before .before .before .before .before .before .before .before .before .before .before .before .before .before .before .before .before .before .before .before .before .before .before .before .before .before .before .before) .store-exchange .kept .1 .1 .1 .1 .0
+same-length-14 c = store-at c .store-exchange .kept .1 .1 .1 .1 .0
 
 same-length-15 : tie.Need-same-length-15
-same-length-15 c = (c .before .before .before .before .before .before .before .before .before .before .before .before .before .before .before .before .before .before .before .before .before .before .before .before .before .before .before .before .before) .store-exchange .kept .1 .1 .1 .1 .1 .0
+same-length-15 c = store-at c .store-exchange .kept .1 .1 .1 .1 .1 .0
 
 same-length-16 : tie.Need-same-length-16
-same-length-16 c = (c .before .before .before .before .before .before .before .before .before .before .before .before .before .before .before .before .before .before .before .before .before .before .before .before .before .before .before .before .before) .store-exchange .kept .1 .1 .1 .1 .1 .1 .0
+same-length-16 c = store-at c .store-exchange .kept .1 .1 .1 .1 .1 .1 .0
 
 same-length-17 : tie.Need-same-length-17
-same-length-17 c = (c .before .before .before .before .before .before .before .before .before .before .before .before .before .before .before .before .before .before .before .before .before .before .before .before .before .before .before .before .before) .store-exchange .kept .1 .1 .1 .1 .1 .1 .1 .0
+same-length-17 c = store-at c .store-exchange .kept .1 .1 .1 .1 .1 .1 .1 .0
 
 same-length-18 : tie.Need-same-length-18
-same-length-18 c = (c .before .before .before .before .before .before .before .before) .push-eta .kept .0
+same-length-18 c = push-at c .push-eta .kept .0
 
 same-length-19 : tie.Need-same-length-19
-same-length-19 c = (c .before .before .before .before .before .before .before .before) .push-eta .kept .1 .0
+same-length-19 c = push-at c .push-eta .kept .1 .0
 
 same-length-20 : tie.Need-same-length-20
-same-length-20 c = (c .before .before .before .before .before .before .before .before) .push-eta .kept .1 .1 .0
+same-length-20 c = push-at c .push-eta .kept .1 .1 .0
 
 same-length-21 : tie.Need-same-length-21
-same-length-21 c = (c .before .before .before .before .before .before .before .before) .push-eta .kept .1 .1 .1 .0
+same-length-21 c = push-at c .push-eta .kept .1 .1 .1 .0
 
 returns-3 : tie.Need-returns-3
 returns-3 c m =
-    let s = (c .before .before .before .before .before .before .before .before .before .before .before .before .before .before .before .before .before .before .before .before .before .before .before .before .before .before .before .before .before .before .before .before .before .before .before .before .before .before .before .before .before .before .before .before .before .before .before .before .before .before .before .before .before .before .before .before .before .before .before .before .before .before .before .before .before .before .before .before .before .before .before .before .before .before .before .before .before .before .before .before .before .before .before .before .before .before .before .before .before .before .before) in
+    let x = store-at c in
+    let t = before-store (x .before) in
+    let h = norm-at t .before in
+    let r = row-at h in
+    let e = fits-at r in
+    let s = start e in
     let v = sv (s .args .values .now) m (s .args .list .now) (s .args .count) in
-    exchange-done (Q s) (S s) (s .args .e) v (s .args .value) (s .args .diff) (s .args .row) (s .args .pivot) (s .args .leaving) (fits-part (Q s) (S s) (s .args .e) v (s .args .value) (s .args .diff) (s .args .row) (s .args .pivot) (s .args .leaving) _ ((c .before .before .before .before .before .before .before .before .before .before .before .before .before .before .before .before .before .before .before .before .before .before .before .before .before .before .before .before .before .before .before .before .before .before .before .before .before .before .before .before .before .before .before .before .before .before .before .before .before .before .before .before .before .before .before .before .before .before .before .before .before .before .before .before .before .before .before .before .before .before) .eta-fits .ensures) ∙ not-false _ ((c .before .before .before .before .before .before .before .before .before .before .before .before .before .before .before .before .before .before .before .before .before .before .before .before .before .before .before .before .before .before .before .before .before .before .before .before .before .before .before .before .before .before .before .before .before .before .before .before .before .before .before .before .before .before .before .before .before .before .before .before .before .before .before .before .before .before .before .before .before) .if1 .left)) _ _ ((c .before .before .before .before .before .before .before .before .before .before .before .before .before .before .before .before .before .before .before .before .before .before .before .before .before .before .before .before .before .before .before .before .before .before .before .before .before .before .before .before .before .before .before .before .before .before .before .before .before .before .before .before .before .before .before .before .before .before .before .before) .row-coeffs .ensures) ((c .before .before .before .before .before .before .before .before .before .before .before .before .before .before .before .before .before .before .before .before .before .before .before .before .before .before .before .before .before .before .before .before .before .before .before .before .before .before .before .before .before .before .before .before .before .before .before .before .before .before .before) .helper2 .ensures m) _ (λ A. (c .before .before .before .before .before .before .before .before .before .before .before .before .before .before .before .before .before .before .before .before .before .before .before .before .before .before .before .before .before .before .before .before .before .before .before .before .before .before .before .before .before .before) .numbers-finite .ensures A m _ _) (not-false _ ((c .before .before .before .before .before .before .before .before .before .before .before .before .before .before .before .before .before .before .before .before .before .before .before .before .before .before .before .before .before .before .before .before .before .before .before .before .before .before .before .before .before) .if2 .left)) _ _ (exchanged-whole (Q s) (S s) (s .args .e) v _ _ (s .args .value) (s .args .diff) (s .args .row) (s .args .pivot) (s .args .leaving) ((c .before .before .before .before .before .before .before .before .before .before .before .before .before .before .before .before .before .before .before .before .before .before .before .before .before .before .before .before .before) .store-exchange .ensures m _ _ (S s .ws .etas) (s .args .eta-count) (s .args .steps)) ((c .before .before .before .before .before .before .before .before) .push-eta .ensures m))
+    exchange-done (Q s) (S s) (s .args .e) v (s .args .value) (s .args .diff) (s .args .row) (s .args .pivot) (s .args .leaving) (fits-part (Q s) (S s) (s .args .e) v (s .args .value) (s .args .diff) (s .args .row) (s .args .pivot) (s .args .leaving) _ (e .before .eta-fits .ensures) ∙ not-false _ (e .if1 .left)) _ _ (r .row-coeffs .ensures) (h .helper2 .ensures m) _ (λ A. t .before .numbers-finite .ensures A m _ _) (not-false _ (t .if2 .left)) _ _ (exchanged-whole (Q s) (S s) (s .args .e) v _ _ (s .args .value) (s .args .diff) (s .args .row) (s .args .pivot) (s .args .leaving) (x .store-exchange .ensures m _ _ (S s .ws .etas) (s .args .eta-count) (s .args .steps)) (push-at c .push-eta .ensures m))
 
 pub exchange-spec : {M : Type 1} → statement M
 exchange-spec =

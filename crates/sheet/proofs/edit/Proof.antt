@@ -14,58 +14,73 @@ sheet s = sheetOf (planOf (s .args .rows) (s .args .columns) (s .args .coefs .no
 abbrev e : tie.Start → Edit
 e s = record { kind = s .args .kind; row = s .args .row; column = s .args .column; number = word (s .args .number) }
 
+-- the way back: from before a call, or from the end, to where the call or the test before it left off
+abbrev start : tie.After-edit-refusal → tie.Start
+start c = c .before .before .before .before .before .before .before .before .before .before .before .before .before .before .before .before .before .before
+
+abbrev before-apply : tie.After-apply-edit-arg14 → tie.Then1
+before-apply c = c .before .before .before .before .before .before .before .before .before .before .before .before .before .before
+
+abbrev apply-at : tie.After-counts → tie.After-apply-edit
+apply-at c = c .before .before .before .before .before .before .before .before .before .before .before .before .before .before .before .before
+
 edit-refusal-requires : tie.Need-edit-refusal-requires
 edit-refusal-requires c κs = tt
 
 apply-edit-requires : tie.Need-apply-edit-requires
-apply-edit-requires c κs = let s = (c .before .before .before .before .before .before .before .before .before .before .before .before .before .before .before .before .before .before .before .before .before .before .before .before .before .before .before .before .before .before .before .before .before) in edited-so (sheet s) (e s) (sym ((c .before .before .before .before .before .before .before .before .before .before .before .before .before .before .before) .edit-refusal .ensures) ∙ (c .before .before .before .before .before .before .before .before .before .before .before .before .before .before) .if1 .taken)
+apply-edit-requires c κs =
+    let t = before-apply c in
+    let s = start (t .before) in
+    edited-so (sheet s) (e s) (sym (t .before .edit-refusal .ensures) ∙ t .if1 .taken)
 
 same-length : tie.Need-same-length
-same-length c = (c .before .before .before .before .before .before .before .before .before .before .before .before .before .before .before .before) .apply-edit .kept .1 .1 .1 .0
+same-length c = apply-at c .apply-edit .kept .1 .1 .1 .0
 
 same-length-2 : tie.Need-same-length-2
-same-length-2 c = (c .before .before .before .before .before .before .before .before .before .before .before .before .before .before .before .before) .apply-edit .kept .1 .1 .1 .1 .0
+same-length-2 c = apply-at c .apply-edit .kept .1 .1 .1 .1 .0
 
 same-length-3 : tie.Need-same-length-3
-same-length-3 c = (c .before .before .before .before .before .before .before .before .before .before .before .before .before .before .before .before) .apply-edit .kept .1 .1 .1 .1 .1 .0
+same-length-3 c = apply-at c .apply-edit .kept .1 .1 .1 .1 .1 .0
 
 same-length-4 : tie.Need-same-length-4
-same-length-4 c = (c .before .before .before .before .before .before .before .before .before .before .before .before .before .before .before .before) .apply-edit .kept .1 .1 .1 .1 .1 .1 .0
+same-length-4 c = apply-at c .apply-edit .kept .1 .1 .1 .1 .1 .1 .0
 
 same-length-5 : tie.Need-same-length-5
-same-length-5 c = (c .before .before .before .before .before .before .before .before .before .before .before .before .before .before .before .before) .apply-edit .kept .1 .1 .1 .1 .1 .1 .1 .0
+same-length-5 c = apply-at c .apply-edit .kept .1 .1 .1 .1 .1 .1 .1 .0
 
 same-length-6 : tie.Need-same-length-6
-same-length-6 c = (c .before .before .before .before .before .before .before .before .before .before .before .before .before .before .before .before) .apply-edit .kept .1 .1 .1 .1 .1 .1 .1 .1 .0
+same-length-6 c = apply-at c .apply-edit .kept .1 .1 .1 .1 .1 .1 .1 .1 .0
 
 same-length-7 : tie.Need-same-length-7
-same-length-7 c = (c .before .before .before .before .before .before .before .before .before .before .before .before .before .before .before .before) .apply-edit .kept .1 .1 .1 .1 .1 .1 .1 .1 .1 .0
+same-length-7 c = apply-at c .apply-edit .kept .1 .1 .1 .1 .1 .1 .1 .1 .1 .0
 
 same-length-8 : tie.Need-same-length-8
-same-length-8 c = (c .before .before .before .before .before .before .before .before .before .before .before .before .before .before .before .before) .apply-edit .kept .1 .1 .1 .1 .1 .1 .1 .1 .1 .1 .1 .0
+same-length-8 c = apply-at c .apply-edit .kept .1 .1 .1 .1 .1 .1 .1 .1 .1 .1 .1 .0
 
 same-length-9 : tie.Need-same-length-9
-same-length-9 c = (c .before .before .before .before .before .before .before .before .before .before .before .before .before .before .before .before) .apply-edit .kept .1 .1 .1 .1 .1 .1 .1 .1 .1 .1 .1 .1 .0
+same-length-9 c = apply-at c .apply-edit .kept .1 .1 .1 .1 .1 .1 .1 .1 .1 .1 .1 .1 .0
 
 same-length-10 : tie.Need-same-length-10
-same-length-10 c = (c .before .before .before .before .before .before .before .before .before .before .before .before .before .before .before .before) .apply-edit .kept .1 .1 .1 .1 .1 .1 .1 .1 .1 .1 .1 .1 .1 .0
+same-length-10 c = apply-at c .apply-edit .kept .1 .1 .1 .1 .1 .1 .1 .1 .1 .1 .1 .1 .1 .0
 
 same-length-11 : tie.Need-same-length-11
-same-length-11 c = (c .before .before .before .before .before .before .before .before .before .before .before .before .before .before .before .before) .apply-edit .kept .1 .1 .1 .1 .1 .1 .1 .1 .1 .1 .1 .1 .1 .1 .0
+same-length-11 c = apply-at c .apply-edit .kept .1 .1 .1 .1 .1 .1 .1 .1 .1 .1 .1 .1 .1 .1 .0
 
 same-length-12 : tie.Need-same-length-12
-same-length-12 c = (c .before .before .before .before .before .before .before .before .before .before .before .before .before .before .before .before) .apply-edit .kept .1 .1 .1 .1 .1 .1 .1 .1 .1 .1 .1 .1 .1 .1 .1 .0
+same-length-12 c = apply-at c .apply-edit .kept .1 .1 .1 .1 .1 .1 .1 .1 .1 .1 .1 .1 .1 .1 .1 .0
 
 same-length-13 : tie.Need-same-length-13
-same-length-13 c = (c .before .before .before .before .before .before .before .before .before .before .before .before .before .before .before .before) .apply-edit .kept .1 .1 .1 .1 .1 .1 .1 .1 .1 .1 .1 .1 .1 .1 .1 .1 .0
+same-length-13 c = apply-at c .apply-edit .kept .1 .1 .1 .1 .1 .1 .1 .1 .1 .1 .1 .1 .1 .1 .1 .1 .0
 
 same-length-14 : tie.Need-same-length-14
-same-length-14 c = (c .before .before .before .before .before .before .before .before .before .before .before .before .before .before .before .before) .apply-edit .kept .1 .1 .1 .1 .1 .1 .1 .1 .1 .1 .1 .1 .1 .1 .1 .1 .1 .0
+same-length-14 c = apply-at c .apply-edit .kept .1 .1 .1 .1 .1 .1 .1 .1 .1 .1 .1 .1 .1 .1 .1 .1 .1 .0
 
 returns : tie.Need-returns
 returns c =
-    let s = (c .before .before .before .before .before .before .before .before .before .before .before .before .before .before .before .before .before .before .before .before .before .before .before .before .before .before .before .before .before .before .before .before .before .before .before .before .before .before .before .before .before .before .before .before .before .before .before .before .before .before) in
-    edits-new (sheet s) (s .args .kind) (s .args .row) (s .args .column) (word (s .args .number)) (s .args .number) (of-word (s .fits .number)) _ _ ((c .before .before .before .before .before .before .before .before .before .before .before .before .before .before .before .before .before .before .before .before .before .before .before .before .before .before .before .before .before .before .before .before) .edit-refusal .ensures) ((c .before .before .before .before .before .before .before .before .before .before .before .before .before .before .before .before .before .before .before .before .before .before .before .before .before .before .before .before .before .before .before) .if1 .taken) ((c .before .before .before .before .before .before .before .before .before .before .before .before .before .before .before .before) .apply-edit .ensures)
+    let x = apply-at c in
+    let t = before-apply (x .before) in
+    let s = start (t .before) in
+    edits-new (sheet s) (s .args .kind) (s .args .row) (s .args .column) (word (s .args .number)) (s .args .number) (of-word (s .fits .number)) _ _ (t .before .edit-refusal .ensures) (t .if1 .taken) (x .apply-edit .ensures)
 
 same-length-15 : tie.Need-same-length-15
 same-length-15 c = refl
@@ -111,8 +126,8 @@ same-length-28 c = refl
 
 returns-2 : tie.Need-returns-2
 returns-2 c =
-    let s = (c .before .before .before .before .before .before .before .before .before .before .before .before .before .before .before .before .before .before .before) in
-    edits-old (sheet s) (s .args .kind) (s .args .row) (s .args .column) (word (s .args .number)) (s .args .number) (of-word (s .fits .number)) _ ((c .before) .edit-refusal .ensures) (c .if1 .left)
+    let s = start (c .before) in
+    edits-old (sheet s) (s .args .kind) (s .args .row) (s .args .column) (word (s .args .number)) (s .args .number) (of-word (s .fits .number)) _ (c .before .edit-refusal .ensures) (c .if1 .left)
 
 pub edit-spec : {M : Type 1} → statement M
 edit-spec =
