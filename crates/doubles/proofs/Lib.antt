@@ -6,3 +6,4 @@ pub mod Tests
 pub mod Order
 pub mod Largest
 pub mod Quotients
+pub mod Nearest

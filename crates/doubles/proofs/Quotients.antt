@@ -5,7 +5,7 @@ use Prim.Native.Nat.{ℕ, zero, suc, _+_, _-_, _*_, _%_, _^_, _<_, _≤_}
 use native.Mathlib.Nat.{zero-mul, mul-pos, mul-assoc, mul-one, mul-le-mul-right, mul-lt-mul-of-pos-right, lt-of-not-le, le-of-suc-le-suc}
 use native.Mathlib.Omega.{arith}
 use borrow.Author.Tests.{ltb-true, le-ltb}
-use lib.Dec.{T, ltb, leb, eqb, ltb→lt, leb→le, eqb·suc-zero}
+use lib.Dec.{T, ltb, leb, eqb, ltb→lt, leb→le, eqb→eq, eqb·suc-zero}
 use lib.Pow.{pow-add, pow-pos, pow-lt}
 use lib.IntN.{ℤ, pos, negsuc}
 use lib.Ieee.{Float, nan, inf, fin, Format, binary64, prec, emax, low, up, down, odd, units, round, sum, add, sub, neg, div, lt, le, eq, fits}
@@ -85,28 +85,34 @@ cut k l h = let e : l - k + k ≡ l = omega arith in rw (← pow-add 2 (l - k) k
 fraction : (q k l x : ℕ) → k ≤ l → q * 1 < 2 ^ x * 2 ^ k → q * 2 ^ (l - k) < 2 ^ (l + x)
 fraction q k l x b h = rw (pow-add 2 l x, cut k l b) (omega (arith, mul-lt-mul-of-pos-right h (pow-pos (l - k))))
 
-three : (a b c d : Bool) → T (a && b && c && d) → T b × T c × T d
-three true true true true t = (tt, tt, tt)
+four : (a b c d : Bool) → T (a && b && c && d) → T a × T b × T c × T d
+four true true true true t = (tt, tt, tt, tt)
 
 -- the digits, the lowest place and the size of a value of the format
-places : (f : Format) (m : ℕ) (e : ℤ) → T (fits f (fin false (suc m) e)) → (suc m < 2 ^ prec f) × (down e ≤ 2 ^ low f) × (suc m * up e < 2 ^ suc (emax f) * down e)
+pub record Places (f : Format) (m : ℕ) (e : ℤ) : Type 0 where
+  pub odd-digits : m % 2 ≡ 1
+  pub few-digits : m < 2 ^ prec f
+  pub lowest : down e ≤ 2 ^ low f
+  pub in-size : m * up e < 2 ^ suc (emax f) * down e
+
+pub places : (f : Format) (m : ℕ) (e : ℤ) → T (fits f (fin false (suc m) e)) → Places f (suc m) e
 unfolding fits
 places f m e t =
-    let p = three (eqb (suc m % 2) 1) (ltb (suc m) (2 ^ prec f)) (leb (down e) (2 ^ low f)) (ltb (suc m * up e) (2 ^ suc (emax f) * down e)) t in
-    (ltb→lt _ _ (p .0), leb→le _ _ (p .1), ltb→lt _ _ (p .2))
+    let p = four (eqb (suc m % 2) 1) (ltb (suc m) (2 ^ prec f)) (leb (down e) (2 ^ low f)) (ltb (suc m * up e) (2 ^ suc (emax f) * down e)) t in
+    record { odd-digits = eqb→eq _ _ (p .0); few-digits = ltb→lt _ _ (p .1); lowest = leb→le _ _ (p .2); in-size = ltb→lt _ _ (p .3) }
 
 exact : (f : Format) (m : ℕ) (e : ℤ) → T (fits f (fin false m e)) → HasValue (round f false (m * up e) (down e)) false (m * up e) (down e)
 exact f zero e t = round-exact f false (0 * up e) (down e) 0 0 (down-pos e) (pow-pos (prec f)) (pow-pos (low f + suc (emax f))) (simp zero-mul)
 exact f (suc m) (pos k) t =
     let p = places f m (pos k) t in
-    round-exact f false (suc m * 2 ^ k) 1 (suc m) (k + low f) (omega arith) (p .0)
-    (whole-part (suc m) k (low f) (suc (emax f)) (p .2))
+    round-exact f false (suc m * 2 ^ k) 1 (suc m) (k + low f) (omega arith) (p .few-digits)
+    (whole-part (suc m) k (low f) (suc (emax f)) (p .in-size))
     (rw (pow-add 2 k (low f)) (omega arith))
 exact f (suc m) (negsuc k) t =
     let p = places f m (negsuc k) t in
-    let b : suc k ≤ low f = below-low (suc k) (low f) (p .1) in
-    round-exact f false (suc m * 1) (2 ^ suc k) (suc m) (low f - suc k) (pow-pos (suc k)) (p .0)
-    (fraction (suc m) (suc k) (low f) (suc (emax f)) b (p .2))
+    let b : suc k ≤ low f = below-low (suc k) (low f) (p .lowest) in
+    round-exact f false (suc m * 1) (2 ^ suc k) (suc m) (low f - suc k) (pow-pos (suc k)) (p .few-digits)
+    (fraction (suc m) (suc k) (low f) (suc (emax f)) b (p .in-size))
     (rw (cut (suc k) (low f) b) (simp (mul-one, mul-assoc)))
 
 -- ---- a sum of two that aren't negative is at least each of them
