@@ -8,6 +8,7 @@ use native.Mathlib.Nat.{eq-or-lt-of-le, le-of-suc-le-suc}
 use native.Mathlib.Omega.{arith}
 use lib.Ieee.{Float, lt, le, isNan}
 use Rattle.doubles.specs.Loop.{run}
+use Rattle.doubles.specs.Words.{FirstLargest}
 use Rattle.doubles.proofs.Loops.{both-true}
 use Rattle.doubles.proofs.Tests.{false-by, not-both}
 use Rattle.doubles.proofs.Order.{lt-le, lt-irrefl, lt-trans, lt-le-trans, le-total}
@@ -80,14 +81,7 @@ module _ {S : Type 0} {beats ties : Float → Float → Bool} (o : Order beats t
           let b = both-true (test n) (beats (key n) (key k)) (rw (made-val k) at q) in
           takes n (key k) h (b .0) (b .1) (o .carries (key n) (key k) (val s₀) (o .covers _ _ (b .1)) a)
 
--- 01: "strictly largest wins, first on a tie": of the indices below n that pass, k has the largest key, and none before it has one as large
-pub record FirstLargest (test : ℕ → Bool) (key : ℕ → Float) (n k : ℕ) : Type 0 where
-  pub inside : k < n
-  pub passes : test k ≡ true
-  pub largest : (j : ℕ) → j < n → test j ≡ true → lt (key k) (key j) ≡ false
-  pub first : (j : ℕ) → j < k → test j ≡ true → le (key k) (key j) ≡ false
-
--- there is one such index at most, keys that are NaN aside
+-- there is one first largest at most, keys that are NaN aside
 module _ {test : ℕ → Bool} {key : ℕ → Float} {n : ℕ} where
   later : {k j : ℕ} → FirstLargest test key n k → FirstLargest test key n j → isNan (key k) ≡ false → isNan (key j) ≡ false → k < j → ⊥
   later {k} {j} a b p q l =

@@ -14,6 +14,7 @@ use lib.Ieee.Exact.{HasValue, round-exact}
 use lib.Ieee.Order.{round-mono, transfer}
 use lib.Ieee.Bits.{is-true}
 use Rattle.doubles.specs.Num.{_⊕_, _⊖_, _⊘_, finite, size}
+use Rattle.doubles.specs.Words.{Under}
 use Rattle.doubles.proofs.Tests.{not-both}
 use Rattle.doubles.proofs.Order.{le-means}
 
@@ -157,12 +158,6 @@ quotients m e n d k g h f =
     (mul-pos (mul-pos some (up-pos g)) (down-pos e)) (mul-pos (mul-pos some (up-pos g)) (down-pos d))
     (omega (arith, mul-le-mul-right (down g * (suc k * up g)) h))) in
     (finite-under x y (round-sign binary64 (m * up e * down g) (suc k * up g * down e)) below f, below)
-
--- l / s beside (l + y) / s
-pub record Under (l y s : Float) : Type 0 where
-  pub first-finite : finite l ≡ true
-  pub finite-too : finite (l ⊘ s) ≡ true
-  pub no-larger : le (l ⊘ s) ((l ⊕ y) ⊘ s) ≡ true
 
 infinite-quotient : (s : Float) → finite (inf false ⊘ size s) ≡ false
 unfolding div finite size

@@ -4,3 +4,4 @@ pub mod Exact
 pub mod Limits
 pub mod Loop
 pub mod Lists
+pub mod Words

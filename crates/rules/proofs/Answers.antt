@@ -1,31 +1,31 @@
--- 01's table, 0 and 20 to 24: each is given exactly when its words hold of the state that was reached. Assumes nothing.
+-- 01's table, 0 and 20 to 24: each is given exactly when its words hold of the state where the run ends, and there is one such state. Assumes nothing.
 use mathlib.Core.Path.{_≡_, refl, sym, ap, _∙_, subst}
 use mathlib.Core.Bool.{Bool, true, false}
 use mathlib.Core.Logic.{_↔_, _⊎_, inl, inr, ⊎-elim}
-use Prim.Native.Nat.{ℕ, zero, suc, _+_, _<_, _≤_}
+use Prim.Native.Nat.{ℕ, zero, suc, _+_, _-_, _<_, _≤_}
 use native.Mathlib.Omega.{arith}
 use mathlib.Core.List.{List}
-use lib.Dec.{eqb}
 use lib.ListN.{length, take, drop}
 use lib.Seq.{take-at}
 use lib.Ieee.{Float}
 use borrow.Author.Tests.{eq-eqb, ne-eqb}
 use Rattle.doubles.specs.Loop.{until}
 use Rattle.doubles.specs.Lists.{over}
-use Rattle.doubles.proofs.Bools.{by-test, never}
+use Rattle.doubles.proofs.Bools.{never}
 use Rattle.doubles.proofs.Loops.{length-tab}
 use Rattle.rules.specs.Plan.{Plan, Memory, Problem, State, problemOf, nOf, mOf}
 use Rattle.rules.specs.Start.{dualFeasible, startState}
 use Rattle.rules.specs.Choose.{choose}
-use Rattle.rules.specs.Step.{Outcome, moved, stopped, step, ended, next, atBudget, runOf}
+use Rattle.rules.specs.Step.{Outcome, moved, stopped, step, Ended, ended, next, atBudget, runOf}
 use Rattle.rules.specs.FinalCheck.{valuesOf, finalCheck}
 use Rattle.rules.specs.Answers.{Row as Told, asRow, numberOf}
 use Rattle.rules.specs.Solve.{Solved, checkedAnswer, answerOf, valuesAfter, memoryAfter, close, endOf, solvePlan}
-use Rattle.rules.specs.Conditions.{NoneBelow, Checks, StopsWith, Halts, reached, Ends, Line, optimal, unbounded, spent, store-full, not-finite, value-rejected, row-rejected}
+use Rattle.rules.specs.Conditions.{NoneBelow, Checks, StopsWith, Halts, reached, written, Ends, Line, optimal, unbounded, spent, store-full, not-finite, value-rejected, row-rejected}
+use Rattle.rules.specs.Steps.{Steps, none, one-more, Reached, RunsTo}
 use Rattle.rules.proofs.Refusals.{Case, refused, accepted, cases}
 use Rattle.rules.proofs.FinalCheck.{final-check}
 use Rattle.rules.proofs.Stops.{step-stops}
-use Rattle.rules.proofs.Steps.{step-counts}
+use Rattle.rules.proofs.Steps.{step-counts, steps-same, end-reached}
 use Rattle.rules.specs.declared.Entering.{Entering}
 use Rattle.rules.specs.declared.Choice.{Choice}
 use Rattle.rules.specs.declared.Choice.the-variants.{Enters, Nothing}
@@ -37,9 +37,14 @@ use Rattle.rules.specs.declared.Answer.{Answer}
 
 -- ---- the run
 module _ (P : Problem) (goes : dualFeasible (P .plan) ≡ false) where
+  -- with k steps left
+  abbrev runs : ℕ → State → Ended
+  runs k s = until (next P) (atBudget P) k s
+
+  -- where it ends, the words of its end hold
   finished : (s : State) → choose P (s .ws) ≡ Nothing → Ends P s Finished
   unfolding Ends
-  finished s q = inr q
+  finished s q = inr (goes, q)
 
   spends : (s : State) (e : Entering) → choose P (s .ws) ≡ Enters e → s .steps ≡ P .plan .budget → Ends P s Stop·Spent
   unfolding Ends
@@ -53,9 +58,8 @@ module _ (P : Problem) (goes : dualFeasible (P .plan) ≡ false) where
   halted s e q h Stop·StoreFull r = (e, (goes, q), h, step-stops P s e Stop·StoreFull .0 r)
   halted s e q h Stop·NotFinite r = (e, (goes, q), h, step-stops P s e Stop·NotFinite .0 r)
 
-  -- with k steps left
   abbrev EndsSo : ℕ → State → Type 0
-  EndsSo k s = let r = until (next P) (atBudget P) k s in Ends P (r .state) (r .why)
+  EndsSo k s = Ends P (runs k s .state) (runs k s .why)
 
   run-ends : (k : ℕ) (s : State) → s .steps + k ≡ P .plan .budget → EndsSo k s
   unfolding until next atBudget
@@ -74,65 +78,79 @@ module _ (P : Problem) (goes : dualFeasible (P .plan) ≡ false) where
       go rest Nothing q = rw (q, until, next) (finished s q)
       go rest (Enters e) q = turn rest e q (step P s e) refl
 
--- what a state says of its end
-whyOf : Problem → State → Stop
-whyOf P s =
-    elim (dualFeasible (P .plan)) [
-      | true ↦ Finished
-      | false ↦ elim (choose P (s .ws)) [
-        | Nothing ↦ Finished
-        | Enters e ↦ elim (eqb (s .steps) (P .plan .budget)) [ true ↦ Stop·Spent | false ↦ elim (step P s e) [ moved i t ↦ Finished | stopped w ↦ w ] ]
-      ]
-    ]
+  -- k steps on, it goes on from there
+  goes-on : {s t : State} {k : ℕ} → Steps P s k t → (n j : ℕ) → n ≡ k + j → runs n s ≡ runs j t
+  unfolding until next
+  goes-on {s} none n j h = let z : n ≡ j = omega arith in ap (λ (i : ℕ). runs i s) z
+  goes-on (one-more {k} {t} {u} e i r c q) n j h =
+      let turn : runs (suc j) t ≡ runs j u = rw (c, q, until, next) refl in
+      goes-on r n (suc j) (omega arith) ∙ turn
 
-module _ (P : Problem) (s : State) where
-  why-halts : (w : Stop) → Halts P s w → whyOf P s ≡ w
-  unfolding whyOf
-  why-halts w h =
-      let d : dualFeasible (P .plan) ≡ false = h .1 .0 in
-      let q : choose P (s .ws) ≡ Enters (h .0) = h .1 .1 in
-      let l : eqb (s .steps) (P .plan .budget) ≡ false = ne-eqb (s .steps) (P .plan .budget) (λ n. omega (arith, n, h .2)) in
-      let x : step P s (h .0) ≡ stopped w = step-stops P s (h .0) w .1 (h .3) in
-      cc
+  -- and where the words of an end hold, it ends
+  none-enters : (k : ℕ) (s : State) → choose P (s .ws) ≡ Nothing → runs k s ≡ ended Finished s
+  unfolding until next atBudget
+  none-enters zero s q = rw (q, atBudget) refl
+  none-enters (suc k) s q = rw (q, until, next) refl
 
-  why-is : (w : Stop) → Ends P s w → whyOf P s ≡ w
-  unfolding whyOf Ends
-  why-is Finished h =
-      by-test (dualFeasible (P .plan))
-      (λ d. rw (d, whyOf) refl)
-      (λ d. ⊎-elim (λ t. never t d) (λ q. cc) h)
-  why-is Stop·Spent h =
-      let d : dualFeasible (P .plan) ≡ false = h .1 .0 in
-      let q : choose P (s .ws) ≡ Enters (h .0) = h .1 .1 in
-      let l : eqb (s .steps) (P .plan .budget) ≡ true = eq-eqb _ _ (h .2) in
-      cc
-  why-is Stop·Unbounded h = why-halts Stop·Unbounded h
-  why-is Stop·StoreFull h = why-halts Stop·StoreFull h
-  why-is Stop·NotFinite h = why-halts Stop·NotFinite h
+  halts : (k : ℕ) (s : State) (w : Stop) → s .steps + k ≡ P .plan .budget → Halts P s w → runs k s ≡ ended w s
+  unfolding until next
+  halts zero s w l h = absurd (omega (arith, h .2))
+  halts (suc k) s w l h = rw (h .1 .1, step-stops P s (h .0) w .1 (h .3), until, next) refl
 
+  ends-there : (k : ℕ) (s : State) (w : Stop) → s .steps + k ≡ P .plan .budget → Ends P s w → runs k s ≡ ended w s
+  unfolding until atBudget Ends
+  ends-there k s Finished l h = ⊎-elim (λ d. never (d .0) goes) (λ q. none-enters k s (q .1)) h
+  ends-there zero s Stop·Spent l h = rw (h .1 .1, atBudget) refl
+  ends-there (suc k) s Stop·Spent l h = absurd (omega (arith, h .2))
+  ends-there k s Stop·Unbounded l h = halts k s Stop·Unbounded l h
+  ends-there k s Stop·StoreFull l h = halts k s Stop·StoreFull l h
+  ends-there k s Stop·NotFinite l h = halts k s Stop·NotFinite l h
+
+-- ---- the end, of a dual feasible plan too
 module _ (P : Problem) (m : Memory) where
   -- 01: "If dual feasible, Optimal is reached at once with 0 steps (ours), after the final check": the state reached is the first one
   pub at-once : dualFeasible (P .plan) ≡ true → endOf P m ≡ ended Finished (startState P (m .ws))
   unfolding endOf
   at-once q = rw (q, endOf) refl
 
-  dual : (s : State) → dualFeasible (P .plan) ≡ true → Ends P s Finished
+  dual : dualFeasible (P .plan) ≡ true → Ends P (startState P (m .ws)) Finished
+  unfolding Ends startState
+  dual q = inl (q, omega arith)
+
+  dual-only : dualFeasible (P .plan) ≡ true → (t : State) (w : Stop) → Ends P t w → (w ≡ Finished) × (t .steps ≡ 0)
   unfolding Ends
-  dual s q = inl q
+  dual-only q t Finished h = ⊎-elim (λ d. (refl, omega (arith, d .1))) (λ d. never q (d .0)) h
+  dual-only q t Stop·Spent h = never q (h .1 .0)
+  dual-only q t Stop·Unbounded h = never q (h .1 .0)
+  dual-only q t Stop·StoreFull h = never q (h .1 .0)
+  dual-only q t Stop·NotFinite h = never q (h .1 .0)
 
   end-so : Ends P (endOf P m .state) (endOf P m .why)
   unfolding endOf runOf startState
   end-so = go (dualFeasible (P .plan)) refl
     where
       go : (b : Bool) → dualFeasible (P .plan) ≡ b → Ends P (endOf P m .state) (endOf P m .why)
-      go true q = rw (at-once q) (dual (startState P (m .ws)) q)
+      go true q = rw (at-once q) (dual q)
       go false q = rw (q, endOf) (run-ends P q (P .plan .budget) (startState P (m .ws)) (omega arith))
 
-  -- 01: why a run ends, exactly when its words hold of the state that was reached
-  pub end-exact : (w : Stop) → (endOf P m .why ≡ w) ↔ Ends P (endOf P m .state) w
-  end-exact w = (
-    λ q. subst (Ends P (endOf P m .state)) q end-so,
-    λ h. sym (why-is P (endOf P m .state) (endOf P m .why) end-so) ∙ why-is P (endOf P m .state) w h,
+  end-only : (w : Stop) (t : State) → Reached P (startState P (m .ws)) t (P .plan .budget) → Ends P t w → endOf P m ≡ ended w t
+  unfolding endOf runOf startState
+  end-only w t r h = go (dualFeasible (P .plan)) refl
+    where
+      go : (b : Bool) → dualFeasible (P .plan) ≡ b → endOf P m ≡ ended w t
+      go true q =
+          let x = dual-only q t w h in
+          let here : Steps P (startState P (m .ws)) 0 t = subst (λ (k : ℕ). Steps P (startState P (m .ws)) k t) (x .1) (r .by-steps) in
+          at-once q ∙ cc (x .0, steps-same P (startState P (m .ws)) none here)
+      go false q =
+          let left : P .plan .budget ≡ t .steps + (P .plan .budget - t .steps) = omega (arith, r .within) in
+          rw (q, endOf) (goes-on P q (r .by-steps) (P .plan .budget) (P .plan .budget - t .steps) left ∙ ends-there P q (P .plan .budget - t .steps) t w (omega arith) h)
+
+  -- a run ends with w in t exactly when the rules' steps lead there within the budget and the words of that end hold there: no other state is so
+  pub end-exact : (w : Stop) (t : State) → (endOf P m ≡ ended w t) ↔ (Reached P (startState P (m .ws)) t (P .plan .budget) × Ends P t w)
+  end-exact w t = (
+    λ q. subst (λ (x : Ended). Reached P (startState P (m .ws)) (x .state) (P .plan .budget) × Ends P (x .state) (x .why)) q (end-reached P m, end-so),
+    λ h. end-only w t (h .0) (h .1),
   )
 
 -- ---- the answers
@@ -151,41 +169,43 @@ module _ (P : Problem) (s : State) where
   line Stop·StoreFull h = store-full h
   line Stop·NotFinite h = not-finite h
 
-  module _ (w : Stop) (ends : (u : Stop) → Ends P s u → w ≡ u) where
-    ended-so : (u : Stop) → Ends P s u → asRow (answerOf P (ended w s)) ≡ asRow (answerOf P (ended u s))
-    ended-so u h = ap (λ x. asRow (answerOf P (ended x s))) (ends u h)
+  checked-so : (c : Checked) → Checks P (valuesOf P (s .ws)) c → asRow (answerOf P (ended Finished s)) ≡ asRow (checkedAnswer s c)
+  unfolding answerOf
+  checked-so c g = ap (λ x. asRow (checkedAnswer s x)) (final-check P (valuesOf P (s .ws)) c .1 g)
 
-    checked-so : (c : Checked) → Ends P s Finished → Checks P (valuesOf P (s .ws)) c → asRow (answerOf P (ended w s)) ≡ asRow (checkedAnswer s c)
-    unfolding answerOf
-    checked-so c h g = ended-so Finished h ∙ ap (λ x. asRow (checkedAnswer s x)) (final-check P (valuesOf P (s .ws)) c .1 g)
-
-    line-only : {t : Told} → Line P s t → asRow (answerOf P (ended w s)) ≡ t
-    unfolding answerOf checkedAnswer asRow
-    line-only (optimal h g) = checked-so Passed h g
-    line-only (value-rejected v h g) = checked-so (Value v) h g
-    line-only (row-rejected r h g) = checked-so (Row r) h g
-    line-only (spent h) = ended-so Stop·Spent h
-    line-only (unbounded h) = ended-so Stop·Unbounded h
-    line-only (store-full h) = ended-so Stop·StoreFull h
-    line-only (not-finite h) = ended-so Stop·NotFinite h
+  -- a line that holds of s is what an end there is told by
+  line-only : {t : Told} → Line P s t → (w : Stop) × Ends P s w × (asRow (answerOf P (ended w s)) ≡ t)
+  unfolding answerOf checkedAnswer asRow
+  line-only (optimal h g) = (Finished, h, checked-so Passed g)
+  line-only (value-rejected v h g) = (Finished, h, checked-so (Value v) g)
+  line-only (row-rejected r h g) = (Finished, h, checked-so (Row r) g)
+  line-only (spent h) = (Stop·Spent, h, refl)
+  line-only (unbounded h) = (Stop·Unbounded, h, refl)
+  line-only (store-full h) = (Stop·StoreFull, h, refl)
+  line-only (not-finite h) = (Stop·NotFinite, h, refl)
 
 module _ (p : Plan) (m : Memory) where
-  end-line : Line (problemOf p) (reached p m) (asRow (answerOf (problemOf p) (endOf (problemOf p) m)))
-  end-line = let e = endOf (problemOf p) m in line (problemOf p) (e .state) (e .why) (end-exact (problemOf p) m (e .why) .0 refl)
+  pub end-line : Line (problemOf p) (reached p m) (asRow (answerOf (problemOf p) (endOf (problemOf p) m)))
+  end-line = let e = endOf (problemOf p) m in line (problemOf p) (e .state) (e .why) (end-so (problemOf p) m)
 
   module _ (t : Told) (ran : (t .number ≡ 0) ⊎ (20 ≤ t .number)) where
-    exact : {r : Solved} → Case p m r → (asRow (r .answer) ≡ t) ↔ (NoneBelow 8 p m × Line (problemOf p) (reached p m) t)
+    abbrev Leads : Type 0
+    Leads = (s : State) × RunsTo p m s × Line (problemOf p) s t
+
+    exact : {r : Solved} → Case p m r → (asRow (r .answer) ≡ t) ↔ (NoneBelow 8 p m × Leads)
     unfolding close
     exact (refused k l h g n says) =
         (λ q. let e : t .number ≡ k = ap (λ (x : Told). x .number) (sym q) ∙ says .number in absurd (⊎-elim (λ z. omega arith) (λ z. omega arith) ran), λ s. absurd (s .0 k h g))
     exact (accepted n) = (
-      λ q. (n, subst (Line (problemOf p) (reached p m)) q end-line),
-      λ s. line-only (problemOf p) (reached p m) (endOf (problemOf p) m .why) (λ u h. end-exact (problemOf p) m u .1 h) (s .1),
+      λ q. (n, (reached p m, end-reached (problemOf p) m, subst (Line (problemOf p) (reached p m)) q end-line)),
+      λ s.
+          let x = line-only (problemOf p) (s .1 .0) (s .1 .2) in
+          ap (λ (e : Ended). asRow (answerOf (problemOf p) e)) (end-only (problemOf p) m (x .0) (s .1 .0) (s .1 .1) (x .1)) ∙ x .2,
     )
 
-    -- 01's table, 0 and 20 to 24: an answer with its number, objective, steps and place is given exactly when no refusal is called for and its line holds of the
-    -- state that was reached
-    pub answer-exact : (asRow (solvePlan p m .answer) ≡ t) ↔ (NoneBelow 8 p m × Line (problemOf p) (reached p m) t)
+    -- 01's table, 0 and 20 to 24: an answer with its number, objective, steps and place is given exactly when no refusal is called for and the rules' steps lead
+    -- within the budget to a state that its line holds of
+    pub answer-exact : (asRow (solvePlan p m .answer) ≡ t) ↔ (NoneBelow 8 p m × ((s : State) × RunsTo p m s × Line (problemOf p) s t))
     answer-exact = exact (cases p m)
 
 -- ---- what the lent memory holds afterwards
@@ -210,10 +230,6 @@ module _ (P : Problem) (s : State) (a : Answer) (l : List Float) where
   values-kept : ¬ (numberOf a ≡ 0) → valuesAfter P s a l ≡ l
   unfolding valuesAfter
   values-kept n = rw (ne-eqb (numberOf a) 0 n, valuesAfter) refl
-
--- the values that are written: columns, then the slacks of the kept rows
-abbrev pub written : Plan → Memory → List Float
-written p after = take (p .columns + mOf (problemOf p)) (after .values)
 
 module _ (p : Plan) (m : Memory) where
   writes : {r : Solved} → Case p m r → numberOf (r .answer) ≡ 0 → (written p (r .memory) ≡ valuesOf (problemOf p) (reached p m .ws)) × Checks (problemOf p) (written p (r .memory)) Passed

@@ -8,7 +8,7 @@ use native.Mathlib.Omega.{arith}
 use borrow.Author.Tests.{ltb-true, ltb-false, lt-ltb, le-ltb, not-true, not-false}
 use lib.Dec.{ltb}
 use lib.Ieee.{Float, nan, inf, fin, lt, add, sub, neg}
-use Rattle.doubles.specs.Num.{_⊕_, _⊖_, _⊘_, +inf, finite, infinite, size}
+use Rattle.doubles.specs.Num.{_⊖_, +inf, finite, infinite, size}
 use Rattle.doubles.specs.Loop.{first}
 use Rattle.doubles.specs.Lists.{_!_}
 use Rattle.doubles.proofs.Loops.{both-true, all-at, all-by, first-means}
@@ -16,14 +16,12 @@ use Rattle.doubles.proofs.Tests.{not-both, false-by, true-by}
 use Rattle.sparse.specs.Scattered.{Sv, listed, listedVal}
 use Rattle.rules.specs.Plan.{Problem, Workspace}
 use Rattle.rules.specs.Choose.{otherVal}
-use Rattle.rules.specs.Conditions.{aheadAt, limitAt, quotientOne, quotientTwo, Examined, NoCandidate, RatioUnsound, bad-distance, bad-limit, bad-quotient, bad-step, RatioSound}
-use Rattle.rules.specs.Ratio.{rises, examined, relaxed, stepTo, soundAt, soundRatios, passOne, passTwo, flipOf, exchangeOf, pivotOf, soundDistance, ratio}
+use Rattle.rules.specs.Ratio.{rises, examined, relaxed, stepTo, soundAt, soundRatios, passTwo, flipOf, exchangeOf, pivotOf, soundDistance, ratio}
+use Rattle.rules.specs.Choices.{IsEntering, limitAt, quotientOne, quotientTwo, Examined, NoCandidate, RatioUnsound, bad-distance, bad-limit, bad-quotient, bad-step, RatioSound, maxStep, NoBound, RatioGives, not-finite, unbounded, flips, exchanges}
 use Rattle.rules.specs.declared.Entering.{Entering}
-use Rattle.rules.specs.declared.PivotInfo.the-variants.{Flip, Exchange}
 use Rattle.rules.specs.declared.Ratio.{Ratio}
-use Rattle.rules.specs.declared.Ratio.the-variants.{Pivot, Unbounded, NotFinite}
-use Rattle.rules.proofs.LeavingRow.{Leaves, examined-means, quotient-settles, pass-one-means, none-keeps, within-list, leaves-exactly, stays-exactly}
-use Rattle.rules.proofs.EnteringColumn.{IsEntering}
+use Rattle.rules.specs.declared.Ratio.the-variants.{Unbounded, NotFinite}
+use Rattle.rules.proofs.LeavingRow.{examined-means, quotient-settles, pass-one-means, none-keeps, within-list, leaves-exactly, stays-exactly}
 
 infinite-distance : (x y : Float) → infinite x ≡ true → finite y ≡ true → size (x ⊖ y) ≡ +inf
 unfolding infinite finite sub add neg size
@@ -53,32 +51,6 @@ one-test P w up c k =
     (λ h. let u = quotient-settles P w up c k h in (u .first-finite, u .finite-too))
 
 module _ (P : Problem) (w : Workspace) (e : Entering) (c : Sv) where
-  -- the entering column's other bound, its value now, and pass one's step
-  abbrev pub other : Float
-  other = otherVal P w (e .col)
-
-  abbrev pub current : Float
-  current = w .nbVarVals ! e .col
-
-  abbrev pub maxStep : Float
-  maxStep = passOne P w (rises e) c (e .distance)
-
-  -- what leaves with the k-th listed row: its value, the bound ahead; and the entering column's difference and new value
-  abbrev pub leavingVal : ℕ → Float
-  leavingVal k = aheadAt P w (rises e) c k
-
-  abbrev pub diffBy : ℕ → Float
-  diffBy k = (w .basicVarVals ! listed c k ⊖ leavingVal k) ⊘ listedVal c k
-
-  -- 01: "A step is a flip, with its new value and difference, or an exchange, which adds row, pivot and leaving value";
-  -- "Unbounded is given exactly when no row is a candidate and the entering column's other bound is infinite"
-  pub data Outcome : Ratio → Type 0 where
-    not-finite : RatioUnsound P w e c → Outcome NotFinite
-    unbounded : RatioSound P w e c → NoCandidate P w (rises e) c maxStep → infinite other ≡ true → Outcome Unbounded
-    flips : RatioSound P w e c → NoCandidate P w (rises e) c maxStep → infinite other ≡ false → Outcome (Pivot (Flip other (other ⊖ current)))
-    exchanges : RatioSound P w e c → (k : ℕ) → Leaves P w (rises e) c maxStep k
-        → Outcome (Pivot (Exchange (current ⊕ diffBy k) (diffBy k) (listed c k) (listedVal c k) (leavingVal k)))
-
   -- ---- the ratio's test
   abbrev tested : Bool
   tested = soundDistance P w e && soundRatios P w (rises e) c
@@ -115,7 +87,7 @@ module _ (P : Problem) (w : Workspace) (e : Entering) (c : Sv) where
 
   unsound-by : tested ≡ false → RatioUnsound P w e c
   unfolding soundDistance soundRatios
-  unsound-by h = go (infinite other) refl (finite (e .distance)) refl h
+  unsound-by h = go (infinite (otherVal P w (e .col))) refl (finite (e .distance)) refl h
     where
       row : soundRatios P w (rises e) c ≡ false → RatioUnsound P w e c
       row h =
@@ -125,7 +97,7 @@ module _ (P : Problem) (w : Workspace) (e : Entering) (c : Sv) where
           λ q. absurd (not-both (all-by (soundAt P w (rises e) c) (c .pat .count) (λ k l. not-false _ (f .before k (omega arith) (omega arith)))) h) in
           ⊎-elim none (λ l. row-unsound (first (c .pat .count) bad) l (not-true _ (f .found l))) (eq-or-lt-of-le (f .upto))
 
-      go : (x : Bool) → infinite other ≡ x → (y : Bool) → finite (e .distance) ≡ y → (x || y) && soundRatios P w (rises e) c ≡ false → RatioUnsound P w e c
+      go : (x : Bool) → infinite (otherVal P w (e .col)) ≡ x → (y : Bool) → finite (e .distance) ≡ y → (x || y) && soundRatios P w (rises e) c ≡ false → RatioUnsound P w e c
       go true a y b h = row h
       go false a true b h = row h
       go false a false b h = bad-distance a b
@@ -140,67 +112,67 @@ module _ (P : Problem) (w : Workspace) (e : Entering) (c : Sv) where
   passes s = true-by (λ f. never-both s (unsound-by f))
 
   abbrev place : ℕ
-  place = passTwo P w (rises e) c maxStep .at
+  place = passTwo P w (rises e) c (maxStep P w e c) .at
 
-  no-row : NoCandidate P w (rises e) c maxStep → ltb place (c .pat .count) ≡ false
-  no-row n = le-ltb place (c .pat .count) (omega (arith, stays-exactly P w (rises e) c maxStep .1 n))
+  no-row : NoCandidate P w (rises e) c (maxStep P w e c) → ltb place (c .pat .count) ≡ false
+  no-row n = le-ltb place (c .pat .count) (omega (arith, stays-exactly P w (rises e) c (maxStep P w e c) .1 n))
 
   -- ---- each outcome is what the ratio gives, and one of them holds
-  gives : {r : Ratio} → Outcome r → ratio P w e c ≡ r
+  gives : {r : Ratio} → RatioGives P w e c r → ratio P w e c ≡ r
   unfolding ratio pivotOf flipOf exchangeOf
   gives (not-finite u) = let f : tested ≡ false = false-by (λ t. never-both (sound-by t) u) in rw (f, ratio)
-  gives (unbounded s n i) = rw (passes s, ratio, no-row n, pivotOf, i)
+  gives (unbounded x) = rw (passes (x .0), ratio, no-row (x .1), pivotOf, x .2)
   gives (flips s n i) = rw (passes s, ratio, no-row n, pivotOf, i)
   gives (exchanges s k x) =
-      let at : place ≡ k = leaves-exactly P w (rises e) c maxStep k (x .inside) .1 x in
+      let at : place ≡ k = leaves-exactly P w (rises e) c (maxStep P w e c) k (x .inside) .1 x in
       rw (passes s, ratio, at, pivotOf, lt-ltb k (c .pat .count) (x .inside), at)
 
-  some-outcome : (r : Ratio) × Outcome r
+  some-outcome : (r : Ratio) × RatioGives P w e c r
   some-outcome = go tested refl
     where
-      none : ltb place (c .pat .count) ≡ false → NoCandidate P w (rises e) c maxStep
-      none h = stays-exactly P w (rises e) c maxStep .0 (omega (arith, within-list P w (rises e) c maxStep, ltb-false place (c .pat .count) h))
+      none : ltb place (c .pat .count) ≡ false → NoCandidate P w (rises e) c (maxStep P w e c)
+      none h = stays-exactly P w (rises e) c (maxStep P w e c) .0 (omega (arith, within-list P w (rises e) c (maxStep P w e c), ltb-false place (c .pat .count) h))
 
-      found : RatioSound P w e c → (b : Bool) → ltb place (c .pat .count) ≡ b → (i : Bool) → infinite other ≡ i → (r : Ratio) × Outcome r
-      found s true h i q = (_, exchanges s place (leaves-exactly P w (rises e) c maxStep place (ltb-true _ _ h) .0 refl))
-      found s false h true q = (_, unbounded s (none h) q)
+      found : RatioSound P w e c → (b : Bool) → ltb place (c .pat .count) ≡ b → (i : Bool) → infinite (otherVal P w (e .col)) ≡ i → (r : Ratio) × RatioGives P w e c r
+      found s true h i q = (_, exchanges s place (leaves-exactly P w (rises e) c (maxStep P w e c) place (ltb-true _ _ h) .0 refl))
+      found s false h true q = (_, unbounded (s, none h, q))
       found s false h false q = (_, flips s (none h) q)
 
-      go : (b : Bool) → tested ≡ b → (r : Ratio) × Outcome r
+      go : (b : Bool) → tested ≡ b → (r : Ratio) × RatioGives P w e c r
       go false h = (_, not-finite (unsound-by h))
       go true h = found (sound-by h) _ refl _ refl
 
   -- 01: "The answer to a choice carries just the numbers of its own case"
-  pub ratio-exactly : (r : Ratio) → ratio P w e c ≡ r ↔ Outcome r
-  ratio-exactly r = (λ q. subst Outcome (sym (gives (some-outcome .1)) ∙ q) (some-outcome .1), gives)
+  pub ratio-exactly : (r : Ratio) → ratio P w e c ≡ r ↔ RatioGives P w e c r
+  ratio-exactly r = (λ q. subst (RatioGives P w e c) (sym (gives (some-outcome .1)) ∙ q) (some-outcome .1), gives)
 
-  of-23 : Outcome NotFinite → RatioUnsound P w e c
+  of-23 : RatioGives P w e c NotFinite → RatioUnsound P w e c
   of-23 (not-finite u) = u
 
-  of-20 : Outcome Unbounded → RatioSound P w e c × NoCandidate P w (rises e) c maxStep × (infinite other ≡ true)
-  of-20 (unbounded s n i) = (s, n, i)
+  of-20 : RatioGives P w e c Unbounded → NoBound P w e c
+  of-20 (unbounded x) = x
 
   -- 01: "A finite bound whose limit or quotient isn't finite gives 23, as does a finite other bound whose distance isn't finite, both in the ratio"
   pub not-finite-exactly : ratio P w e c ≡ NotFinite ↔ RatioUnsound P w e c
   not-finite-exactly = (λ q. of-23 (ratio-exactly NotFinite .0 q), λ u. gives (not-finite u))
 
   -- 01: "Unbounded is given exactly when no row is a candidate and the entering column's other bound is infinite"
-  pub unbounded-exactly : ratio P w e c ≡ Unbounded ↔ (RatioSound P w e c × NoCandidate P w (rises e) c maxStep × (infinite other ≡ true))
-  unbounded-exactly = (λ q. of-20 (ratio-exactly Unbounded .0 q), λ x. gives (unbounded (x .0) (x .1) (x .2)))
+  pub unbounded-exactly : ratio P w e c ≡ Unbounded ↔ NoBound P w e c
+  unbounded-exactly = (λ q. of-20 (ratio-exactly Unbounded .0 q), λ x. gives (unbounded x))
 
   -- The same with nothing of the passes in it, for a column that was chosen and has a finite value: no listed row of EPS or more in size has a finite bound ahead.
-  pub unbounded-means : IsEntering P w e → finite current ≡ true
-      → ratio P w e c ≡ Unbounded ↔ ((infinite other ≡ true) × ((k : ℕ) → k < c .pat .count → Examined P w (rises e) c k → ⊥))
+  pub unbounded-means : IsEntering P w e → finite (w .nbVarVals ! e .col) ≡ true
+      → ratio P w e c ≡ Unbounded ↔ ((infinite (otherVal P w (e .col)) ≡ true) × ((k : ℕ) → k < c .pat .count → Examined P w (rises e) c k → ⊥))
   unbounded-means a v = (λ q. clear (unbounded-exactly .0 q), λ x. unbounded-exactly .1 (way x))
     where
-      clear : RatioSound P w e c × NoCandidate P w (rises e) c maxStep × (infinite other ≡ true) → (infinite other ≡ true) × ((k : ℕ) → k < c .pat .count → Examined P w (rises e) c k → ⊥)
+      clear : NoBound P w e c → (infinite (otherVal P w (e .col)) ≡ true) × ((k : ℕ) → k < c .pat .count → Examined P w (rises e) c k → ⊥)
       clear x =
-          let far : maxStep ≡ +inf = none-keeps P w (rises e) c (e .distance) (x .0 .quotients) (x .1) ∙ a .distance-is ∙ infinite-distance other current (x .2) v in (
+          let far : maxStep P w e c ≡ +inf = none-keeps P w (rises e) c (e .distance) (x .0 .quotients) (x .1) ∙ a .distance-is ∙ infinite-distance _ _ (x .2) v in (
             x .2,
             λ k l y. not-both (finite-below _ (x .0 .quotients k l y)) (subst (λ t. lt (quotientOne P w (rises e) c k) t ≡ false) far (pass-one-means P w (rises e) c (e .distance) .smallest k l y)),
           )
 
-      way : (infinite other ≡ true) × ((k : ℕ) → k < c .pat .count → Examined P w (rises e) c k → ⊥) → RatioSound P w e c × NoCandidate P w (rises e) c maxStep × (infinite other ≡ true)
+      way : (infinite (otherVal P w (e .col)) ≡ true) × ((k : ℕ) → k < c .pat .count → Examined P w (rises e) c k → ⊥) → NoBound P w e c
       way x = (
         record { distances = λ q. absurd (not-both (x .0) q); limits = λ k l y. absurd (x .1 k l y); quotients = λ k l y. absurd (x .1 k l y); steps = λ k l y. absurd (x .1 k l y) },
         λ k l y. x .1 k l (y .looked-at),

@@ -21,7 +21,9 @@ use Rattle.sparse.proofs.Laws.{marked-listed, no-both}
 use Rattle.rules.specs.Plan.{Problem, State, Etas, nOf, mOf, column}
 use Rattle.rules.specs.Choose.{choose}
 use Rattle.rules.specs.Basis.{factorSolve, factorSolveTransp, etaRowsOf, etaCoeffsOf, takeTurn, takeOff, etaTurn, solveEtas, solve, etaTurnTransp, solveEtasTransp, solveTransp, colCoeffs, rowCoeffsOf}
-use Rattle.rules.specs.Invariant.{ProblemFits, Store, Sound, Vector}
+use Rattle.rules.specs.Choices.{Listed}
+use Rattle.rules.specs.Conditions.{stepColumn}
+use Rattle.rules.specs.Invariant.{ProblemFits, Store, Sound, Vector, Touched}
 use Rattle.rules.specs.declared.Entering.{Entering}
 use Rattle.rules.specs.declared.Choice.the-variants.{Enters}
 use Rattle.rules.proofs.Lists.{part-long, part-at, set-either}
@@ -29,9 +31,9 @@ use Rattle.rules.proofs.Zeros.{Zero, zero-f0, zero-times, zero-less, ze
 use Rattle.rules.proofs.Maps.{split}
 use Rattle.rules.proofs.Vectors.{vector-blank, vector-putAt, rows-places, keeps-each, e0, column-rows, scattered, scattered-vector, row-solve-vector, row-vector}
 use Rattle.rules.proofs.Store.{starts-rise}
-use Rattle.rules.proofs.Moved.{stepColumn, enters-below, Listed}
+use Rattle.rules.proofs.Moved.{enters-below}
 use Rattle.rules.proofs.Keeps.{step-vector}
-use Rattle.rules.proofs.Touched.{Touched, none-touched, touched-at, touched-still, touched-by, Meets, by-entry, by-slack, combine-at}
+use Rattle.rules.proofs.Touched.{none-touched, touched-at, touched-still, touched-by, Meets, by-entry, by-slack, combine-at}
 
 -- y is a zero at every place with the property Z
 record Zeros (Z : ℕ → Type 0) (y : Sv) : Type 0 where

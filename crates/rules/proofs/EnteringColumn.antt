@@ -2,28 +2,25 @@
 use mathlib.Core.Path.{_≡_, refl, sym, ap, _∙_, subst}
 use mathlib.Core.Bool.{Bool, true, false, not, _&&_, _||_}
 use mathlib.Core.Logic.{_↔_}
-use Prim.Native.Nat.{ℕ, _<_}
+use Prim.Native.Nat.{ℕ}
 use native.Mathlib.Omega.{arith}
 use borrow.Author.Tests.{lt-ltb, le-ltb, not-true}
 use lib.Dec.{ltb}
-use lib.Ieee.{Float, nan, inf, fin, mul, div, lt, le, neg, isNan, ofBits}
-use Rattle.doubles.specs.Num.{_⊖_, _⊗_, _⊘_, eps, -inf, size}
+use lib.Ieee.{Float, nan, inf, fin, mul, div, lt, neg, isNan, ofBits}
+use Rattle.doubles.specs.Num.{_⊖_, eps, -inf, size}
 use Rattle.doubles.specs.Lists.{_!_, _#_}
 use Rattle.doubles.proofs.Tests.{not-both, false-by}
 use Rattle.doubles.proofs.Order.{lt-number, lt-le-trans, le-total, le-not-lt}
-use Rattle.doubles.proofs.Largest.{Best, kept, took, best, above, atLeast, by-above, FirstLargest, only-one}
+use Rattle.doubles.proofs.Largest.{Best, kept, took, best, above, atLeast, by-above, only-one}
 use Rattle.rules.specs.Plan.{Problem, Workspace, nOf, flagsOf}
 use Rattle.rules.specs.Choose.{mayEnter, scoreOf, passesFilter, scoreAt, Best as Column, bestOf, betterTurn, bestColumn, otherVal, enteringOf, choose}
+use Rattle.rules.specs.Choices.{MayEnter, IsEntering, NoneEnters}
 use Rattle.rules.specs.declared.NonBasicVarState.{NonBasicVarState}
 use Rattle.rules.specs.declared.Entering.{Entering}
 use Rattle.rules.specs.declared.Choice.{Choice}
 use Rattle.rules.specs.declared.Choice.the-variants.{Enters, Nothing}
 
--- ---- the filter. 01: "Filter as shown": at its lower bound a column enters only with a price of at most -EPS, at its upper bound only with one of at least EPS
-pub record MayEnter (f : NonBasicVarState) (price : Float) : Type 0 where
-  pub lower : f .«at_min» ≡ true → le price (neg eps) ≡ true
-  pub upper : f .«at_max» ≡ true → le eps price ≡ true
-
+-- ---- the filter. 01: "Filter as shown"
 neither : (a x b y : Bool) → not ((a && x) || (b && y)) ≡ true ↔ ((a ≡ true → x ≡ false) × (b ≡ true → y ≡ false))
 neither false x false y = (λ h. (λ p. cc, λ p. cc), λ h. refl)
 neither false x true y = (λ h. (λ p. cc, λ p. not-true y h), λ h. rw (h .1 refl))
@@ -65,21 +62,12 @@ pub free-always : (f : NonBasicVarState) (price : Float) → f .«at_min» ≡ f
 unfolding mayEnter
 free-always f price a b = rw (a, b)
 
--- "A price of exactly -EPS at the lower bound enters"
+-- a price of exactly -EPS at the lower bound enters
 pub at-eps-enters : mayEnter (record { «at_min» = true; «at_max» = false }) (neg eps) ≡ true
 unfolding mayEnter lt neg ofBits
 at-eps-enters = refl
 
 -- ---- the choice
--- 01: "The entering column travels with its price, score and distance"; "score is price * price / norm"; "strictly largest wins, first on a tie":
--- it passes the filter, no column that passes has a larger score, and none before it an equal one
-pub record IsEntering (P : Problem) (w : Workspace) (e : Entering) : Type 0 where
-  pub wins : FirstLargest (passesFilter w) (scoreAt w) (nOf P) (e .col)
-  pub scores : lt -inf (scoreAt w (e .col)) ≡ true
-  pub price-is : e .price ≡ w .nbVarObjCoeffs ! e .col
-  pub score-is : e .score ≡ w .nbVarObjCoeffs ! e .col ⊗ w .nbVarObjCoeffs ! e .col ⊘ w .primalEdgeSqNorms ! e .col
-  pub distance-is : e .distance ≡ size (otherVal P w (e .col) ⊖ w .nbVarVals ! e .col)
-
 -- a NaN scores NaN, which isn't above -inf
 price-number : (price norm : Float) → lt -inf (scoreOf price norm) ≡ true → isNan price ≡ false
 unfolding scoreOf mul div lt isNan
@@ -91,10 +79,6 @@ price-number (fin s m e) norm h = refl
 pub entering-allowed : (P : Problem) (w : Workspace) (e : Entering) → IsEntering P w e → MayEnter (flagsOf (w .nbVarStates # e .col)) (e .price)
 entering-allowed P w e a =
     rw (a .price-is) (filter-means (flagsOf (w .nbVarStates # e .col)) (w .nbVarObjCoeffs ! e .col) (price-number _ _ (a .scores)) .0 (a .wins .passes))
-
--- no column that passes the filter scores above -inf
-abbrev pub NoneEnters : Problem → Workspace → Type 0
-NoneEnters P w = (c : ℕ) → c < nOf P → passesFilter w c ≡ true → lt -inf (scoreAt w c) ≡ false
 
 module _ (P : Problem) (w : Workspace) where
   -- its column settles it, and no other column is one

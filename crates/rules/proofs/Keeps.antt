@@ -20,6 +20,7 @@ use Rattle.rules.specs.Choose.{choose}
 use Rattle.rules.specs.Basis.{etaUsed, etaFits, etaEntryAt, rowCoeffsOf, helperOf}
 use Rattle.rules.specs.Pivot.{storeTurn, stored, storesFinite, movedVal, newVal, newPrice, newNorm, etaFinite, flipFinite, flipped, exchangeFinite, exchanged}
 use Rattle.rules.specs.Step.{step, moved}
+use Rattle.rules.specs.Conditions.{stepColumn}
 use Rattle.rules.specs.declared.Entering.{Entering}
 use Rattle.rules.specs.declared.Choice.the-variants.{Enters}
 use Rattle.rules.specs.declared.PivotInfo.{PivotInfo}
@@ -28,7 +29,7 @@ use Rattle.rules.proofs.Lists.{set-either, spliced-long, spliced-all}
 use Rattle.rules.proofs.Vectors.{column-vector}
 use Rattle.rules.proofs.Maps.{exchange-maps}
 use Rattle.rules.proofs.Store.{afterPush, pushed, pushed-store, starts-last}
-use Rattle.rules.proofs.Moved.{enters-below, stepColumn, Flips, Exchanges, moves}
+use Rattle.rules.proofs.Moved.{enters-below, Flips, Exchanges, moves}
 
 -- ---- storing at the listed places
 module _ (c : Sv) (f : ℕ → Float) (l : List Float) where
@@ -204,7 +205,7 @@ module _ (P : Problem) (p : ProblemFits P) (s : State) (f : Fits P s) (e : Enter
   row-below x = rw (x .leaves .row-there) (step-vector .places-below .below (x .leaves .place) (x .leaves .listed-place))
 
   module _ (i : PivotInfo) (t : State) (steps : step P s e ≡ moved i t) where
-    -- 01: "the two maps between variables and places are each other's inverse .. after every step"
+    -- the two maps between variables and places are each other's inverse after every step
     pub step-fits : Fits P t
     step-fits =
         ⊎-elim
@@ -215,7 +216,7 @@ module _ (P : Problem) (p : ProblemFits P) (s : State) (f : Fits P s) (e : Enter
         step-vector (x .fits)))
         (moves P s e i t steps)
 
-    -- 01: "every stored number is finite .. after every step"
+    -- every stored number is finite after every step
     pub step-numbers : Numbers P s → Numbers P t
     step-numbers g =
         ⊎-elim

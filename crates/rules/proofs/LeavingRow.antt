@@ -1,7 +1,7 @@
 -- What Harris' two passes mean, said apart from their loops. Assumes nothing.
 use mathlib.Core.Path.{_≡_, refl, subst}
 use mathlib.Core.Bool.{Bool, true, false, not}
-use mathlib.Core.Logic.{_↔_, _⊎_, inl, inr, ⊎-elim}
+use mathlib.Core.Logic.{_↔_, inl, inr, ⊎-elim}
 use Prim.Native.Nat.{ℕ, _<_, _≤_}
 use native.Mathlib.Omega.{arith}
 use borrow.Author.Tests.{not-true}
@@ -13,22 +13,13 @@ use Rattle.doubles.specs.Lists.{_!_}
 use Rattle.doubles.proofs.Loops.{both-true}
 use Rattle.doubles.proofs.Tests.{not-both, false-by}
 use Rattle.doubles.proofs.Order.{lt-irrefl, lt-trans, lt-number}
-use Rattle.doubles.proofs.Quotients.{notNegative, difference-sign, Under, under}
-use Rattle.doubles.proofs.Largest.{Best, kept, took, best, above, atLeast, by-above, by-below, FirstLargest, only-one}
+use Rattle.doubles.specs.Words.{Under}
+use Rattle.doubles.proofs.Quotients.{notNegative, difference-sign, under}
+use Rattle.doubles.proofs.Largest.{Best, kept, took, best, above, atLeast, by-above, by-below, only-one}
 use Rattle.sparse.specs.Scattered.{Sv, listed, listedVal}
 use Rattle.rules.specs.Plan.{Problem, Workspace}
-use Rattle.rules.specs.Conditions.{sizeAt, aheadAt, limitAt, quotientOne, quotientTwo, Examined, Candidate, NoCandidate}
 use Rattle.rules.specs.Ratio.{towardsMax, limitBy, limit, examined, relaxed, stepTo, passOneTurn, passOne, candidate, Leaving, leavingOf, passTwoTurn, passTwo}
-
--- 01: "Pass one uses (limit + EPS) / size against the distance, strictly smaller": t is the smallest of the distance and the examined rows' quotients
-pub record PassOne (P : Problem) (w : Workspace) (up : Bool) (c : Sv) (distance t : Float) : Type 0 where
-  pub within : lt distance t ≡ false
-  pub smallest : (k : ℕ) → k < c .pat .count → Examined P w up c k → lt (quotientOne P w up c k) t ≡ false
-  pub one-of : (t ≡ distance) ⊎ ((k : ℕ) × (k < c .pat .count) × Examined P w up c k × (t ≡ quotientOne P w up c k))
-
--- 01: "strictly largest size": the k-th listed row is a candidate, no candidate is larger in size, and none listed before it is as large
-abbrev pub Leaves : Problem → Workspace → Bool → Sv → Float → ℕ → Type 0
-Leaves P w up c maxStep k = FirstLargest (candidate P w up c maxStep) (sizeAt c) (c .pat .count) k
+use Rattle.rules.specs.Choices.{sizeAt, aheadAt, limitAt, quotientOne, quotientTwo, Examined, PassOne, Candidate, NoCandidate, Leaves}
 
 -- what is divided by a NaN is in no order
 quotient-number : (l a t : Float) → le (l ⊘ size a) t ≡ true → lt -inf (size a) ≡ true

@@ -1,5 +1,5 @@
 -- The answers 0 and 20 to 24: the state behind them, and what is lent afterwards. Assumes nothing.
-use mathlib.Core.Path.{_≡_, refl, ap}
+use mathlib.Core.Path.{_≡_, refl, ap, _∙_}
 use mathlib.Core.Bool.{Bool, true, false}
 use mathlib.Core.Logic.{_⊎_}
 use Prim.Native.Nat.{_+_, _≤_}
@@ -17,7 +17,7 @@ use Rattle.rules.specs.Invariant.{Past, Tails}
 use Rattle.rules.specs.Steps.{LentTails, Ran}
 use Rattle.rules.specs.declared.Answer.{Answer}
 use Rattle.rules.proofs.Refusals.{Case, refused, accepted, cases, none-refused}
-use Rattle.rules.proofs.Answers.{answer-exact}
+use Rattle.rules.proofs.Answers.{end-line, answer-exact}
 use Rattle.rules.proofs.Start.{passed-fits, start-sound}
 use Rattle.rules.proofs.Tails.{past-refl, past-over, start-tails}
 use Rattle.rules.proofs.Steps.{steps-sound, steps-tails, end-reached, end-bounded}
@@ -55,25 +55,28 @@ module _ (p : Plan) (m : Memory) where
   closes (refused k l h g n says) none = absurd (none k h g)
   closes (accepted n) none = refl
 
+  -- where no refusal is called for, the run's end settles the answer and every lent cell
+  pub solved-closes : NoneBelow 8 p m → solvePlan p m ≡ close (problemOf p) m (endOf (problemOf p) m)
+  solved-closes = closes (cases p m)
+
   -- 01: "Answers 0 and 20 to 24 carry the objective and step count of that state"; "the workspace then holds the state after the last whole step"
-  pub solved-ran : (numberOf (solvePlan p m .answer) ≡ 0) ⊎ (20 ≤ numberOf (solvePlan p m .answer)) → Ran p m (solvePlan p m)
+  pub solved-ran : (numberOf (solvePlan p m .answer) ≡ 0) ⊎ (20 ≤ numberOf (solvePlan p m .answer)) → Ran p m (solvePlan p m) (reached p m)
   unfolding close memoryAfter
   solved-ran h =
       let P : Problem = problemOf p in
       let given = answer-exact p m (asRow (solvePlan p m .answer)) h .0 refl in
-      let whole : solvePlan p m ≡ close P m (endOf P m) = closes (cases p m) (given .0) in
-      let told = tells (given .1) in
+      let whole : solvePlan p m ≡ close P m (endOf P m) = solved-closes (given .0) in
+      let told = tells (end-line p m) in
       let pass = none-refused p m (given .0) in
       let fits = passed-fits p m (pass .passes-1) (pass .passes-2) (pass .passes-3) in
       let start = start-sound p m (pass .passes-1) (pass .passes-2) (pass .passes-3) (pass .passes-6) in
       let steps = end-reached P m .by-steps in
       record {
-        state = reached p m;
         reached = end-reached P m;
         bounded = end-bounded P m fits (start .fits);
         sound = steps-sound P (startState P (m .ws)) fits start steps;
-        steps-told = told .0;
-        objective-told = told .1;
+        steps-told = ap (λ (r : Solved). asRow (r .answer) .steps) whole ∙ told .0;
+        objective-told = ap (λ (r : Solved). asRow (r .answer) .objective) whole ∙ told .1;
         lent = ap (λ (r : Solved). r .memory .ws) whole;
         tails = rw whole (close-tails P m (endOf P m) (steps-tails P (startState P (m .ws)) fits (m .ws) (start-tails P (m .ws)) (start .fits) steps));
       }

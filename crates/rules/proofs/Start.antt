@@ -35,7 +35,7 @@ module _ (P : Problem) (w : Workspace) (l : Lengths P w) where
         coeffs-long = l .coeffs-long;
       }
 
-  -- 01: "the two maps between variables and places are each other's inverse at the start"
+  -- the two maps between variables and places are each other's inverse at the start
   start-maps : Maps P (startState P w .ws)
   unfolding startState startWorkspace
   start-maps =
@@ -68,7 +68,7 @@ module _ (P : Problem) (w : Workspace) (l : Lengths P w) where
   unfolding startState
   start-fits = record { lengths = start-lengths; maps = start-maps; store = start-store }
 
-  -- 01: "every stored number is finite after the start"
+  -- every stored number is finite after the start
   start-numbers : ((j : ℕ) → j < nOf P → finite (P .plan .costs ! j) ≡ true) → passes6 P ≡ true → Numbers P (startState P w)
   unfolding startState startWorkspace passes6
   start-numbers costs six =

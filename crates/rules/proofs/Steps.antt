@@ -1,5 +1,5 @@
 -- The state of an end stands in the step relation from the start, and what every state has that does. Assumes nothing.
-use mathlib.Core.Path.{_≡_, refl, ap, _∙_}
+use mathlib.Core.Path.{_≡_, refl, sym, ap, _∙_, subst}
 use mathlib.Core.Bool.{Bool, true, false}
 use mathlib.Core.Logic.{⊎-elim}
 use Prim.Native.Nat.{ℕ, zero, suc, _+_, _*_, _≤_}
@@ -13,6 +13,7 @@ use Rattle.rules.specs.Basis.{etaUsed, rowCoeffsOf, helperOf}
 use Rattle.rules.specs.Pivot.{flipped, exchanged}
 use Rattle.rules.specs.Step.{step, moved, stopped, Outcome, Ended, ended, next, atBudget, runOf}
 use Rattle.rules.specs.Solve.{endOf}
+use Rattle.rules.specs.Conditions.{stepColumn}
 use Rattle.rules.specs.Invariant.{ProblemFits, Fits, Sound, Tails}
 use Rattle.rules.specs.Steps.{Steps, none, one-more, Reached, Bounded}
 use Rattle.rules.specs.declared.Entering.{Entering}
@@ -20,9 +21,8 @@ use Rattle.rules.specs.declared.Choice.{Choice}
 use Rattle.rules.specs.declared.Choice.the-variants.{Enters, Nothing}
 use Rattle.rules.specs.declared.PivotInfo.{PivotInfo}
 use Rattle.rules.specs.declared.Stop.{Stop}
-use Rattle.rules.specs.declared.Stop.the-variants.{Finished, Spent}
 use Rattle.rules.proofs.Vectors.{vector-few}
-use Rattle.rules.proofs.Moved.{stepColumn, Flips, Exchanges, moves, enters-below}
+use Rattle.rules.proofs.Moved.{Flips, Exchanges, moves, enters-below}
 use Rattle.rules.proofs.Keeps.{step-vector, row-below, step-fits, step-sound, used-after}
 use Rattle.rules.proofs.Tails.{step-tails}
 
@@ -57,7 +57,7 @@ module _ (P : Problem) (s : State) (e : Entering) (i : PivotInfo) (t : State) (s
 
 -- ---- k steps
 module _ (P : Problem) (s : State) where
-  -- "a number in the run's answer .. equal to the step definition's count"
+  -- 01: "a number in the run's answer, at most the budget, equal to the step definition's count"
   pub steps-count : {k : ℕ} {t : State} → Steps P s k t → t .steps ≡ s .steps + k
   steps-count none = omega arith
   steps-count (one-more {k} {t} {u} e i r c q) = omega (arith, steps-count r, step-counts P t e i u q)
@@ -91,61 +91,54 @@ module _ (P : Problem) (s : State) where
         let h = steps-grow f r in
         (omega arith, omega arith)
 
--- ---- the run
-record Ends (P : Problem) (s : State) (most : ℕ) (e : Ended) : Type 0 where
-  count : ℕ
-  by-steps : Steps P s count (e .state)
-  few : count ≤ most
+-- ---- the run: its end is reached by steps
+record StepsTo (P : Problem) (s : State) (budget : ℕ) (e : Ended) : Type 0 where
+  reaches : Reached P s (e .state) budget
 
-module _ (P : Problem) (s₀ : State) where
-  stays : {j : ℕ} {s : State} (most : ℕ) (w : Stop) → Steps P s₀ j s → j ≤ most → Ends P s₀ most (ended w s)
-  stays {j} most w r h = record { count = j; by-steps = r; few = h }
-
+module _ (P : Problem) (s₀ : State) (budget : ℕ) where
   abbrev runs : ℕ → State → Ended
   runs k s = until (next P) (atBudget P) k s
 
-  until-ends : (k j : ℕ) (s : State) → Steps P s₀ j s → Ends P s₀ (j + k) (runs k s)
-  unfolding until next atBudget
-  until-ends zero j s r = go (choose P (s .ws)) refl
-    where
-      go : (c : Choice) → choose P (s .ws) ≡ c → Ends P s₀ (j + 0) (runs 0 s)
-      go Nothing c = rw (c, atBudget) (stays (j + 0) Finished r (omega arith))
-      go (Enters e) c = rw (c, atBudget) (stays (j + 0) Spent r (omega arith))
-  until-ends (suc k) j s r = go (λ t u. until-ends k (suc j) t u) (choose P (s .ws)) refl
-    where
-      turn : ((t : State) → Steps P s₀ (suc j) t → Ends P s₀ (suc j + k) (runs k t))
-          → (e : Entering) → choose P (s .ws) ≡ Enters e → (o : Outcome) → step P s e ≡ o → Ends P s₀ (j + suc k) (runs (suc k) s)
-      turn rest e c (moved i t) q =
-          let g = rest t (one-more e i r c q) in
-          rw (c, q, until, next) (record { count = g .count; by-steps = g .by-steps; few = omega (arith, g .few) })
-      turn rest e c (stopped w) q = rw (c, q, until, next) (stays (j + suc k) w r (omega arith))
+  here : {w : Stop} {s : State} → Steps P s₀ (s .steps) s → s .steps ≤ budget → StepsTo P s₀ budget (ended w s)
+  here r h = record { reaches = record { by-steps = r; within = h } }
 
-      go : ((t : State) → Steps P s₀ (suc j) t → Ends P s₀ (suc j + k) (runs k t)) → (c : Choice) → choose P (s .ws) ≡ c → Ends P s₀ (j + suc k) (runs (suc k) s)
-      go rest Nothing c = rw (c, until, next) (stays (j + suc k) Finished r (omega arith))
+  until-reaches : (k : ℕ) (s : State) → Steps P s₀ (s .steps) s → s .steps + k ≤ budget → StepsTo P s₀ budget (runs k s)
+  unfolding until next atBudget
+  until-reaches zero s r h = go (choose P (s .ws)) refl
+    where
+      go : (c : Choice) → choose P (s .ws) ≡ c → StepsTo P s₀ budget (runs 0 s)
+      go Nothing c = rw (c, atBudget) (here r (omega arith))
+      go (Enters e) c = rw (c, atBudget) (here r (omega arith))
+  until-reaches (suc k) s r h = go (λ t u l. until-reaches k t u l) (choose P (s .ws)) refl
+    where
+      turn : ((t : State) → Steps P s₀ (t .steps) t → t .steps + k ≤ budget → StepsTo P s₀ budget (runs k t))
+          → (e : Entering) → choose P (s .ws) ≡ Enters e → (o : Outcome) → step P s e ≡ o → StepsTo P s₀ budget (runs (suc k) s)
+      turn rest e c (moved i t) q =
+          let n = step-counts P s e i t q in
+          rw (c, q, until, next) (rest t (subst (λ (j : ℕ). Steps P s₀ j t) (sym n) (one-more e i r c q)) (omega arith))
+      turn rest e c (stopped w) q = rw (c, q, until, next) (here r (omega arith))
+
+      go : ((t : State) → Steps P s₀ (t .steps) t → t .steps + k ≤ budget → StepsTo P s₀ budget (runs k t)) → (c : Choice) → choose P (s .ws) ≡ c → StepsTo P s₀ budget (runs (suc k) s)
+      go rest Nothing c = rw (c, until, next) (here r (omega arith))
       go rest (Enters e) c = turn rest e c (step P s e) refl
 
 -- ---- the end of a run
 module _ (P : Problem) (m : Memory) where
-  end-ends : Ends P (startState P (m .ws)) (P .plan .budget) (endOf P m)
-  unfolding endOf runOf
-  end-ends = go (dualFeasible (P .plan)) refl
+  end-steps : StepsTo P (startState P (m .ws)) (P .plan .budget) (endOf P m)
+  unfolding endOf runOf startState
+  end-steps = go (dualFeasible (P .plan)) refl
     where
-      go : (b : Bool) → dualFeasible (P .plan) ≡ b → Ends P (startState P (m .ws)) (P .plan .budget) (endOf P m)
-      go true e = rw (e, endOf) (stays P (startState P (m .ws)) (P .plan .budget) Finished none (omega arith))
-      go false e =
-          let g = until-ends P (startState P (m .ws)) (P .plan .budget) 0 (startState P (m .ws)) none in
-          rw (e, endOf) (record { count = g .count; by-steps = g .by-steps; few = omega (arith, g .few) })
+      go : (b : Bool) → dualFeasible (P .plan) ≡ b → StepsTo P (startState P (m .ws)) (P .plan .budget) (endOf P m)
+      go true e = rw (e, endOf) (here P (startState P (m .ws)) (P .plan .budget) none (omega arith))
+      go false e = rw (e, endOf) (until-reaches P (startState P (m .ws)) (P .plan .budget) _ _ none (omega arith))
+
+  -- 01: "The step count in the answer is the number of steps the rules took"
+  pub end-reached : Reached P (startState P (m .ws)) (endOf P m .state) (P .plan .budget)
+  end-reached = end-steps .reaches
 
   start-none : (startState P (m .ws) .steps ≡ 0) × (startState P (m .ws) .etaCount ≡ 0)
   unfolding startState
   start-none = (refl, refl)
-
-  -- 01: "The step count in the answer is the number of steps the rules took"
-  pub end-reached : Reached P (startState P (m .ws)) (endOf P m .state) (P .plan .budget)
-  end-reached =
-      let g = end-ends in
-      let c : g .count ≡ endOf P m .state .steps = omega (arith, steps-count P (startState P (m .ws)) (g .by-steps), start-none) in
-      record { by-steps = rw c at (g .by-steps); within = omega (arith, g .few) }
 
   pub end-bounded : ProblemFits P → Fits P (startState P (m .ws)) → Bounded P (endOf P m .state)
   end-bounded p f =

@@ -1,20 +1,20 @@
--- 01, "One step": when a step isn't taken: Unbounded, no eta room, or a number that isn't finite, each exactly when its condition holds. Assumes nothing.
-use mathlib.Core.Path.{_≡_, refl, subst}
+-- 01, "One step": when a step isn't taken: Unbounded, no eta room, or a number that isn't finite, each exactly when its condition holds; and when it is. Assumes nothing.
+use mathlib.Core.Path.{_≡_, refl, sym, ap, subst}
 use mathlib.Core.Bool.{Bool, true, false, _&&_, and-assoc}
 use mathlib.Core.Logic.{_↔_, _⊎_, inl, inr, ⊎-elim, Iff·rfl, Iff·trans}
 use Prim.Native.Nat.{ℕ}
 use native.Mathlib.Omega.{arith}
 use lib.Ieee.{Float}
-use Rattle.doubles.specs.Lists.{_#_}
 use Rattle.doubles.proofs.Bools.{_or_, never, itself, leb-fails, ltb-fails, some-fails}
 use Rattle.sparse.specs.Scattered.{Sv}
 use Rattle.rules.specs.Plan.{Problem, State}
-use Rattle.rules.specs.Basis.{listedFinite, etaFits, rowCoeffsOf, helperOf, colCoeffs}
+use Rattle.rules.specs.Basis.{listedFinite, etaFits, rowCoeffsOf, helperOf}
 use Rattle.rules.specs.Ratio.{ratio}
 use Rattle.rules.specs.Pivot.{storesFinite, flipFinite, etaFinite, exchangeFinite}
 use Rattle.rules.specs.Step.{Outcome, moved, stopped, unless, exchange, flip, pivot, step}
-use Rattle.rules.specs.Conditions.{EntryBroken, StoreBroken, NoRoom, FlipBroken, ExchangeBroken, StoreFull, StepBroken, StopsWith, Stops}
-use Rattle.rules.proofs.Choices.{not-finite-exactly, unbounded-exactly}
+use Rattle.rules.specs.Choices.{RatioGives}
+use Rattle.rules.specs.Conditions.{EntryBroken, StoreBroken, NoRoom, FlipBroken, ExchangeBroken, StoreFull, StepBroken, stateAfter, StopsWith, stepColumn, Stops, Moves}
+use Rattle.rules.proofs.Choices.{ratio-exactly}
 use Rattle.rules.specs.declared.Entering.{Entering}
 use Rattle.rules.specs.declared.PivotInfo.{PivotInfo}
 use Rattle.rules.specs.declared.PivotInfo.the-variants.{Flip, Exchange}
@@ -31,7 +31,7 @@ entries : (c : Sv) → (listedFinite c ≡ false) ↔ EntryBroken c
 unfolding listedFinite
 entries c = some-fails _ (λ k. itself)
 
-room : (s : State) (k : ℕ) → (etaFits s k ≡ false) ↔ NoRoom s k
+pub room : (s : State) (k : ℕ) → (etaFits s k ≡ false) ↔ NoRoom s k
 unfolding etaFits NoRoom
 room s k = ltb-fails _ _ or leb-fails _ _
 
@@ -55,14 +55,14 @@ module _ {b : Bool} {w : Stop} {o : Outcome} {G : Type 0} (e : (b ≡ false) ↔
       go true q = (λ h. inr (r .0 h), ⊎-elim (λ g. never q (e .1 g)) (λ h. r .1 h))
       go false q = (λ _. inl (e .0 q), λ _. refl)
 
-  past : {u : Stop} {H : Type 0} → ¬ (u ≡ w) → (o ≡ stopped w) ↔ H → (unless b u o ≡ stopped w) ↔ ((¬ G) × H)
-  past {u} {H} n r = go b refl
+  past : {y : Outcome} {H : Type 0} → ¬ (stopped w ≡ y) → (o ≡ y) ↔ H → (unless b w o ≡ y) ↔ ((¬ G) × H)
+  past {y} {H} n r = go b refl
     where
-      go : (x : Bool) → b ≡ x → (unless x u o ≡ stopped w) ↔ ((¬ G) × H)
+      go : (x : Bool) → b ≡ x → (unless x w o ≡ y) ↔ ((¬ G) × H)
       go true q = (λ h. (λ g. never q (e .1 g), r .0 h), λ h. r .1 (h .1))
-      go false q = (λ h. absurd (n (cc)), λ h. absurd (h .0 (e .0 q)))
+      go false q = (λ h. absurd (n h), λ h. absurd (h .0 (e .0 q)))
 
-  nor : {u : Stop} → ¬ (u ≡ w) → ¬ (o ≡ stopped w) → ¬ (unless b u o ≡ stopped w)
+  nor : {y : Outcome} → ¬ (stopped w ≡ y) → ¬ (o ≡ y) → ¬ (unless b w o ≡ y)
   nor n r h = r (past n Iff·rfl .0 h .1)
 
 taken : {i : PivotInfo} {t : State} {w : Stop} → ¬ (moved i t ≡ stopped w)
@@ -70,11 +70,11 @@ taken h = clash (cc)
 
 -- ---- the chosen step
 module _ (P : Problem) (s : State) (e : Entering) (c : Sv) where
-  flip-broken : (value diff : Float) → (flipFinite P s e c value diff ≡ false) ↔ FlipBroken P s e c value diff
+  pub flip-broken : (value diff : Float) → (flipFinite P s e c value diff ≡ false) ↔ FlipBroken P s e c value diff
   unfolding flipFinite FlipBroken
   flip-broken value diff = simp and-assoc (itself or itself or stored-finite _ _)
 
-  exchange-broken : (value diff : Float) (row : ℕ) (coeff leaving : Float) →
+  pub exchange-broken : (value diff : Float) (row : ℕ) (coeff leaving : Float) →
       (listedFinite (rowCoeffsOf P s row) && listedFinite (helperOf P s c) && exchangeFinite P s e c (rowCoeffsOf P s row) (helperOf P s c) value diff row coeff leaving ≡ false)
       ↔ ExchangeBroken P s e c value diff row coeff leaving
   unfolding exchangeFinite etaFinite ExchangeBroken
@@ -82,72 +82,109 @@ module _ (P : Problem) (s : State) (e : Entering) (c : Sv) where
       simp and-assoc
       (entries _ or entries _ or itself or stored-finite _ _ or itself or stored-finite _ _ or stored-finite _ _ or some-fails _ (λ k. itself))
 
+  -- its two tests: a flip needs no room
+  hasRoom : PivotInfo → Bool
+  hasRoom (Flip value diff) = true
+  hasRoom (Exchange value diff row coeff leaving) = etaFits s (c .pat .count)
+
+  allFinite : PivotInfo → Bool
+  allFinite (Flip value diff) = flipFinite P s e c value diff
+  allFinite (Exchange value diff row coeff leaving) =
+      listedFinite (rowCoeffsOf P s row) && listedFinite (helperOf P s c) && exchangeFinite P s e c (rowCoeffsOf P s row) (helperOf P s c) value diff row coeff leaving
+
+  no-room : (i : PivotInfo) → (hasRoom i ≡ false) ↔ StoreFull P s e c i
+  unfolding hasRoom StoreFull
+  no-room (Flip value diff) = (λ q. never refl q, λ h. absurd h)
+  no-room (Exchange value diff row coeff leaving) = room s (c .pat .count)
+
+  one-broken : (i : PivotInfo) → (allFinite i ≡ false) ↔ StepBroken P s e c i
+  unfolding allFinite StepBroken
+  one-broken (Flip value diff) = flip-broken value diff
+  one-broken (Exchange value diff row coeff leaving) = exchange-broken value diff row coeff leaving
+
+  -- "eta room; row solve; all new numbers; store"
+  in-order : (i : PivotInfo) → pivot P s e c i ≡ unless (hasRoom i) Stop·StoreFull (unless (allFinite i) Stop·NotFinite (moved i (stateAfter P s e c i)))
+  unfolding pivot flip exchange hasRoom allFinite stateAfter
+  in-order (Flip value diff) = refl
+  in-order (Exchange value diff row coeff leaving) = refl
+
   pivot-full : (i : PivotInfo) → (pivot P s e c i ≡ stopped Stop·StoreFull) ↔ StoreFull P s e c i
-  unfolding pivot flip exchange StoreFull
-  pivot-full (Flip value diff) = (nor (flip-broken value diff) (λ q. clash (cc)) taken, λ h. absurd h)
-  pivot-full (Exchange value diff row coeff leaving) = only (room s (c .pat .count)) (nor (exchange-broken value diff row coeff leaving) (λ q. clash (cc)) taken)
+  pivot-full i = rw (in-order i) (only (no-room i) (nor (one-broken i) (λ q. clash (cc)) taken))
 
-  pivot-broken : (i : PivotInfo) → (pivot P s e c i ≡ stopped Stop·NotFinite) ↔ StepBroken P s e c i
-  unfolding pivot flip exchange StepBroken
-  pivot-broken (Flip value diff) = only (flip-broken value diff) taken
-  pivot-broken (Exchange value diff row coeff leaving) = past (room s (c .pat .count)) (λ q. clash (cc)) (only (exchange-broken value diff row coeff leaving) taken)
+  pivot-broken : (i : PivotInfo) → (pivot P s e c i ≡ stopped Stop·NotFinite) ↔ ((¬ StoreFull P s e c i) × StepBroken P s e c i)
+  pivot-broken i = rw (in-order i) (past (no-room i) (λ q. clash (cc)) (only (one-broken i) taken))
 
-  pivot-other : {w : Stop} (i : PivotInfo) → ¬ (Stop·NotFinite ≡ w) → ¬ (Stop·StoreFull ≡ w) → ¬ (pivot P s e c i ≡ stopped w)
-  unfolding pivot flip exchange
-  pivot-other (Flip value diff) n f = nor (flip-broken value diff) n taken
-  pivot-other (Exchange value diff row coeff leaving) n f = nor (room s (c .pat .count)) f (nor (exchange-broken value diff row coeff leaving) n taken)
+  pivot-other : {w : Stop} (i : PivotInfo) → ¬ (stopped Stop·NotFinite ≡ stopped w) → ¬ (stopped Stop·StoreFull ≡ stopped w) → ¬ (pivot P s e c i ≡ stopped w)
+  pivot-other i n f = rw (in-order i) (nor (no-room i) f (nor (one-broken i) n taken))
 
--- ---- after the ratio
+  pivot-moves : {j : PivotInfo} {t : State} (i : PivotInfo) → (pivot P s e c i ≡ moved j t) ↔ ((¬ StoreFull P s e c i) × ((¬ StepBroken P s e c i) × (moved i (stateAfter P s e c i) ≡ moved j t)))
+  pivot-moves i = rw (in-order i) (past (no-room i) (λ q. clash (cc)) (past (one-broken i) (λ q. clash (cc)) Iff·rfl))
+
+-- ---- after the ratio, said in the words G of what it gives
 abbrev after : (PivotInfo → Outcome) → Ratio → Outcome
 after f r = elim r [ Ratio·NotFinite ↦ stopped Stop·NotFinite | Ratio·Unbounded ↦ stopped Stop·Unbounded | Pivot i ↦ f i ]
 
-module _ {X : PivotInfo → Type 0} (f : PivotInfo → Outcome) where
-  after-broken : ((i : PivotInfo) → (f i ≡ stopped Stop·NotFinite) ↔ X i) → (r : Ratio) → (after f r ≡ stopped Stop·NotFinite) ↔ ((r ≡ Ratio·NotFinite) ⊎ ((i : PivotInfo) × (r ≡ Pivot i) × X i))
-  after-broken e Ratio·NotFinite = (λ _. inl refl, λ _. refl)
-  after-broken e Ratio·Unbounded = (λ q. clash (cc), ⊎-elim (λ q. clash (cc)) (λ h. let q = h .1 in clash (cc)))
-  after-broken e (Pivot i) =
-      (λ q. inr (i, refl, e i .0 q), ⊎-elim (λ q. clash (cc)) (λ h. let q : h .0 ≡ i = cc (h .1) in e i .1 (subst X q (h .2))))
+module _ {G : Ratio → Type 0} {r : Ratio} (gives : (x : Ratio) → (r ≡ x) ↔ G x) (f : PivotInfo → Outcome) where
+  after-broken : {X : PivotInfo → Type 0} → ((i : PivotInfo) → (f i ≡ stopped Stop·NotFinite) ↔ X i) → (after f r ≡ stopped Stop·NotFinite) ↔ (G Ratio·NotFinite ⊎ ((i : PivotInfo) × G (Pivot i) × X i))
+  after-broken {X} e = go r refl
+    where
+      go : (x : Ratio) → r ≡ x → (after f x ≡ stopped Stop·NotFinite) ↔ (G Ratio·NotFinite ⊎ ((i : PivotInfo) × G (Pivot i) × X i))
+      go Ratio·NotFinite q = (λ _. inl (gives _ .0 q), λ _. refl)
+      go Ratio·Unbounded q = (λ h. clash (cc), ⊎-elim (λ h. clash (cc (gives _ .1 h))) (λ h. clash (cc (gives _ .1 (h .1)))))
+      go (Pivot i) q =
+          (λ h. inr (i, gives _ .0 q, e i .0 h), ⊎-elim (λ h. clash (cc (gives _ .1 h))) (λ h. let z : h .0 ≡ i = cc (gives _ .1 (h .1)) in e i .1 (subst X z (h .2))))
 
-  after-full : ((i : PivotInfo) → (f i ≡ stopped Stop·StoreFull) ↔ X i) → (r : Ratio) → (after f r ≡ stopped Stop·StoreFull) ↔ ((i : PivotInfo) × (r ≡ Pivot i) × X i)
-  after-full e Ratio·NotFinite = (λ q. clash (cc), λ h. let q = h .1 in clash (cc))
-  after-full e Ratio·Unbounded = (λ q. clash (cc), λ h. let q = h .1 in clash (cc))
-  after-full e (Pivot i) = (λ q. (i, refl, e i .0 q), λ h. let q : h .0 ≡ i = cc (h .1) in e i .1 (subst X q (h .2)))
+  after-unbounded : ((i : PivotInfo) → ¬ (f i ≡ stopped Stop·Unbounded)) → (after f r ≡ stopped Stop·Unbounded) ↔ G Ratio·Unbounded
+  after-unbounded n = go r refl
+    where
+      go : (x : Ratio) → r ≡ x → (after f x ≡ stopped Stop·Unbounded) ↔ G Ratio·Unbounded
+      go Ratio·NotFinite q = (λ h. clash (cc), λ h. clash (cc (gives _ .1 h)))
+      go Ratio·Unbounded q = (λ _. gives _ .0 q, λ _. refl)
+      go (Pivot i) q = (λ h. absurd (n i h), λ h. clash (cc (gives _ .1 h)))
 
-module _ (f : PivotInfo → Outcome) where
-  after-unbounded : ((i : PivotInfo) → ¬ (f i ≡ stopped Stop·Unbounded)) → (r : Ratio) → (after f r ≡ stopped Stop·Unbounded) ↔ (r ≡ Ratio·Unbounded)
-  after-unbounded n Ratio·NotFinite = (λ q. clash (cc), λ q. clash (cc))
-  after-unbounded n Ratio·Unbounded = (λ _. refl, λ _. refl)
-  after-unbounded n (Pivot i) = (λ q. absurd (n i q), λ q. clash (cc))
+  -- any other outcome is the chosen step's
+  after-chosen : {X : PivotInfo → Type 0} {y : Outcome} → ¬ (stopped Stop·NotFinite ≡ y) → ¬ (stopped Stop·Unbounded ≡ y) → ((i : PivotInfo) → (f i ≡ y) ↔ X i) → (after f r ≡ y) ↔ ((i : PivotInfo) × G (Pivot i) × X i)
+  after-chosen {X} {y} b u e = go r refl
+    where
+      go : (x : Ratio) → r ≡ x → (after f x ≡ y) ↔ ((i : PivotInfo) × G (Pivot i) × X i)
+      go Ratio·NotFinite q = (λ h. absurd (b h), λ h. clash (cc (gives _ .1 (h .1))))
+      go Ratio·Unbounded q = (λ h. absurd (u h), λ h. clash (cc (gives _ .1 (h .1))))
+      go (Pivot i) q = (λ h. (i, gives _ .0 q, e i .0 h), λ h. let z : h .0 ≡ i = cc (gives _ .1 (h .1)) in e i .1 (subst X z (h .2)))
 
-  after-never : {w : Stop} → ¬ (Stop·NotFinite ≡ w) → ¬ (Stop·Unbounded ≡ w) → ((i : PivotInfo) → ¬ (f i ≡ stopped w)) → (r : Ratio) → ¬ (after f r ≡ stopped w)
-  after-never b u n Ratio·NotFinite q = b (cc)
-  after-never b u n Ratio·Unbounded q = u (cc)
-  after-never b u n (Pivot i) q = n i q
+module _ (P : Problem) (s : State) (e : Entering) where
+  abbrev c : Sv
+  c = stepColumn P s e
 
--- 01, "One step": 20, 22 and 23 are given exactly when the order of a step comes to them
-pub step-stops : (P : Problem) (s : State) (e : Entering) (w : Stop) → (step P s e ≡ stopped w) ↔ Stops P s e w
-unfolding step StopsWith
-step-stops P s e w = go w
-  where
-    c : Sv
-    c = colCoeffs P s (s .ws .nbVars # e .col)
+  ratio-gives : (x : Ratio) → (ratio P (s .ws) e c ≡ x) ↔ RatioGives P (s .ws) e c x
+  ratio-gives = ratio-exactly P (s .ws) e c
 
-    r : Ratio
-    r = ratio P (s .ws) e c
+  never-ends : (w : Stop) → ¬ (stopped Stop·NotFinite ≡ stopped w) → ¬ (stopped Stop·Unbounded ≡ stopped w) → ¬ (stopped Stop·StoreFull ≡ stopped w) → ¬ (step P s e ≡ stopped w)
+  unfolding step
+  never-ends w b n f =
+      nor (entries c) b (λ q. after-chosen ratio-gives (pivot P s e c) {X = λ _. ⊥} b n (λ i. (pivot-other P s e c i b f, λ h. absurd h)) .0 q .2)
 
-    never-ends : (u : Stop) → ¬ (Stop·NotFinite ≡ u) → ¬ (Stop·Unbounded ≡ u) → ¬ (Stop·StoreFull ≡ u) → ¬ (unless (listedFinite c) Stop·NotFinite (after (pivot P s e c) r) ≡ stopped u)
-    never-ends u b n f = nor (entries c) b (after-never (pivot P s e c) b n (λ i. pivot-other P s e c i b f) r)
+  -- 01, "One step": 20, 22 and 23 are given exactly when the order of a step comes to them
+  pub step-stops : (w : Stop) → (step P s e ≡ stopped w) ↔ Stops P s e w
+  unfolding step StopsWith
+  step-stops Finished = (never-ends Finished (λ q. clash (cc)) (λ q. clash (cc)) (λ q. clash (cc)), λ h. absurd h)
+  step-stops Stop·Spent = (never-ends Stop·Spent (λ q. clash (cc)) (λ q. clash (cc)) (λ q. clash (cc)), λ h. absurd h)
+  step-stops Stop·Unbounded =
+      past (entries c) (λ q. clash (cc))
+      (after-unbounded ratio-gives (pivot P s e c) (λ i. pivot-other P s e c i (λ q. clash (cc)) (λ q. clash (cc))))
+  step-stops Stop·StoreFull = past (entries c) (λ q. clash (cc)) (after-chosen ratio-gives (pivot P s e c) (λ q. clash (cc)) (λ q. clash (cc)) (pivot-full P s e c))
+  step-stops Stop·NotFinite = also (entries c) (after-broken ratio-gives (pivot P s e c) (pivot-broken P s e c))
 
-    go : (w : Stop) → (unless (listedFinite c) Stop·NotFinite (after (pivot P s e c) r) ≡ stopped w) ↔ StopsWith P s e c w
-    go Finished = (never-ends Finished (λ q. clash (cc)) (λ q. clash (cc)) (λ q. clash (cc)), λ h. absurd h)
-    go Stop·Spent = (never-ends Stop·Spent (λ q. clash (cc)) (λ q. clash (cc)) (λ q. clash (cc)), λ h. absurd h)
-    go Stop·Unbounded =
-        past (entries c) (λ q. clash (cc))
-        (Iff·trans
-        (after-unbounded (pivot P s e c) (λ i. pivot-other P s e c i (λ q. clash (cc)) (λ q. clash (cc))) r)
-        (unbounded-exactly P (s .ws) e c))
-    go Stop·StoreFull = past (entries c) (λ q. clash (cc)) (after-full (pivot P s e c) (pivot-full P s e c) r)
-    go Stop·NotFinite = also (entries c) (Iff·trans (after-broken (pivot P s e c) (pivot-broken P s e c) r) (swap (not-finite-exactly P (s .ws) e c)))
-      where
-        swap : {A B C : Type 0} → A ↔ B → (A ⊎ C) ↔ (B ⊎ C)
-        swap e = (⊎-elim (λ a. inl (e .0 a)) (λ x. inr x), ⊎-elim (λ b. inl (e .1 b)) (λ x. inr x))
+  -- and a step is taken exactly when nothing stops it: the one that the ratio gives, to the state that it stores
+  pub moves-exactly : (i : PivotInfo) (t : State) → (step P s e ≡ moved i t) ↔ Moves P s e i t
+  unfolding step
+  moves-exactly i t =
+      Iff·trans
+      (past (entries c) (λ q. clash (cc)) (after-chosen ratio-gives (pivot P s e c) (λ q. clash (cc)) (λ q. clash (cc)) (pivot-moves P s e c)))
+      (λ h. by (h .0) (h .1 .0) (h .1 .1) (h .1 .2), λ x. (x .column, (i, x .chosen, (x .room, (x .numbers, ap (moved i) (sym (x .after)))))))
+    where
+      by : ¬ EntryBroken c → (j : PivotInfo) → RatioGives P (s .ws) e c (Pivot j)
+          → (¬ StoreFull P s e c j) × ((¬ StepBroken P s e c j) × (moved j (stateAfter P s e c j) ≡ moved i t)) → Moves P s e i t
+      by a j g h =
+          let same : j ≡ i = cc (h .1 .1) in
+          let to : stateAfter P s e c j ≡ t = cc (h .1 .1) in
+          subst (λ (k : PivotInfo). Moves P s e k t) same (record { column = a; chosen = g; room = h .0; numbers = h .1 .0; after = sym to })

@@ -20,13 +20,14 @@ use Rattle.rules.specs.Choose.{choose}
 use Rattle.rules.specs.Basis.{etaFits, etaEntryAt, rowCoeffsOf, helperOf}
 use Rattle.rules.specs.Pivot.{storeTurn, stored, flipped, exchanged}
 use Rattle.rules.specs.Step.{step, moved}
+use Rattle.rules.specs.Conditions.{stepColumn}
 use Rattle.rules.specs.declared.Entering.{Entering}
 use Rattle.rules.specs.declared.Choice.the-variants.{Enters}
 use Rattle.rules.specs.declared.PivotInfo.{PivotInfo}
 use Rattle.rules.specs.Invariant.{ProblemFits, Fits, Vector, Past, Tails}
 use Rattle.rules.proofs.Lists.{over-tail, spliced, spliced-tail}
 use Rattle.rules.proofs.Vectors.{row-vector}
-use Rattle.rules.proofs.Moved.{enters-below, stepColumn, Flips, Exchanges, moves}
+use Rattle.rules.proofs.Moved.{enters-below, Flips, Exchanges, moves}
 use Rattle.rules.proofs.Keeps.{step-vector, row-below, used-after, etas-after, has-room}
 
 -- ---- the cells past n

@@ -22,14 +22,11 @@ use Rattle.sparse.specs.Scattered.{Sv, blank, putAt, touched, touchedBy, listed
 use Rattle.sparse.proofs.Laws.{untouched, no-both, none-set, falses, listed-marked, marked-listed}
 use Rattle.rules.specs.Plan.{Problem, State, Etas, nOf, mOf, rowCols, rowCoeffs, varStateOf}
 use Rattle.rules.specs.Basis.{factorSolveTransp, etaTurnTransp, solveEtasTransp, solveTransp, addEntry, addTurn, addRow, combine, rowCoeffsOf, relisted, helperOf}
-use Rattle.rules.specs.Invariant.{ProblemFits, Store, Fits, Vector}
+use Rattle.rules.specs.Invariant.{ProblemFits, Store, Fits, Vector, Touched}
 use Rattle.rules.proofs.Maps.{split}
 use Rattle.rules.proofs.Vectors.{vector-blank, vector-putAt, rows-places, columns-places, vector-addEntry, vector-addRow, vector-combine, relisted-vector}
 
 -- ---- touched places
-abbrev pub Touched : Sv → ℕ → Type 0
-Touched s i = getD (s .pat .marks) i false ≡ true
-
 pub none-touched : (i : ℕ) → Touched blank i → ⊥
 none-touched i h = no-both _ h (none-set _ (falses places) i)
 
@@ -208,7 +205,7 @@ module _ (P : Problem) (f : ProblemFits P) (s : State) (g : Fits P s) (c : Sv) (
       })
 
   -- every place of the row list is a touched place of the helper
-  pub row-in-helper : (k : ℕ) → k < rowCoeffsOf P s row .pat .count → Touched (helperOf P s c) (listed (rowCoeffsOf P s row) k)
+  pub row-in-helper : (k : ℕ) → k < rowCoeffsOf P s (listed c place) .pat .count → Touched (helperOf P s c) (listed (rowCoeffsOf P s (listed c place)) k)
   unfolding rowCoeffsOf helperOf
   row-in-helper k l =
       let vs = s .ws .varStates in

@@ -1,22 +1,22 @@
 -- 01's conditions as statements, apart from the tests that pick: what each answer of the table says. proofs/ shows that each is given exactly then. Assumes nothing.
 use mathlib.Core.Path.{_≡_}
-use mathlib.Core.Bool.{Bool, true, false}
+use mathlib.Core.Bool.{true, false}
 use mathlib.Core.Logic.{_⊎_}
 use mathlib.Core.List.{List}
 use Prim.Native.Nat.{ℕ, zero, suc, _+_, _-_, _<_, _≤_}
-use lib.ListN.{length}
+use lib.ListN.{length, take}
 use lib.Ieee.{Float, lt, le, isNan}
-use Rattle.doubles.specs.Num.{f0, f1, eps, +inf, -inf, finite, infinite, size, _⊕_, _⊖_, _⊘_}
+use Rattle.doubles.specs.Num.{f0, f1, +inf, -inf, finite, infinite, size, _⊕_, _⊖_}
 use Rattle.doubles.specs.Limits.{maxColumns, maxRows, maxEntries, maxBudget, etaColumns, etaEntries, countCells}
 use Rattle.doubles.specs.Lists.{_!_, _#_}
 use Rattle.rules.specs.Plan.{Plan, Memory, Workspace, State, Problem, problemOf, nOf, mOf, rowCols, rowSum, slackMin, slackMax, varMin, varMax}
 use Rattle.rules.specs.Refusals.{zeroHolds}
 use Rattle.sparse.specs.Scattered.{Sv, listed, listedVal}
 use Rattle.rules.specs.Start.{startVals, startSlack, startObjective, startNorm, dualFeasible}
-use Rattle.rules.specs.Choose.{choose, otherVal}
+use Rattle.rules.specs.Choose.{choose}
 use Rattle.rules.specs.Basis.{colCoeffs, rowCoeffsOf, helperOf, etaUsed, etaEntryAt}
-use Rattle.rules.specs.Ratio.{rises, ahead, limit, passOne, ratio}
-use Rattle.rules.specs.Pivot.{newObjective, movedVal, newVal, newPrice, newNorm}
+use Rattle.rules.specs.Choices.{RatioGives}
+use Rattle.rules.specs.Pivot.{newObjective, movedVal, flipped, newVal, newPrice, newNorm, exchanged}
 use Rattle.rules.specs.FinalCheck.{valuesOf}
 use Rattle.rules.specs.Answers.{Row as Told, row, Place, nowhere, entryAt, columnAt, rowAt, valueAt, keptRowAt, asRow}
 use Rattle.rules.specs.Solve.{Solved, endOf}
@@ -24,7 +24,7 @@ use Rattle.rules.specs.declared.Entering.{Entering}
 use Rattle.rules.specs.declared.Choice.the-variants.{Enters, Nothing}
 use Rattle.rules.specs.declared.PivotInfo.{PivotInfo}
 use Rattle.rules.specs.declared.PivotInfo.the-variants.{Flip, Exchange}
-use Rattle.rules.specs.declared.Ratio.the-variants.{Pivot}
+use Rattle.rules.specs.declared.Ratio.the-variants.{Pivot, Unbounded as Ratio·Unbounded, NotFinite as Ratio·NotFinite}
 use Rattle.rules.specs.declared.Stop.{Stop}
 use Rattle.rules.specs.declared.Stop.the-variants.{Finished, Spent as Stop·Spent, Unbounded as Stop·Unbounded, StoreFull as Stop·StoreFull, NotFinite as Stop·NotFinite}
 use Rattle.rules.specs.declared.Checked.{Checked}
@@ -159,7 +159,7 @@ NoneBelow k p m = (j : ℕ) → j < k → ¬ Gives j p m
 abbrev pub FirstBad : Plan → ℕ → ℕ → Type 0
 FirstBad p i k = FirstWith (p .rows) (BadRow p) i × FirstWith (length (rowCols p i)) (Bad p i) k
 
--- the place that refusal k names: "the first bad entry, by row and place", "the first such column", "the first such row", and none for the others
+-- the place that refusal k names: "the first bad entry, row by row, is the one named, by row and place", "the first such column", "the first such row", and none for the others
 unfoldable pub Names : ℕ → Plan → Place → Type 0
 Names zero p l = l ≡ nowhere
 Names (suc zero) p l = l ≡ nowhere
@@ -193,51 +193,7 @@ Checks P xs Passed = Every (nOf P + mOf P) (ValueSound P xs) × Every (mOf P) (R
 Checks P xs (Value v) = FirstWithout (nOf P + mOf P) (ValueSound P xs) v
 Checks P xs (Row r) = Every (nOf P + mOf P) (ValueSound P xs) × FirstWithout (mOf P) (RowSound P xs) r
 
--- ---- why a step isn't taken, said of the state and the entering column
-
--- the k-th listed row: the size of its coefficient, the bound ahead, and the room left before it
-abbrev pub sizeAt : Sv → ℕ → Float
-sizeAt c k = size (listedVal c k)
-
-abbrev pub aheadAt : Problem → Workspace → Bool → Sv → ℕ → Float
-aheadAt P w up c k = ahead P w up (listed c k) (listedVal c k)
-
-abbrev pub limitAt : Problem → Workspace → Bool → Sv → ℕ → Float
-limitAt P w up c k = limit P w up (listed c k) (listedVal c k)
-
--- "Pass one uses (limit + EPS) / size", pass two limit / size
-abbrev pub quotientOne : Problem → Workspace → Bool → Sv → ℕ → Float
-quotientOne P w up c k = (limitAt P w up c k ⊕ eps) ⊘ sizeAt c k
-
-abbrev pub quotientTwo : Problem → Workspace → Bool → Sv → ℕ → Float
-quotientTwo P w up c k = limitAt P w up c k ⊘ sizeAt c k
-
--- "coefficients under EPS in size are skipped"; "a row with an infinite bound ahead is no candidate"
-pub record Examined (P : Problem) (w : Workspace) (up : Bool) (c : Sv) (k : ℕ) : Type 0 where
-  pub not-small : lt (sizeAt c k) eps ≡ false
-  pub bounded : infinite (aheadAt P w up c k) ≡ false
-
--- "Pass two takes step <= max_step"
-pub record Candidate (P : Problem) (w : Workspace) (up : Bool) (c : Sv) (maxStep : Float) (k : ℕ) : Type 0 where
-  pub looked-at : Examined P w up c k
-  pub near : le (quotientTwo P w up c k) maxStep ≡ true
-
-abbrev pub NoCandidate : Problem → Workspace → Bool → Sv → Float → Type 0
-NoCandidate P w up c maxStep = Every (c .pat .count) (λ k. ¬ Candidate P w up c maxStep k)
-
-module _ (P : Problem) (w : Workspace) (e : Entering) (c : Sv) where
-  -- "A finite bound whose limit or quotient isn't finite gives 23, as does a finite other bound whose distance isn't finite, both in the ratio"
-  pub data RatioUnsound : Type 0 where
-    bad-distance : infinite (otherVal P w (e .col)) ≡ false → NotFinite (e .distance) → RatioUnsound
-    bad-limit : (k : ℕ) → k < c .pat .count → Examined P w (rises e) c k → NotFinite (limitAt P w (rises e) c k) → RatioUnsound
-    bad-quotient : (k : ℕ) → k < c .pat .count → Examined P w (rises e) c k → NotFinite (quotientOne P w (rises e) c k) → RatioUnsound
-    bad-step : (k : ℕ) → k < c .pat .count → Examined P w (rises e) c k → NotFinite (quotientTwo P w (rises e) c k) → RatioUnsound
-
-  pub record RatioSound : Type 0 where
-    pub distances : infinite (otherVal P w (e .col)) ≡ false → finite (e .distance) ≡ true
-    pub limits : (k : ℕ) → k < c .pat .count → Examined P w (rises e) c k → finite (limitAt P w (rises e) c k) ≡ true
-    pub quotients : (k : ℕ) → k < c .pat .count → Examined P w (rises e) c k → finite (quotientOne P w (rises e) c k) ≡ true
-    pub steps : (k : ℕ) → k < c .pat .count → Examined P w (rises e) c k → finite (quotientTwo P w (rises e) c k) ≡ true
+-- ---- a step, said of the state, the entering column and its solved column c
 
 -- a listed entry isn't finite
 abbrev pub EntryBroken : Sv → Type 0
@@ -252,18 +208,11 @@ unfoldable pub NoRoom : State → ℕ → Type 0
 NoRoom s k = (etaColumns ≤ s .etaCount) ⊎ (etaEntries < etaUsed s + k)
 
 module _ (P : Problem) (s : State) (e : Entering) (c : Sv) where
-  -- "Unbounded is given exactly when no row is a candidate and the entering column's other bound is infinite"; no 23 came first
-  abbrev pub NoBound : Type 0
-  NoBound =
-      RatioSound P (s .ws) e c
-      × NoCandidate P (s .ws) (rises e) c (passOne P (s .ws) (rises e) c (e .distance))
-      × (infinite (otherVal P (s .ws) (e .col)) ≡ true)
-
   -- every number that a flip stores
   unfoldable pub FlipBroken : Float → Float → Type 0
   FlipBroken value diff = NotFinite (newObjective s e diff) ⊎ NotFinite value ⊎ StoreBroken c (movedVal (s .ws) c diff)
 
-  -- row and helper entries, and every number that an exchange stores
+  -- row and helper entries, as `exchange` of Step reads them, and every number that an exchange stores
   unfoldable pub ExchangeBroken : Float → Float → ℕ → Float → Float → Type 0
   ExchangeBroken value diff row pivot leaving =
       let r = rowCoeffsOf P s row in
@@ -282,30 +231,53 @@ module _ (P : Problem) (s : State) (e : Entering) (c : Sv) where
   StoreFull (Flip value diff) = ⊥
   StoreFull (Exchange value diff row pivot leaving) = NoRoom s (c .pat .count)
 
-  -- "row and helper entries and every number to be stored must be finite"; an exchange comes so far where its column fits
+  -- not all of "row and helper entries and every number to be stored" are finite
   unfoldable pub StepBroken : PivotInfo → Type 0
   StepBroken (Flip value diff) = FlipBroken value diff
-  StepBroken (Exchange value diff row pivot leaving) = (¬ NoRoom s (c .pat .count)) × ExchangeBroken value diff row pivot leaving
+  StepBroken (Exchange value diff row pivot leaving) = ExchangeBroken value diff row pivot leaving
+
+  -- what is stored
+  unfoldable pub stateAfter : PivotInfo → State
+  stateAfter (Flip value diff) = flipped P s e c value diff
+  stateAfter (Exchange value diff row pivot leaving) = exchanged P s e c (rowCoeffsOf P s row) (helperOf P s c) value diff row pivot leaving
 
   -- the ratio gives a step of which X holds
   abbrev pub Chosen : (PivotInfo → Type 0) → Type 0
-  Chosen X = (i : PivotInfo) × (ratio P (s .ws) e c ≡ Pivot i) × X i
+  Chosen X = (i : PivotInfo) × RatioGives P (s .ws) e c (Pivot i) × X i
 
   -- 20, 22 and 23, in 01's order: "column solve; ratio; Unbounded; eta room; row solve; all new numbers"
   unfoldable pub StopsWith : Stop → Type 0
   StopsWith Finished = ⊥
   StopsWith Stop·Spent = ⊥
-  StopsWith Stop·Unbounded = (¬ EntryBroken c) × NoBound
+  StopsWith Stop·Unbounded = (¬ EntryBroken c) × RatioGives P (s .ws) e c Ratio·Unbounded
   StopsWith Stop·StoreFull = (¬ EntryBroken c) × Chosen StoreFull
-  StopsWith Stop·NotFinite = EntryBroken c ⊎ RatioUnsound P (s .ws) e c ⊎ Chosen StepBroken
+  StopsWith Stop·NotFinite = EntryBroken c ⊎ RatioGives P (s .ws) e c Ratio·NotFinite ⊎ Chosen (λ i. (¬ StoreFull i) × StepBroken i)
+
+  -- the step i is taken, to t: none of these stops it
+  pub record MovesBy (i : PivotInfo) (t : State) : Type 0 where
+    pub column : ¬ EntryBroken c
+    pub chosen : RatioGives P (s .ws) e c (Pivot i)
+    pub room : ¬ StoreFull i
+    pub numbers : ¬ StepBroken i
+    pub after : t ≡ stateAfter i
 
 -- with the column that the step solves for
+abbrev pub stepColumn : Problem → State → Entering → Sv
+stepColumn P s e = colCoeffs P s (s .ws .nbVars # e .col)
+
 abbrev pub Stops : Problem → State → Entering → Stop → Type 0
-Stops P s e w = StopsWith P s e (colCoeffs P s (s .ws .nbVars # e .col)) w
+Stops P s e w = StopsWith P s e (stepColumn P s e) w
+
+abbrev pub Moves : Problem → State → Entering → PivotInfo → State → Type 0
+Moves P s e i t = MovesBy P s e (stepColumn P s e) i t
 
 -- ---- why a run ends, said of the state that was reached
 abbrev pub reached : Plan → Memory → State
 reached p m = endOf (problemOf p) m .state
+
+-- the values that are written: columns, then the slacks of the kept rows
+abbrev pub written : Plan → Memory → List Float
+written p after = take (p .columns + mOf (problemOf p)) (after .values)
 
 -- a column enters, and the plan wasn't dual feasible at the start
 abbrev pub Goes : Problem → State → Entering → Type 0
@@ -316,8 +288,8 @@ abbrev pub Halts : Problem → State → Stop → Type 0
 Halts P s w = (e : Entering) × Goes P s e × (s .steps < P .plan .budget) × Stops P s e w
 
 unfoldable pub Ends : Problem → State → Stop → Type 0
--- "If dual feasible, Optimal is reached at once"; "entering column (none: final check)"
-Ends P s Finished = (dualFeasible (P .plan) ≡ true) ⊎ (choose P (s .ws) ≡ Nothing)
+-- "If dual feasible, Optimal is reached at once with 0 steps"; else "entering column (none: final check)"
+Ends P s Finished = ((dualFeasible (P .plan) ≡ true) × (s .steps ≡ 0)) ⊎ ((dualFeasible (P .plan) ≡ false) × (choose P (s .ws) ≡ Nothing))
 -- "budget spent and a column would enter"
 Ends P s Stop·Spent = (e : Entering) × Goes P s e × (s .steps ≡ P .plan .budget)
 Ends P s Stop·Unbounded = Halts P s Stop·Unbounded

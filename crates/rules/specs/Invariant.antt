@@ -1,10 +1,10 @@
 -- What holds of the plan once 1 to 3 have passed, and of the state at the start and after every step. Arrays may be longer than needed. Assumes nothing.
 -- One record for each index, so that arithmetic can read it.
 use mathlib.Core.Path.{_≡_}
-use mathlib.Core.Bool.{true}
+use mathlib.Core.Bool.{true, false}
 use mathlib.Core.List.{List}
 use Prim.Native.Nat.{ℕ, _+_, _-_, _<_, _≤_}
-use lib.ListN.{length, drop}
+use lib.ListN.{length, getD, drop}
 use Rattle.doubles.specs.Num.{finite}
 use Rattle.doubles.specs.Limits.{maxColumns, maxRows, maxEntries, maxBudget, etaColumns, etaEntries, countCells, places}
 use Rattle.doubles.specs.Lists.{_!_, _#_}
@@ -103,7 +103,7 @@ pub record VarAt (P : Problem) (w : Workspace) (v : ℕ) : Type 0 where
   pub non-basic : w .varStates # v < nOf P → w .nbVars # (w .varStates # v) ≡ v
   pub basic : nOf P ≤ w .varStates # v → w .basicVars # (w .varStates # v - nOf P) ≡ v
 
--- "the two maps between variables and places are each other's inverse"
+-- the two maps between variables and places are each other's inverse
 pub record Maps (P : Problem) (w : Workspace) : Type 0 where
   pub place : (c : ℕ) → c < nOf P → NonBasicAt P w c
   pub row : (r : ℕ) → r < mOf P → BasicAt P w r
@@ -123,7 +123,7 @@ pub record Store (P : Problem) (h : Etas) (count : ℕ) : Type 0 where
   pub entries-fit : h .starts # count ≤ etaEntries
   pub column : (k : ℕ) → k < count → EtaCol P h k
 
--- "every stored number is finite"
+-- every stored number is finite
 pub record Numbers (P : Problem) (s : State) : Type 0 where
   pub objective : finite (s .objective) ≡ true
   pub basicVal : (r : ℕ) → r < mOf P → finite (s .ws .basicVarVals ! r) ≡ true
@@ -165,3 +165,7 @@ pub record Tails (P : Problem) (w : Workspace) (s : State) : Type 0 where
 pub record Vector (m : ℕ) (c : Sv) : Type 0 where
   pub good : Good places c
   pub places-below : Below m c
+
+-- place i is touched
+abbrev pub Touched : Sv → ℕ → Type 0
+Touched s i = getD (s .pat .marks) i false ≡ true

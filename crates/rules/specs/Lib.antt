@@ -6,6 +6,7 @@ pub mod Start
 pub mod Choose
 pub mod Basis
 pub mod Ratio
+pub mod Choices
 pub mod Pivot
 pub mod Step
 pub mod FinalCheck

@@ -71,7 +71,7 @@ newPrice w e pivot row j =
     let pivotObj = e .price ⊘ pivot in
     elim (eqb j (e .col)) [ true ↦ neg pivotObj | false ↦ w .nbVarObjCoeffs ! j ⊖ pivotObj ⊗ row .vals ! j ]
 
--- "A norm moves by ((-2.0 * r) * h / pivot + (sq * r) * r / pivot_sq)"
+-- a norm moves by ((-2.0 * r) * h / pivot + (sq * r) * r / pivot_sq)
 unfoldable pub newNorm : Workspace → Entering → Sv → Float → Sv → Sv → ℕ → Float
 newNorm w e c pivot row helper j =
     let sq = sqNorm c ⊕ f1 in

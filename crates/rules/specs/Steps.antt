@@ -1,4 +1,4 @@
--- "k steps lead from s to t", apart from `runOf`: each step is one of the rules' own. Assumes nothing.
+-- k steps lead from s to t, said apart from `runOf`: each step is one of the rules' own. Assumes nothing.
 use mathlib.Core.Path.{_≡_}
 use Prim.Native.Nat.{ℕ, zero, suc, _+_, _*_, _≤_}
 use Rattle.doubles.specs.Limits.{countCells}
@@ -23,6 +23,10 @@ pub record Reached (P : Problem) (s t : State) (budget : ℕ) : Type 0 where
   pub by-steps : Steps P s (t .steps) t
   pub within : t .steps ≤ budget
 
+-- from the start of a plan, within its budget
+abbrev pub RunsTo : Plan → Memory → State → Type 0
+RunsTo p m t = Reached (problemOf p) (startState (problemOf p) (m .ws)) t (p .budget)
+
 -- 01: "After k steps the store has at most k columns and k times the row count of entries"
 pub record Bounded (P : Problem) (t : State) : Type 0 where
   pub columns : t .etaCount ≤ t .steps
@@ -37,12 +41,11 @@ pub record LentTails (P : Problem) (m m′ : Memory) (t : State) : Type 0 where
   pub objective : Past 1 (m′ .objective) (m .objective)
 
 -- 01: "Answers 0 and 20 to 24 carry the objective and step count of that state", "the workspace then holds the state after the last whole step"
-pub record Ran (p : Plan) (m : Memory) (r : Solved) : Type 0 where
-  pub state : State
-  pub reached : Reached (problemOf p) (startState (problemOf p) (m .ws)) state (p .budget)
-  pub bounded : Bounded (problemOf p) state
-  pub sound : Sound (problemOf p) state
-  pub steps-told : asRow (r .answer) .steps ≡ state .steps
-  pub objective-told : asRow (r .answer) .objective ≡ state .objective
-  pub lent : r .memory .ws ≡ state .ws
-  pub tails : LentTails (problemOf p) m (r .memory) state
+pub record Ran (p : Plan) (m : Memory) (r : Solved) (t : State) : Type 0 where
+  pub reached : RunsTo p m t
+  pub bounded : Bounded (problemOf p) t
+  pub sound : Sound (problemOf p) t
+  pub steps-told : asRow (r .answer) .steps ≡ t .steps
+  pub objective-told : asRow (r .answer) .objective ≡ t .objective
+  pub lent : r .memory .ws ≡ t .ws
+  pub tails : LentTails (problemOf p) m (r .memory) t

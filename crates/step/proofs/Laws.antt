@@ -14,6 +14,7 @@ use Rattle.rules.specs.Parts.{planOf, problem, bounded, rowed, noEtas, workspac
 use Rattle.rules.specs.Choose.{otherVal, choose}
 use Rattle.rules.specs.Basis.{colCoeffs, addRow, combine, rowCoeffsOf, helperOf, listedFinite}
 use Rattle.rules.specs.Ratio.{ahead, limit, examined, relaxed, stepTo, soundRatios, passOne, candidate, passTwoTurn, passTwo, flipOf, exchangeOf, pivotOf, soundDistance, ratio}
+use Rattle.rules.specs.Choices.{RatioGives, exchanges}
 use Rattle.rules.specs.Pivot.{flagsAt, flipFinite, flipped, exchangeFinite, exchanged}
 use Rattle.rules.specs.Step.{Outcome, moved, stopped, unless, step, pivot, flip, exchange}
 use Rattle.rules.specs.Invariant.{ProblemFits, Fits, Vector}
@@ -26,7 +27,7 @@ use Rattle.rules.specs.declared.Ratio.the-variants.{Pivot, Unbounded, NotFinite
 use Rattle.rules.specs.declared.Stop.{Stop}
 use Rattle.rules.specs.declared.Stop.the-variants.{Unbounded as Stop·Unbounded, NotFinite as Stop·NotFinite}
 use Rattle.rules.proofs.Vectors.{rows-places, column-vector}
-use Rattle.rules.proofs.Choices.{Outcome as RatioGives, exchanges, ratio-exactly}
+use Rattle.rules.proofs.Choices.{ratio-exactly}
 use Rattle.rules.proofs.Keeps.{step-fits}
 use Rattle.rules.proofs.Steps.{step-counts}
 use Rattle.eta.specs.Store.{Readable}
