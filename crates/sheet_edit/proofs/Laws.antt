@@ -4,22 +4,22 @@ use mathlib.Core.Bool.{Bool, true, false, not, _&&_, _||_}
 use mathlib.Core.List.{List, [], _∷_}
 use Prim.Native.Nat.{ℕ, zero, suc, _≤_, _<_, _^_}
 use native.Mathlib.Omega.{arith}
-use lib.Dec.{leb, eqb}
+use lib.Dec.{eqb}
 use lib.ListN.{getD, length, drop}
 use lib.IntN.{ℤ, pos, negsuc, natAbs}
 use lib.Signed.{mag}
-use borrow.Author.Tests.{leb-true, le-leb, lt-leb, ne-eqb}
+use borrow.Author.Tests.{le-leb, lt-leb, ne-eqb}
 use Rattle.doubles.specs.Limits.{maxCoefficient, maxCost, maxRightSide, maxBound, maxAmount, maxMultiplier}
 use Rattle.sheet_rules.specs.Sum.{_‼_}
 use Rattle.sheet_rules.specs.Sheet.{Sheet, Plan, a, c, lower, upper, lowerMark, upperMark, rhs, x, Y}
 use Rattle.sheet_rules.specs.Opening.{Test, _unless_, firstFailed, sizesFine, crosses}
-use Rattle.sheet_rules.specs.Edit.{put, edited, applied, knownKind, todaysKind, indexFine, bothFine, soundAt, editTests, editRefusal, oldNumber, oldMark}
+use Rattle.sheet_rules.specs.Edit.{put, edited, applied, knownKind, todaysKind, indexFine, bothFine, soundAt, movedFine, editTests, editRefusal, oldNumber, oldMark}
 use Rattle.sheet_rules.specs.Words.{Sized, Index, NumberIn, WouldCross, Sound, Today, Placed, EditSays}
 use Rattle.sheet_rules.specs.declared.Edit.{Edit}
 use Rattle.sheet_rules.proofs.Takes.{takes}
 use Rattle.sheet_rules.proofs.Tests.{no-so, sizes-decide, index-decides, both-decides, would-cross-found, sound-decides}
-use Rattle.sheet_rules.proofs.Exact.{edit-only}
-use Rattle.sheet_rules.proofs.After.{movedFine, after-test}
+use Rattle.sheet_rules.proofs.Exact.{today, edit-only}
+use Rattle.sheet_rules.proofs.After.{after-test}
 use Rattle.sheet_edit.specs.Rules.{kindRefusal, limitOf, ruleOf, anyNumber, cellAt}
 use Rattle.sheet_edit.specs.declared.Cell.{Cell}
 use Rattle.sheet_edit.specs.declared.Rule.{Rule}
@@ -92,13 +92,12 @@ any-number (negsuc n) h = omega arith
 module _ (e : Edit) where
   pub kind-today : kindRefusal (e .kind) ≡ 0 → Today e
   unfolding kindRefusal firstFailed
-  kind-today h = at (leb 1 (e .kind)) refl (leb (e .kind) 31) (leb (e .kind) 9) refl h
+  kind-today h = at (knownKind (e .kind)) refl (todaysKind (e .kind)) refl h
     where
-      at : (a : Bool) → leb 1 (e .kind) ≡ a → (b d : Bool) → leb (e .kind) 9 ≡ d → firstFailed (16 unless (a && b) ∷ 15 unless d ∷ []) ≡ 0 → Today e
-      at true p true true q w = record { first = leb-true 1 (e .kind) p; last = leb-true (e .kind) 9 q }
-      at true p true false q w = absurd (omega arith)
-      at true p false d q w = absurd (omega arith)
-      at false p b d q w = absurd (omega arith)
+      at : (a : Bool) → knownKind (e .kind) ≡ a → (b : Bool) → todaysKind (e .kind) ≡ b → firstFailed (16 unless a ∷ 15 unless b ∷ []) ≡ 0 → Today e
+      at true p true q w = today e p q
+      at true p false q w = absurd (omega arith)
+      at false p b q w = absurd (omega arith)
 
   pub limit-so : natAbs (e .number) ≤ limitOf (e .kind) → NumberIn e
   unfolding limitOf

@@ -12,9 +12,8 @@ use Rattle.doubles.specs.Limits.{maxColumns}
 use Rattle.sheet_rules.specs.Sum.{bit}
 use Rattle.sheet_rules.specs.Words.{Count}
 use Rattle.sheet_rules.specs.Sheet.{present, termBy, term}
-use Rattle.sheet_rules.proofs.Ring.{add-mul, neg-mul, add-right-comm}
-use Rattle.sheet_terms.proofs.Laws.{bit-size}
-use Rattle.sheet_rules.proofs.Sizes.{abs-neg, mul-size, sub-size}
+use Rattle.sheet_rules.proofs.Ring.{change-times, add-right-comm}
+use Rattle.sheet_rules.proofs.Sizes.{abs-neg, mul-size, sub-size, bit-size}
 
 -- a bound, or 0 where it is absent
 abbrev taken : Bool → ℤ → ℤ
@@ -44,10 +43,6 @@ module _ (l u : ℤ) (lm um : ℕ) where
       by true = refl
       by false = sym (*ℤ-zero (negsuc n))
 
--- y * z - w * z
-difference : (y w z : ℤ) → y *ℤ z -ℤ w *ℤ z ≡ (y -ℤ w) *ℤ z
-difference y w z = sym (add-mul y (negℤ w) z ∙ ap (λ (t : ℤ). y *ℤ z +ℤ t) (neg-mul w z))
-
 -- prices on two sides of 0 are as far apart as they are large
 apart : (n m : ℕ) → natAbs (negsuc m -ℤ pos n) ≡ suc m + n
 apart zero m = ap natAbs (+ℤ-idr (negsuc m)) ∙ sym (add-zero (suc m))
@@ -61,8 +56,8 @@ two-sides n m P Q L U h hL hU y z ey ez =
 
 module _ (l u : ℤ) (lm um P Q : ℕ) (hl : natAbs l ≤ Q) (hu : natAbs u ≤ Q) where
   pub change-size : (d w : ℤ) → natAbs (d -ℤ w) ≤ P → natAbs (term d l u lm um -ℤ term w l u lm um) ≤ P * Q
-  change-size (pos n) (pos m) h = rw (up-is l u lm um n, up-is l u lm um m, difference (pos n) (pos m) (taken (present lm) l)) (mul-size (pos n -ℤ pos m) (taken (present lm) l) P Q h (taken-size (present lm) l Q hl))
-  change-size (negsuc n) (negsuc m) h = rw (down-is l u lm um n, down-is l u lm um m, difference (negsuc n) (negsuc m) (taken (present um) u)) (mul-size (negsuc n -ℤ negsuc m) (taken (present um) u) P Q h (taken-size (present um) u Q hu))
+  change-size (pos n) (pos m) h = rw (up-is l u lm um n, up-is l u lm um m, change-times (taken (present lm) l) (pos n) (pos m)) (mul-size (pos n -ℤ pos m) (taken (present lm) l) P Q h (taken-size (present lm) l Q hl))
+  change-size (negsuc n) (negsuc m) h = rw (down-is l u lm um n, down-is l u lm um m, change-times (taken (present um) u) (negsuc n) (negsuc m)) (mul-size (negsuc n -ℤ negsuc m) (taken (present um) u) P Q h (taken-size (present um) u Q hu))
   change-size (pos n) (negsuc m) h = rw (up-is l u lm um n, down-is l u lm um m) (two-sides n (suc m) P Q (taken (present lm) l) (taken (present um) u) h (taken-size (present lm) l Q hl) (taken-size (present um) u Q hu) (pos n) (negsuc m) refl refl)
   change-size (negsuc m) (pos n) h = rw (up-is l u lm um n, down-is l u lm um m) (two-sides (suc m) n P Q (taken (present um) u) (taken (present lm) l) (rw (← apart n m) h) (taken-size (present um) u Q hu) (taken-size (present lm) l Q hl) (negsuc m) (pos n) refl refl)
 

@@ -1,4 +1,4 @@
--- Laws for opening: a row's part of the coefficients, and how large a fresh price is. Assumes nothing.
+-- Laws for opening: a row's part of the coefficients, and the kept numbers once they are written. Assumes nothing.
 use mathlib.Core.Path.{_≡_, ap, _∙_}
 use mathlib.Core.List.{List, [], _∷_}
 use Prim.Native.Nat.{ℕ, _+_, _-_, _*_, _≤_, _<_}
@@ -8,19 +8,17 @@ use lib.Dec.{lit≤}
 use lib.IntN.{ℤ, pos, natAbs, _+ℤ_, _*ℤ_}
 use lib.ListN.{length, take, drop, length-drop}
 use lib.Seq.{length-take-le, getD-take, getD-drop}
-use Rattle.doubles.specs.Limits.{maxRows, maxColumns, maxCoefficient, maxCost, maxAmount, maxMultiplier, maxBound, maxD, unit}
+use Rattle.doubles.specs.Limits.{maxColumns, maxCoefficient, maxAmount, maxBound, maxD}
 use Rattle.doubles.specs.Lists.{over}
 use Rattle.doubles.specs.Loop.{table}
 use Rattle.sheet_rules.specs.Sum.{_‼_, sum, dot, count, bit}
-use Rattle.sheet_rules.specs.Sheet.{Plan, Kept, keptOf, a, c, x, Y, rhs, termAt, brokenAt, lacksAt, rowSum, activity, price, cost, floor, brokenRows, outsideAmounts, wrongSigns, absentNeeded, fresh, overKept}
+use Rattle.sheet_rules.specs.Sheet.{Plan, Kept, keptOf, x, Y, rhs, termAt, brokenAt, lacksAt, rowSum, activity, price, cost, floor, brokenRows, outsideAmounts, wrongSigns, absentNeeded, fresh, overKept}
 use Rattle.sheet_rules.specs.Words.{Limits}
-use Rattle.sheet_rules.proofs.Local.{place-in}
-use Rattle.sheet_rules.proofs.Sizes.{mul-size, sub-size}
+use Rattle.sheet_rules.proofs.Sizes.{term-size, up-to}
+use Rattle.sheet_rules.proofs.KeptSizes.{D-size}
 use Rattle.sheet_rules.proofs.Sums.{sum-ext}
-use Rattle.sheet_rules.proofs.TrueSheet.{front}
+use Rattle.sheet_rules.proofs.Fronts.{front}
 use Rattle.sheet_terms.specs.Small.{Small, farD}
-use Rattle.sheet_terms.proofs.Laws.{term-size}
-use Rattle.sheet_terms.proofs.Machine.{up-to}
 use Rattle.sheet_tests.specs.Sized.{PlanSized, Fine}
 use Rattle.sheet_open.specs.At.{floorAt, countsAt}
 
@@ -58,23 +56,12 @@ module _ (coefs amounts : List ℤ) (i m n : ℕ) (l : i < m) (few : n ≤ maxCo
 pub weaken : {a b n : ℕ} {l : List ℤ} → a ≤ b → Small a n l → Small b n l
 weaken h s = record { there = s .there; at = λ j k. le-trans (s .at j k) h }
 
-pub dot-small : (a b n : ℕ) (l k : List ℤ) → n ≤ maxColumns → Small a n l → Small b n k → natAbs (dot n (λ i. l ‼ i) (λ i. k ‼ i)) ≤ maxColumns * (a * b)
-dot-small a b n l k few p q = up-to maxColumns (a * b) n (λ i. l ‼ i *ℤ k ‼ i) few (λ i h. mul-size (l ‼ i) (k ‼ i) a b (p .at i h) (q .at i h))
-
 pub terms-small : (p : Plan) (D : List ℤ) → PlanSized p → Fine p → Small maxD (p .cols) D → natAbs (sum (p .cols) (λ j. termAt p j (D ‼ j))) ≤ maxColumns * (farD * maxBound)
 terms-small p D z f d = up-to maxColumns (farD * maxBound) (p .cols) (λ j. termAt p j (D ‼ j)) (z .cols-few) (λ j h. term-size farD maxBound (D ‼ j) (p .lowers ‼ j) (p .uppers ‼ j) _ _ (le-trans (d .at j h) (lit≤ tt)) (f .lowers-small .at j h) (f .uppers-small .at j h))
 
--- a fresh price is within its size
-pub price-small : (p : Plan) → PlanSized p → Limits p → (j : ℕ) → j < p .cols → natAbs (price p j) ≤ maxD
-unfolding price
-price-small p z l j h =
-    le-trans
-    (sub-size (pos unit *ℤ c p j) (sum (p .rows) (λ i. a p i j *ℤ Y p i)) (unit * maxCost) (maxRows * (maxCoefficient * maxMultiplier)) (mul-size (pos unit) (c p j) unit maxCost (lit≤ tt) (l .arrays-in .costs-in j h)) (up-to maxRows (maxCoefficient * maxMultiplier) (p .rows) (λ i. a p i j *ℤ Y p i) (z .rows-few) (λ i k. mul-size (a p i j) (Y p i) maxCoefficient maxMultiplier (l .coefs-in _ (place-in i (p .rows) j (p .cols) k h)) (l .arrays-in .mults-in i k))))
-    (lit≤ tt)
-
 -- ---- the kept numbers, once their arrays are written
 pub prices-small : (p : Plan) (d₀ d : List ℤ) → PlanSized p → Limits p → p .cols ≤ length d → d ≡ over (table (p .cols) (price p)) d₀ → Small maxD (p .cols) d
-prices-small p d₀ d z l long e = record { there = long; at = λ j h. rw (e, front (p .cols) (price p) d₀ j h) (price-small p z l j h) }
+prices-small p d₀ d z l long e = record { there = long; at = λ j h. rw (e, front (p .cols) (price p) d₀ j h) (D-size p (z .rows-few) (z .cols-few) l j h) }
 
 module _ (p : Plan) (k : Kept) where
   pub kept-law : (r d c b n : List ℤ) → r ≡ over (table (p .rows) (activity p (x p))) (k .R) → d ≡ over (table (p .cols) (price p)) (k .D) → c ≡ over (cost p (x p) ∷ []) (k .C) → b ≡ over (floorAt p d ∷ []) (k .B) → n ≡ over (countsAt p r d) (k .counts)

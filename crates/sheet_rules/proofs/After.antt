@@ -1,29 +1,19 @@
 -- 14 after the edit: where all else passes it looks at the moved numbers alone. Assumes nothing.
 use mathlib.Core.Path.{_≡_, refl, sym}
-use mathlib.Core.Bool.{Bool, true, false, _&&_}
+use mathlib.Core.Bool.{Bool, true, false}
 use native.Mathlib.Omega.{arith}
 use lib.IntN.{natAbs}
 use Rattle.doubles.specs.Limits.{maxR, maxD, maxC, maxB}
 use mathlib.Core.List.{[], _∷_}
-use Rattle.doubles.specs.Loop.{all}
 use Rattle.doubles.specs.Lists.{over}
 use Rattle.sheet_rules.specs.Sheet.{Sheet, overKept}
-use Rattle.sheet_rules.specs.Opening.{within}
-use Rattle.sheet_rules.specs.Verdict.{countFine}
-use Rattle.sheet_rules.specs.Edit.{edited, movedR, movedD, movedC, movedB, movedBroken, movedOutside, movedWrong, movedAbsent, moved, applied, soundAt}
+use Rattle.sheet_rules.specs.Edit.{edited, movedR, movedD, movedC, movedB, movedBroken, movedOutside, movedWrong, movedAbsent, moved, applied, soundAt, movedFine}
 use Rattle.sheet_rules.specs.Words.{Sized, NumberIn, KeptIn, Sound}
 use Rattle.sheet_rules.specs.declared.Edit.{Edit}
 use Rattle.sheet_rules.proofs.Tests.{Decides, and-decides, all-decides, leb-decides, count-decides, in-words, so-no, no-so, sound-decides}
-use Rattle.sheet_rules.proofs.TrueSheet.{front}
+use Rattle.sheet_rules.proofs.Fronts.{front}
 use Rattle.sheet_rules.proofs.KeptSizes.{one-cell}
 use Rattle.sheet_rules.proofs.Stays.{edited-arrays, edited-coef}
-
-unfoldable pub movedFine : Sheet → Edit → Bool
-movedFine s e =
-    let m = s .plan .rows in
-    let n = s .plan .cols in
-    all m (λ i. within maxR (movedR s e i)) && all n (λ j. within maxD (movedD s e j)) && within maxC (movedC s e) && within maxB (movedB s e)
-    && countFine m (movedBroken s e) && countFine n (movedOutside s e) && countFine m (movedWrong s e) && countFine n (movedAbsent s e)
 
 -- two tests of the same
 same-test : (b d : Bool) {P Q : Type 0} → Decides b P → Decides d Q → (P → Q) → (Q → P) → b ≡ d

@@ -2,12 +2,11 @@
 use mathlib.Core.Path.{_≡_, refl, sym}
 use mathlib.Core.Logic.{_⊎_, inl, inr}
 use mathlib.Core.Bool.{Bool, true, false, not, _&&_, _||_}
-use Prim.Native.Nat.{ℕ}
-use native.Mathlib.Omega.{arith}
+use Rattle.doubles.proofs.Bools.{never}
 
 -- no test both passes and fails
 pub unlike : {X : Type 0} → false ≡ true → X
-unlike e = absurd (let z : _≡_ {A = ℕ} 0 1 = cc in omega arith)
+unlike e = never e refl
 
 pub both-not : (b d : Bool) → (b && d) ≡ false → b ≡ true → d ≡ false
 both-not true d e h = e

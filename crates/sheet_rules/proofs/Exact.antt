@@ -4,14 +4,14 @@ use mathlib.Core.Path.{_≡_, refl, _∙_}
 use mathlib.Core.Logic.{_⊎_, inl, inr}
 use mathlib.Core.Bool.{Bool, true, false, _&&_}
 use mathlib.Core.List.{[], _∷_}
-use Prim.Native.Nat.{ℕ, _≤_}
+use Prim.Native.Nat.{ℕ, zero, suc, _≤_}
 use native.Mathlib.Omega.{arith}
 use lib.Dec.{leb}
 use borrow.Author.Tests.{leb-true, leb-false, le-leb, lt-leb}
 use Rattle.doubles.proofs.Loops.{both-true}
 use Rattle.sheet_rules.specs.Sum.{_‼_}
 use Rattle.sheet_rules.specs.Sheet.{Sheet}
-use Rattle.sheet_rules.specs.Opening.{_unless_, firstFailed, sizesFine, numbersFine, uncrossed, opening}
+use Rattle.sheet_rules.specs.Opening.{_unless_, firstFailed, sizesFine, numbersFine, uncrossed, opening, leaves}
 use Rattle.sheet_rules.specs.Verdict.{keptFine, isZero, gap, verdictBy, verdict}
 use Rattle.sheet_rules.specs.Edit.{knownKind, todaysKind, indexFine, numberFine, bothFine, soundAt, applied, editRefusal}
 use Rattle.sheet_rules.specs.Words.{Sized, Limits, Crossing, KeptIn, Index, NumberIn, WouldCross, Sound, Today, Placed, IsPlan, HasFloor, OpeningSays, EditSays, VerdictSays}
@@ -38,7 +38,20 @@ opening-only s (OpeningSays.number z h) = rw (sizes-decide s .so-yes z, so-no _ 
 opening-only s (OpeningSays.crossed z l w) = rw (sizes-decide s .so-yes z, numbers-decide (s .plan) .so-yes l, so-no _ (uncrossed-decides (s .plan)) (λ h. h w))
 opening-only s (OpeningSays.accepted z l h) = rw (sizes-decide s .so-yes z, numbers-decide (s .plan) .so-yes l, uncrossed-decides (s .plan) .so-yes h)
 
+-- what an accepted opening has passed
+opening-passed : (s : Sheet) {n : ℕ} → OpeningSays s n → n ≡ 0 → Sized s × Limits (s .plan) × (¬ Crossing (s .plan))
+opening-passed s (OpeningSays.size h) w = absurd (omega arith)
+opening-passed s (OpeningSays.number z h) w = absurd (omega arith)
+opening-passed s (OpeningSays.crossed z l h) w = absurd (omega arith)
+opening-passed s (OpeningSays.accepted z l h) w = (z, l, h)
+
+pub opening-so : (s : Sheet) → opening s ≡ 0 → Sized s × Limits (s .plan) × (¬ Crossing (s .plan))
+opening-so s w = opening-passed s (opening-says s) w
+
 -- ---- an edit
+pub today : (e : Edit) → knownKind (e .kind) ≡ true → todaysKind (e .kind) ≡ true → Today e
+today e t u = record { first = leb-true 1 (e .kind) (both-true (leb 1 (e .kind)) (leb (e .kind) 31) t .0); last = leb-true (e .kind) 9 u }
+
 module _ (s : Sheet) (e : Edit) where
   -- 01: "Kinds 10 to 31 are kept for later and give 15; 0 and 32 up give 16"
   kind-unknown : knownKind (e .kind) ≡ false → (e .kind ≡ 0) ⊎ (32 ≤ e .kind)
@@ -50,9 +63,6 @@ module _ (s : Sheet) (e : Edit) where
 
   kind-known : 1 ≤ e .kind → e .kind ≤ 31 → knownKind (e .kind) ≡ true
   kind-known l h = rw (le-leb 1 (e .kind) l, le-leb (e .kind) 31 h)
-
-  today : knownKind (e .kind) ≡ true → todaysKind (e .kind) ≡ true → Today e
-  today t u = record { first = leb-true 1 (e .kind) (both-true (leb 1 (e .kind)) (leb (e .kind) 31) t .0); last = leb-true (e .kind) 9 u }
 
   place-decides : Decides (sizesFine s && indexFine (s .plan) e) (Sized s × Index (s .plan) e)
   place-decides = and-decides _ _ (sizes-decide s) (index-decides (s .plan) e)
@@ -68,9 +78,9 @@ module _ (s : Sheet) (e : Edit) where
           → EditSays s e (firstFailed (16 unless b ∷ 15 unless d ∷ 11 unless f ∷ 12 unless g ∷ 13 unless h ∷ 14 unless k ∷ []))
       at false p d q f r g t h u k v = EditSays.unknown (kind-unknown p)
       at true p false q f r g t h u k v = EditSays.later (leb-false (e .kind) 9 q) (leb-true (e .kind) 31 (both-true (leb 1 (e .kind)) (leb (e .kind) 31) p .1))
-      at true p true q false r g t h u k v = EditSays.size (today p q) (no-so place-decides r)
+      at true p true q false r g t h u k v = EditSays.size (today e p q) (no-so place-decides r)
       at true p true q true r g t h u k v =
-          let y = today p q in
+          let y = today e p q in
           let z = place-decides .yes-so r in
           let w : Placed s e = record { today = y; sized = z .0; index = z .1 } in
           rest w g t h u k v
@@ -101,17 +111,26 @@ module _ (s : Sheet) (e : Edit) where
   edit-only (EditSays.accepted w n c h k) = placed w ∙ rw (number-decides e (w .today .first) .so-yes n, both-decides s e (w .sized) (w .index) .so-yes c, sound-twice .so-yes (h, k))
 
 -- what an accepted edit has passed
-accepted-by : (s : Sheet) (e : Edit) {n : ℕ} → EditSays s e n → n ≡ 0 → Placed s e × NumberIn e × (¬ WouldCross (s .plan) e)
-accepted-by s e (EditSays.unknown h) w = absurd (omega arith)
-accepted-by s e (EditSays.later h k) w = absurd (omega arith)
-accepted-by s e (EditSays.size h k) w = absurd (omega arith)
-accepted-by s e (EditSays.number h k) w = absurd (omega arith)
-accepted-by s e (EditSays.crossed h n k) w = absurd (omega arith)
-accepted-by s e (EditSays.broken h n c k) w = absurd (omega arith)
-accepted-by s e (EditSays.accepted h n c k m) w = (h, n, c)
+edit-passed : (s : Sheet) (e : Edit) {n : ℕ} → EditSays s e n → n ≡ 0 → Placed s e × NumberIn e × (¬ WouldCross (s .plan) e) × Sound e s × Sound e (applied s e)
+edit-passed s e (EditSays.unknown h) w = absurd (omega arith)
+edit-passed s e (EditSays.later h k) w = absurd (omega arith)
+edit-passed s e (EditSays.size h k) w = absurd (omega arith)
+edit-passed s e (EditSays.number h k) w = absurd (omega arith)
+edit-passed s e (EditSays.crossed h n k) w = absurd (omega arith)
+edit-passed s e (EditSays.broken h n c k) w = absurd (omega arith)
+edit-passed s e (EditSays.accepted h n c k m) w = (h, n, c, k, m)
 
-pub accepted-so : (s : Sheet) (e : Edit) → editRefusal s e ≡ 0 → Placed s e × NumberIn e × (¬ WouldCross (s .plan) e)
-accepted-so s e w = accepted-by s e (edit-says s e) w
+pub edit-so : (s : Sheet) (e : Edit) → editRefusal s e ≡ 0 → Placed s e × NumberIn e × (¬ WouldCross (s .plan) e) × Sound e s × Sound e (applied s e)
+edit-so s e w = edit-passed s e (edit-says s e) w
+
+-- ---- what a call leaves, by its answer
+pub left-new : (n : ℕ) (new old : Sheet) → n ≡ 0 → leaves n new old ≡ new
+left-new zero new old w = refl
+left-new (suc n) new old w = absurd (omega arith)
+
+pub left-old : (n : ℕ) (new old : Sheet) → ¬ (n ≡ 0) → leaves n new old ≡ old
+left-old zero new old h = absurd (h refl)
+left-old (suc n) new old h = refl
 
 -- ---- a verdict
 module _ (s : Sheet) where

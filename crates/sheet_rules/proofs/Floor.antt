@@ -6,7 +6,7 @@ use native.Mathlib.Nat.{le-antisymm, le-of-lt}
 use native.Mathlib.Omega.{arith}
 use lib.Dec.{T, leb→le, le→leb, ltb→lt, eqb→eq}
 use lib.IntN.{ℤ, pos, negsuc, negℤ, _+ℤ_, _-ℤ_, _*ℤ_, one, *ℤ-one, *ℤ-comm, *ℤ-zero, zero-*ℤ, +ℤ-invr, +ℤ-idr}
-use lib.Signed.{_≤ℤ_, ltZ, leZ, ltZ-no, ≤ℤ-refl}
+use lib.Signed.{_≤ℤ_, ltZ, ltZ-no, ≤ℤ-refl}
 use borrow.Author.Tests.{eq-eqb, not-false}
 use Rattle.doubles.proofs.Loops.{both-true}
 use Rattle.sheet_rules.proofs.Bools.{neither}
@@ -14,11 +14,12 @@ use Rattle.doubles.specs.Limits.{unit}
 use Rattle.sheet_rules.specs.Sum.{_‼_, sum, dot}
 use Rattle.sheet_rules.specs.Sheet.{Plan, Sheet, True, a, c, lower, upper, lowerMark, upperMark, rhs, op, x, Y, present, holds, wrong, outside, termBy, term, lacksBy, lacks, brokenAt, outsideAt, wrongAt, termAt, lacksAt, activity, price, cost, floor, brokenRows, outsideAmounts, wrongSigns, absentNeeded}
 use Rattle.sheet_rules.specs.Verdict.{verdict}
-use Rattle.sheet_rules.specs.Words.{Keeps, IsPlan, HasFloor, VerdictSays}
+use Rattle.sheet_rules.specs.Words.{Keeps, Gapped, IsPlan, HasFloor, VerdictSays}
 use Rattle.sheet_rules.specs.declared.Verdict.{Verdict}
 use Rattle.sheet_rules.specs.declared.Verdict.the-variants.{Gap}
 use Rattle.sheet_rules.proofs.Ring.{mul-add, add-mul, mul-assoc, mul-left-comm, add-left-comm, neg-mul, mul-neg, add-le-add, mul-le-mul, mul-le-neg, neg-le-neg, sub-nonneg}
 use Rattle.sheet_rules.proofs.Sums.{sum-ext, sum-add, sum-mul, sum-swap, sum-mono, count-zero}
+use Rattle.sheet_rules.proofs.Tests.{leZ-decides}
 use Rattle.sheet_rules.proofs.Exact.{verdict-says}
 
 -- ---- the order of ℤ and its tests
@@ -116,14 +117,11 @@ one-mul : (z : ℤ) → pos 1 *ℤ z ≡ z
 unfolding one
 one-mul z = *ℤ-comm (pos 1) z ∙ *ℤ-one z
 
-le-of : (y z : ℤ) → leZ y z ≡ true → y ≤ℤ z
-le-of y z e = record { le = subst T (sym e) tt }
-
 row-holds : (o : ℕ) (r b : ℤ) → not (holds o r b) ≡ false → (o ≡ 0 → r ≤ℤ b) × (o ≡ 1 → r ≡ b) × (2 ≤ o → b ≤ℤ r)
 unfolding holds
-row-holds zero r b e = (λ _. le-of r b (not-false _ e), λ w. absurd (omega arith), λ w. absurd (omega arith))
-row-holds (suc zero) r b e = let h = both-true _ _ (not-false _ e) in (λ w. absurd (omega arith), λ _. antisym r b (le-of r b (h .0)) (le-of b r (h .1)), λ w. absurd (omega arith))
-row-holds (suc (suc o)) r b e = (λ w. absurd (omega arith), λ w. absurd (omega arith), λ _. le-of b r (not-false _ e))
+row-holds zero r b e = (λ _. leZ-decides r b .yes-so (not-false _ e), λ w. absurd (omega arith), λ w. absurd (omega arith))
+row-holds (suc zero) r b e = let h = both-true _ _ (not-false _ e) in (λ w. absurd (omega arith), λ _. antisym r b (leZ-decides r b .yes-so (h .0)) (leZ-decides b r .yes-so (h .1)), λ w. absurd (omega arith))
+row-holds (suc (suc o)) r b e = (λ w. absurd (omega arith), λ w. absurd (omega arith), λ _. leZ-decides b r .yes-so (not-false _ e))
 
 within-bounds : (z l u : ℤ) (lm um : ℕ) → outside z l u lm um ≡ false → (lm ≡ 1 → l ≤ℤ z) × (um ≡ 1 → z ≤ℤ u)
 unfolding outside
@@ -146,13 +144,7 @@ own-plan p b o = record {
     columns : (j : ℕ) → j < p .cols → (lowerMark p j ≡ 1 → lower p j ≤ℤ x p j) × (upperMark p j ≡ 1 → x p j ≤ℤ upper p j)
     columns j l = within-bounds (x p j) (lower p j) (upper p j) (lowerMark p j) (upperMark p j) (count-zero (p .cols) (outsideAt p) o j l)
 
--- ---- the gap theorem: the amounts keep every row and bound, the gap is not below 0, and no amounts z / k that keep all are cheaper than ours by more
--- than gap / 1024
-pub record Gapped (s : Sheet) (g : ℤ) : Type 0 where
-  pub plan : Keeps (s .plan) 1 (x (s .plan))
-  pub not-below : pos 0 ≤ℤ g
-  pub no-cheaper : (k : ℕ) (z : ℕ → ℤ) → Keeps (s .plan) k z → (pos unit *ℤ (pos k *ℤ cost (s .plan) (x (s .plan)) -ℤ cost (s .plan) z)) ≤ℤ (pos k *ℤ g)
-
+-- ---- the gap theorem: what a shown gap means
 cheaper : (k c b z : ℤ) → (k *ℤ b) ≤ℤ (pos unit *ℤ z) → (pos unit *ℤ (k *ℤ c -ℤ z)) ≤ℤ (k *ℤ (pos unit *ℤ c -ℤ b))
 cheaper k c b z h =
     rw (mul-add (pos unit) (k *ℤ c) (negℤ z), mul-neg (pos unit) z, mul-left-comm (pos unit) k c, mul-add k (pos unit *ℤ c) (negℤ b), mul-neg k b)

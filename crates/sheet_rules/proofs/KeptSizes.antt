@@ -1,41 +1,23 @@
 -- Opening's limits imply the kept sizes: on a true sheet within the limits no kept number is over its size, B within 2^62. Assumes nothing.
 use mathlib.Core.Path.{_≡_}
-use mathlib.Core.Bool.{Bool, true, false}
+use mathlib.Core.Bool.{Bool}
 use mathlib.Core.List.{List}
 use Prim.Native.Nat.{ℕ, _+_, _*_, _≤_, _<_}
-use native.Mathlib.Nat.{le-trans, mul-le-mul-right}
 use native.Mathlib.Omega.{arith}
 use lib.IntN.{ℤ, pos, negsuc, natAbs, _*ℤ_}
 use lib.Dec.{le→leb}
 use lib.Signed.{_≤ℤ_}
-use Rattle.doubles.specs.Limits.{maxRows, maxColumns, maxCoefficient, maxCost, maxRightSide, maxBound, maxAmount, maxMultiplier, maxR, maxC, maxB, unit}
+use Rattle.doubles.specs.Limits.{maxRows, maxColumns, maxCoefficient, maxCost, maxRightSide, maxBound, maxAmount, maxMultiplier, maxR, maxD, maxC, maxB, unit}
 use Rattle.sheet_rules.specs.Sum.{_‼_, sum, bit, count}
-use Rattle.sheet_rules.specs.Sheet.{Plan, Sheet, True, a, c, lower, upper, rhs, x, Y, termBy, term, termAt, activity, price, cost, floor, brokenRows, outsideAmounts, wrongSigns, absentNeeded}
+use Rattle.sheet_rules.specs.Sheet.{Plan, Sheet, True, a, c, lower, upper, rhs, x, Y, termAt, activity, price, cost, floor, brokenRows, outsideAmounts, wrongSigns, absentNeeded}
 use Rattle.sheet_rules.specs.Words.{Sized, Limits, Within, KeptIn, Count}
 use Rattle.sheet_rules.proofs.Sums.{count-nonneg}
 use Rattle.sheet_rules.proofs.Local.{place-in}
-use Rattle.sheet_rules.proofs.Sizes.{abs-add, mul-size, sub-size, sum-size}
-
--- a sum of at most N terms, each at most M in size
-up-to : (N M n : ℕ) (f : ℕ → ℤ) → n ≤ N → ((j : ℕ) → j < n → natAbs (f j) ≤ M) → natAbs (sum n f) ≤ N * M
-up-to N M n f l h = le-trans (sum-size M n f h) (mul-le-mul-right M l)
-
-term-size : (P Q : ℕ) (above below low high : Bool) (d l u : ℤ) → natAbs d ≤ P → natAbs l ≤ Q → natAbs u ≤ Q → natAbs (termBy above below low high d l u) ≤ P * Q
-unfolding termBy
-term-size P Q true below true high d l u f g h = mul-size d l P Q f g
-term-size P Q true below false high d l u f g h = omega arith
-term-size P Q false true low true d l u f g h = mul-size d u P Q f h
-term-size P Q false true low false d l u f g h = omega arith
-term-size P Q false false low high d l u f g h = omega arith
+use Rattle.sheet_rules.proofs.Sizes.{abs-add, mul-size, sub-size, sum-size, up-to, bit-size, term-size}
 
 counted : (n : ℕ) (t : ℕ → Bool) → Count n (count n t)
-unfolding bit
 counted n t = record { least = count-nonneg n t; most = below n (count n t) (omega (arith, sum-size 1 n (λ k. bit (t k)) (λ j _. bit-size (t j)))) }
   where
-    bit-size : (b : Bool) → natAbs (bit b) ≤ 1
-    bit-size true = omega arith
-    bit-size false = omega arith
-
     below : (n : ℕ) (z : ℤ) → natAbs z ≤ n → z ≤ℤ pos n
     below n (pos m) h = record { le = le→leb m n h }
     below n (negsuc m) h = record { le = tt }
@@ -59,17 +41,21 @@ module _ (p : Plan) (r : p .rows ≤ maxRows) (n : p .cols ≤ maxColumns) (l : 
       (mul-size (pos unit) (c p j) unit maxCost (omega arith) (l .arrays-in .costs-in j h))
       (up-to maxRows (maxCoefficient * maxMultiplier) (p .rows) (λ i. a p i j *ℤ Y p i) r (λ i k. mul-size (a p i j) (Y p i) maxCoefficient maxMultiplier (a-size i j k h) (l .arrays-in .mults-in i k)))
 
+  pub D-size : (j : ℕ) → j < p .cols → natAbs (price p j) ≤ maxD
+  unfolding maxPrice
+  D-size j h = omega (arith, price-size j h)
+
   C-size : natAbs (cost p (x p)) ≤ maxC
   unfolding cost
   C-size = up-to maxColumns (maxCost * maxAmount) (p .cols) (λ j. c p j *ℤ x p j) n (λ j h. mul-size (c p j) (x p j) maxCost maxAmount (l .arrays-in .costs-in j h) (l .arrays-in .amounts-in j h))
 
   B-size : natAbs (floor p) ≤ maxB
-  unfolding floor term maxPrice
+  unfolding floor maxPrice
   B-size = omega (
     arith,
     abs-add (sum (p .rows) (λ i. Y p i *ℤ rhs p i)) (sum (p .cols) (λ j. termAt p j (price p j))),
     up-to maxRows (maxMultiplier * maxRightSide) (p .rows) (λ i. Y p i *ℤ rhs p i) r (λ i h. mul-size (Y p i) (rhs p i) maxMultiplier maxRightSide (l .arrays-in .mults-in i h) (l .arrays-in .rights-in i h)),
-    up-to maxColumns (maxPrice * maxBound) (p .cols) (λ j. termAt p j (price p j)) n (λ j h. term-size maxPrice maxBound _ _ _ _ (price p j) (lower p j) (upper p j) (price-size j h) (l .arrays-in .lowers-in j h .small) (l .arrays-in .uppers-in j h .small)),
+    up-to maxColumns (maxPrice * maxBound) (p .cols) (λ j. termAt p j (price p j)) n (λ j h. term-size maxPrice maxBound (price p j) (lower p j) (upper p j) _ _ (price-size j h) (l .arrays-in .lowers-in j h .small) (l .arrays-in .uppers-in j h .small)),
   )
 
 -- an array of one cell
@@ -80,10 +66,10 @@ one-cell m l h k w =
 
 -- so every kept number of a true sheet keeps its size
 pub kept-in : (s : Sheet) → Sized s → Limits (s .plan) → True s → KeptIn s
-unfolding brokenRows outsideAmounts wrongSigns absentNeeded maxPrice
+unfolding brokenRows outsideAmounts wrongSigns absentNeeded
 kept-in s z l t = record {
   R-in = λ i h. rw (t .R-true i h) (R-size (s .plan) (z .rows-fit) (z .cols-fit) l i h);
-  D-in = λ j h. rw (t .D-true j h) (omega (arith, price-size (s .plan) (z .rows-fit) (z .cols-fit) l j h));
+  D-in = λ j h. rw (t .D-true j h) (D-size (s .plan) (z .rows-fit) (z .cols-fit) l j h);
   C-in = one-cell maxC (s .kept .C) (rw (t .C-true) (C-size (s .plan) (z .rows-fit) (z .cols-fit) l));
   B-in = one-cell maxB (s .kept .B) (rw (t .B-true) (B-size (s .plan) (z .rows-fit) (z .cols-fit) l));
   broken-in = rw (t .broken-true) (counted _ _);

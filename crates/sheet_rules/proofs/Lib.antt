@@ -1,7 +1,7 @@
--- What the definitions mean. The theorems, each under 01's words for it:
---     "A sheet that was opened and changed by accepted edits alone is true"          Reached    opened-and-edited, reopens
+-- What the definitions mean. Meaning has what the calls promise, and is the file to start from; demand 3 is its `demand-3`. The theorems behind it, quoted words being 01's:
+--     opening and edits leave a true sheet, which opening would leave as it is       Reached    opened-good, edit-good, opened-alike
 --     "14 is never given on a true sheet"                                            Reached    edit-never-14, verdict-never-14
---     11 to 16 and each verdict "given exactly when"                                 Exact      opening-says, -only, edit-says, -only, verdict-says, -only
+--     11 to 16 and each verdict, each exactly when its words hold                    Exact      opening-says, -only, edit-says, -only, verdict-says, -only
 --     the table of touched cells                                                     Touched    cell-stays
 --     "its cell takes the number handed in", "mark the bound present .. absent"      Touched    cell-takes, reader-reads
 --     the floor, and "gap .. never below 0 on a true sheet"                          Floor      floor-theorem, gap-theorem
@@ -12,6 +12,7 @@ pub mod Bools
 pub mod Ring
 pub mod Sums
 pub mod Sizes
+pub mod Fronts
 pub mod Local
 pub mod Takes
 pub mod Tests
@@ -25,3 +26,4 @@ pub mod Moves
 pub mod After
 pub mod Floor
 pub mod Settled
+pub mod Meaning

@@ -1,6 +1,6 @@
 -- The moved numbers of each kind, as the code reckons them: by the difference of the new and the old number, and of one column or one row where no other
 -- changes. What a kind doesn't touch is in Touched.antt. Assumes nothing.
-use mathlib.Core.Path.{_≡_, refl, sym, ap, ap₂, _∙_}
+use mathlib.Core.Path.{_≡_, refl, ap, ap₂, _∙_}
 use mathlib.Core.Bool.{Bool, true, false, _&&_, _||_}
 use Prim.Native.Nat.{ℕ, _<_}
 use lib.Dec.{eqb}
@@ -13,18 +13,11 @@ use Rattle.sheet_rules.specs.Edit.{put, edited, movedR, movedD}
 use Rattle.sheet_rules.specs.Touches.{R, D, touches}
 use Rattle.sheet_rules.specs.Words.{Sized, Index, Takes}
 use Rattle.sheet_rules.specs.declared.Edit.{Edit}
-use Rattle.sheet_rules.proofs.Ring.{mul-add, add-mul, mul-neg, neg-mul, ring}
+use Rattle.sheet_rules.proofs.Ring.{times-change, change-times, ring}
 use Rattle.sheet_rules.proofs.Sums.{change-one}
 use Rattle.sheet_rules.proofs.Local.{lower-still, upper-still, lowerMark-still, upperMark-still, rhs-still}
 use Rattle.sheet_rules.proofs.Takes.{takes}
 use Rattle.sheet_rules.proofs.Touched.{R-still, D-still}
-
--- a * v - a * u, and v * a - u * a
-times-change : (y v u : ℤ) → y *ℤ v -ℤ y *ℤ u ≡ y *ℤ (v -ℤ u)
-times-change y v u = sym (mul-add y v (negℤ u) ∙ ap (λ (z : ℤ). y *ℤ v +ℤ z) (mul-neg y u))
-
-change-times : (y v u : ℤ) → v *ℤ y -ℤ u *ℤ y ≡ (v -ℤ u) *ℤ y
-change-times y v u = sym (add-mul v (negℤ u) y ∙ ap (λ (z : ℤ). v *ℤ y +ℤ z) (neg-mul u y))
 
 -- (v - t) - (u - t), and (y - v) - (y - u)
 without : (v u t : ℤ) → v -ℤ t -ℤ (u -ℤ t) ≡ v -ℤ u

@@ -1,63 +1,119 @@
--- A sheet that was opened and changed by accepted edits alone is true, and 14 is never given on it. Assumes nothing.
-use mathlib.Core.Path.{_≡_, refl}
+-- Opening and every edit leave a true sheet within its limits, and 14 is never given on such a sheet. Assumes nothing.
+use mathlib.Core.Path.{_≡_, refl, _∙_}
 use mathlib.Core.List.{List, [], _∷_}
-use Prim.Native.Nat.{ℕ, zero, suc}
+use Prim.Native.Nat.{ℕ, zero, suc, _<_}
 use native.Mathlib.Omega.{arith}
-use Rattle.doubles.specs.Loop.{each}
+use lib.IntN.{ℤ}
+use Rattle.doubles.specs.Loop.{table}
 use Rattle.doubles.specs.Lists.{over}
 use Rattle.doubles.proofs.Loops.{length-tab}
-use Rattle.sheet_rules.specs.Sheet.{Sheet, activity, price, x, fresh, overKept}
+use Rattle.sheet_rules.specs.Sum.{_‼_}
+use Rattle.sheet_rules.specs.Sheet.{Sheet, True, keptOf, sheetOf, activity, price, x, cost, floor, brokenRows, outsideAmounts, wrongSigns, absentNeeded, fresh, overKept}
 use Rattle.sheet_rules.specs.Opening.{leaves, opening, opened}
-use Rattle.sheet_rules.specs.Edit.{edited, applied, editRefusal, edit, editAll}
+use Rattle.sheet_rules.specs.Edit.{edited, applied, editRefusal, edit}
 use Rattle.sheet_rules.specs.Verdict.{verdict}
-use Rattle.sheet_rules.specs.Words.{Good, Crossing, WouldCross, Sized, Limits, Index, NumberIn, Sound, Placed, OpeningSays, EditSays, VerdictSays}
+use Rattle.sheet_rules.specs.Words.{Good, Openable, Crossing, Sized, Limits, Index, NumberIn, Sound, OpeningSays, EditSays, VerdictSays}
 use Rattle.sheet_rules.specs.declared.Edit.{Edit}
 use Rattle.sheet_rules.specs.declared.Verdict.{Verdict}
 use Rattle.sheet_rules.specs.declared.Verdict.the-variants.{Refused}
 use Rattle.sheet_rules.proofs.Local.{place-in}
 use Rattle.sheet_rules.proofs.Stays.{over-sized, applied-sized, edited-limits, edited-uncrossed}
-use Rattle.sheet_rules.proofs.Exact.{opening-says, opening-only, edit-says, accepted-so, verdict-says}
+use Rattle.sheet_rules.proofs.Exact.{opening-only, opening-so, edit-says, edit-so, verdict-says, left-new}
 use Rattle.sheet_rules.proofs.KeptSizes.{kept-in}
-use Rattle.sheet_rules.proofs.TrueSheet.{front, applied-true}
+use Rattle.sheet_rules.proofs.Fronts.{front, over-there, front-there}
+use Rattle.sheet_rules.proofs.TrueSheet.{applied-true}
 
 -- ---- opening and edits
-opened-accepted : (s : Sheet) {n : ℕ} → OpeningSays s n → n ≡ 0 → Sized s × Limits (s .plan) × (¬ Crossing (s .plan))
-opened-accepted s (OpeningSays.size h) w = absurd (omega arith)
-opened-accepted s (OpeningSays.number z h) w = absurd (omega arith)
-opened-accepted s (OpeningSays.crossed z l h) w = absurd (omega arith)
-opened-accepted s (OpeningSays.accepted z l h) w = (z, l, h)
-
-pub opened-good : (s : Sheet) → opening s ≡ 0 → Good (opened s)
+pub opened-good : (s : Sheet) → opening s ≡ 0 → Openable (opened s)
 unfolding opened fresh overKept
 opened-good s o = rw o (record {
-  sized = over-sized (s .plan) (fresh (s .plan)) (s .kept) (length-tab (s .plan .rows) 0 _, length-tab (s .plan .cols) 0 _, refl, refl, refl) (w .0);
-  limits = w .1;
-  uncrossed = w .2;
-  true-sheet = record {
-    R-true = λ i l. front (s .plan .rows) (activity (s .plan) (x (s .plan))) (s .kept .R) i l;
-    D-true = λ j l. front (s .plan .cols) (price (s .plan)) (s .kept .D) j l;
-    C-true = refl;
-    B-true = refl;
-    broken-true = refl;
-    outside-true = refl;
-    wrong-true = refl;
-    absent-true = refl;
+  good = record {
+    sized = over-sized (s .plan) (fresh (s .plan)) (s .kept) (length-tab (s .plan .rows) 0 _, length-tab (s .plan .cols) 0 _, refl, refl, refl) (w .0);
+    limits = w .1;
+    true-sheet = record {
+      R-true = λ i l. front (s .plan .rows) (activity (s .plan) (x (s .plan))) (s .kept .R) i l;
+      D-true = λ j l. front (s .plan .cols) (price (s .plan)) (s .kept .D) j l;
+      C-true = refl;
+      B-true = refl;
+      broken-true = refl;
+      outside-true = refl;
+      wrong-true = refl;
+      absent-true = refl;
+    };
   };
+  uncrossed = w .2;
 })
   where
     w : Sized s × Limits (s .plan) × (¬ Crossing (s .plan))
-    w = opened-accepted s (opening-says s) o
+    w = opening-so s o
 
-applied-good : (s : Sheet) (e : Edit) → Placed s e → NumberIn e → ¬ WouldCross (s .plan) e → Good s → Good (applied s e)
+applied-good : (s : Sheet) (e : Edit) → Index (s .plan) e → NumberIn e → Good s → Good (applied s e)
 unfolding applied
-applied-good s e w n c g = record {
+applied-good s e i n g = record {
   sized = applied-sized s e (g .sized);
   limits = edited-limits s e (g .sized) n (g .limits);
-  uncrossed = edited-uncrossed s e (g .sized) (w .index) c (g .uncrossed);
-  true-sheet = applied-true s e (w .index) (g .true-sheet);
+  true-sheet = applied-true s e i (g .true-sheet);
 }
 
-pub good-sound : (s : Sheet) (e : Edit) → Index (s .plan) e → Good s → Sound e s
+pub edit-good : (s : Sheet) (e : Edit) → Openable s → Openable (edit s e)
+unfolding edit applied
+edit-good s e o = at (editRefusal s e) refl
+  where
+    at : (n : ℕ) → editRefusal s e ≡ n → Openable (leaves n (applied s e) s)
+    at zero w =
+        let h = edit-so s e w in
+        let i = h .0 .index in
+        record { good = applied-good s e i (h .1) (o .good); uncrossed = edited-uncrossed s e (o .good .sized) i (h .2) (o .uncrossed) }
+    at (suc n) w = o
+
+-- opening would accept it again
+pub reopens : (s : Sheet) → Openable s → opening s ≡ 0
+reopens s o = opening-only s (OpeningSays.accepted (o .good .sized) (o .good .limits) (o .uncrossed))
+
+-- the kept numbers of a true sheet are those worked out afresh, written over their arrays: no cell differs
+pub good-afresh : (s : Sheet) → Good s → overKept (fresh (s .plan)) (s .kept) ≡ s .kept
+unfolding overKept fresh
+good-afresh s g = λ i. keptOf (r i) (d i) (c i) (b i) (n i)
+  where
+    t : True s
+    t = g .true-sheet
+
+    r : over (table (s .plan .rows) (activity (s .plan) (x (s .plan)))) (s .kept .R) ≡ s .kept .R
+    r = front-there (s .plan .rows) (activity (s .plan) (x (s .plan))) (s .kept .R) (g .sized .R-fits) (t .R-true)
+
+    d : over (table (s .plan .cols) (price (s .plan))) (s .kept .D) ≡ s .kept .D
+    d = front-there (s .plan .cols) (price (s .plan)) (s .kept .D) (g .sized .D-fits) (t .D-true)
+
+    one : (v : ℤ) (l : List ℤ) → l ‼ 0 ≡ v → (k : ℕ) → k < 1 → l ‼ k ≡ (v ∷ []) ‼ k
+    one v l e zero h = e
+    one v l e (suc k) h = absurd (omega arith)
+
+    c : over (cost (s .plan) (x (s .plan)) ∷ []) (s .kept .C) ≡ s .kept .C
+    c = over-there (cost (s .plan) (x (s .plan)) ∷ []) (s .kept .C) (g .sized .C-fits) (one (cost (s .plan) (x (s .plan))) (s .kept .C) (t .C-true))
+
+    b : over (floor (s .plan) ∷ []) (s .kept .B) ≡ s .kept .B
+    b = over-there (floor (s .plan) ∷ []) (s .kept .B) (g .sized .B-fits) (one (floor (s .plan)) (s .kept .B) (t .B-true))
+
+    counts : List ℤ
+    counts = brokenRows (s .plan) ∷ outsideAmounts (s .plan) ∷ wrongSigns (s .plan) ∷ absentNeeded (s .plan) ∷ []
+
+    four : (k : ℕ) → k < 4 → s .kept .counts ‼ k ≡ counts ‼ k
+    four zero h = t .broken-true
+    four (suc zero) h = t .outside-true
+    four (suc (suc zero)) h = t .wrong-true
+    four (suc (suc (suc zero))) h = t .absent-true
+    four (suc (suc (suc (suc k)))) h = absurd (omega arith)
+
+    n : over counts (s .kept .counts) ≡ s .kept .counts
+    n = over-there counts (s .kept .counts) (g .sized .counts-fit) four
+
+-- so opening it leaves every cell
+pub opened-alike : (s : Sheet) → Openable s → opened s ≡ s
+unfolding opened
+opened-alike s o = left-new _ _ s (reopens s o) ∙ (λ i. sheetOf (s .plan) (good-afresh s (o .good) i))
+
+-- ---- 01: "14 is never given on a true sheet"
+good-sound : (s : Sheet) (e : Edit) → Index (s .plan) e → Good s → Sound e s
 good-sound s e i g = record {
   arrays-in = g .limits .arrays-in;
   column-in = λ u k h. g .limits .coefs-in _ (place-in k (s .plan .rows) (e .column) (s .plan .cols) h (i .column-in u));
@@ -65,28 +121,6 @@ good-sound s e i g = record {
   kept-in = kept-in s (g .sized) (g .limits) (g .true-sheet);
 }
 
-edit-good : (s : Sheet) (e : Edit) → Good s → Good (edit s e)
-unfolding edit
-edit-good s e g = at (editRefusal s e) refl
-  where
-    at : (n : ℕ) → editRefusal s e ≡ n → Good (leaves n (applied s e) s)
-    at zero w = let h = accepted-so s e w in applied-good s e (h .0) (h .1) (h .2) g
-    at (suc n) w = g
-
-edits-good : (es : List Edit) (s : Sheet) → Good s → Good (editAll es s)
-unfolding each
-edits-good [] s g = g
-edits-good (e ∷ es) s g = edits-good es (edit s e) (edit-good s e g)
-
--- ---- 01: a sheet that was opened and changed by accepted edits alone is true: each kept number equals the fresh one. A refused edit is no edit
-pub opened-and-edited : (s : Sheet) → opening s ≡ 0 → (es : List Edit) → Good (editAll es (opened s))
-opened-and-edited s o es = edits-good es (opened s) (opened-good s o)
-
--- opening would accept it again
-pub reopens : (s : Sheet) → Good s → opening s ≡ 0
-reopens s g = opening-only s (OpeningSays.accepted (g .sized) (g .limits) (g .uncrossed))
-
--- ---- 01: "14 is never given on a true sheet"
 same-index : (s : Sheet) (e : Edit) → Index (s .plan) e → Index ((applied s e) .plan) e
 unfolding applied edited
 same-index s e i = record { column-in = i .column-in; row-in = i .row-in }
@@ -97,7 +131,7 @@ edit-broken s e (EditSays.later h k) w g = omega arith
 edit-broken s e (EditSays.size h k) w g = omega arith
 edit-broken s e (EditSays.number h k) w g = omega arith
 edit-broken s e (EditSays.crossed h n k) w g = omega arith
-edit-broken s e (EditSays.broken h n c k) w g = k (good-sound s e (h .index) g, good-sound (applied s e) e (same-index s e (h .index)) (applied-good s e h n c g))
+edit-broken s e (EditSays.broken h n c k) w g = k (good-sound s e (h .index) g, good-sound (applied s e) e (same-index s e (h .index)) (applied-good s e (h .index) n g))
 edit-broken s e (EditSays.accepted h n c k m) w g = omega arith
 
 pub edit-never-14 : (s : Sheet) (e : Edit) → Good s → editRefusal s e ≡ 14 → ⊥

@@ -74,6 +74,13 @@ mul-assoc a b c = ind (λ (z : ℤ). (z *ℤ b) *ℤ c ≡ z *ℤ (b *ℤ c)) ba
     down : (z : ℤ) → (z *ℤ b) *ℤ c ≡ z *ℤ (b *ℤ c) → (predℤ z *ℤ b) *ℤ c ≡ predℤ z *ℤ (b *ℤ c)
     down z h = simp (predℤ-*ℤ, add-mul, neg-mul, h)
 
+-- a * v - a * u, and v * a - u * a
+pub times-change : (a v u : ℤ) → a *ℤ v -ℤ a *ℤ u ≡ a *ℤ (v -ℤ u)
+times-change a v u = sym (mul-add a v (negℤ u) ∙ ap (λ (z : ℤ). a *ℤ v +ℤ z) (mul-neg a u))
+
+pub change-times : (a v u : ℤ) → v *ℤ a -ℤ u *ℤ a ≡ (v -ℤ u) *ℤ a
+change-times a v u = sym (add-mul v (negℤ u) a ∙ ap (λ (z : ℤ). v *ℤ a +ℤ z) (neg-mul u a))
+
 pub mul-left-comm : (a b c : ℤ) → a *ℤ (b *ℤ c) ≡ b *ℤ (a *ℤ c)
 mul-left-comm a b c = sym (mul-assoc a b c) ∙ ap (λ (x : ℤ). x *ℤ c) (*ℤ-comm a b) ∙ mul-assoc b a c
 

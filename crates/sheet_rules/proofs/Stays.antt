@@ -6,12 +6,12 @@ use mathlib.Core.List.{List, [], _∷_}
 use Prim.Native.Nat.{ℕ, zero, suc, _≤_, _<_}
 use native.Mathlib.Omega.{arith}
 use lib.Dec.{eqb}
-use lib.ListN.{length, getD, set, length-set, length-append, length-drop}
+use lib.ListN.{length, getD, set, length-set}
 use lib.Seq.{getD-set-same}
 use lib.IntN.{ℤ, pos, natAbs}
 use borrow.Author.Tests.{eqb-true, eqb-false}
 use Rattle.doubles.specs.Limits.{maxCoefficient, maxBound}
-use Rattle.doubles.specs.Lists.{_#_, over}
+use Rattle.doubles.specs.Lists.{_#_}
 use Rattle.doubles.proofs.Loops.{length-tab}
 use Rattle.doubles.proofs.Bools.{by-test}
 use Rattle.sheet_rules.specs.Sum.{_‼_}
@@ -19,18 +19,16 @@ use Rattle.sheet_rules.specs.Sheet.{Plan, Kept, Sheet, sheetOf, overKept
 use Rattle.sheet_rules.specs.Edit.{put, edited, moved, applied, movedR, movedD}
 use Rattle.sheet_rules.specs.Words.{Sized, Bound, Arrays, Limits, Crossed, Crossing, Index, NumberIn, WouldCross}
 use Rattle.sheet_rules.specs.declared.Edit.{Edit}
+use Rattle.sheet_rules.proofs.Fronts.{over-length}
 use Rattle.sheet_rules.proofs.Takes.{takes}
 use Rattle.sheet_rules.proofs.Tests.{crosses-so}
 use Rattle.sheet_rules.proofs.Local.{put-other, lower-still, upper-still, lowerMark-still, upperMark-still}
 
 -- ---- lengths stay
-put-length : {A : Type 0} (b : Bool) (i : ℕ) (v : A) (l : List A) → length (put b i v l) ≡ length l
+pub put-length : {A : Type 0} (b : Bool) (i : ℕ) (v : A) (l : List A) → length (put b i v l) ≡ length l
 unfolding put
 put-length true i v l = length-set l i v
 put-length false i v l = refl
-
-over-length : {A : Type 0} (f l : List A) → length f ≤ length l → length (over f l) ≡ length l
-over-length f l h = simp (length-append, length-drop) (omega arith)
 
 -- kept numbers written over those of a sheet
 pub over-sized : (p : Plan) (f k : Kept) → (length (f .R) ≡ p .rows) × (length (f .D) ≡ p .cols) × (length (f .C) ≡ 1) × (length (f .B) ≡ 1) × (length (f .counts) ≡ 4) → Sized (sheetOf p k) → Sized (sheetOf p (overKept f k))

@@ -12,7 +12,7 @@ use lib.Signed.{_≤ℤ_, _<ℤ_, leZ, ltZ}
 use borrow.Author.Tests.{leb-true, le-leb, ltb-true, lt-ltb, eqb-true, eq-eqb, not-false}
 use Rattle.doubles.specs.Limits.{maxRows, maxColumns, maxCoefficient, maxBound}
 use Rattle.doubles.specs.Loop.{all}
-use Rattle.doubles.proofs.Loops.{both-true, all-at, all-by}
+use Rattle.doubles.proofs.Loops.{both-true, all-at, all-by, all-missed}
 use Rattle.sheet_rules.specs.Sum.{_‼_}
 use Rattle.sheet_rules.specs.Sheet.{Plan, Sheet, a, lower, upper, lowerMark, upperMark, op}
 use Rattle.sheet_rules.specs.Opening.{sizesFine, within, allWithin, boundFine, boundsFine, opsFine, arraysFine, numbersFine, crosses, crossesAt, uncrossed}
@@ -62,17 +62,6 @@ not-decides false d = record { yes-so = λ _. no-so d refl; so-yes = λ _. refl 
 
 pub all-decides : (n : ℕ) (t : ℕ → Bool) {P : ℕ → Type 0} → ((k : ℕ) → Decides (t k) (P k)) → Decides (all n t) ((k : ℕ) → k < n → P k)
 all-decides n t d = record { yes-so = λ e k l. d k .yes-so (all-at t n e k l); so-yes = λ h. all-by t n (λ k l. d k .so-yes (h k l)) }
-
--- one that fails
-all-found : (n : ℕ) (t : ℕ → Bool) → all n t ≡ false → (k : ℕ) × (k < n) × (t k ≡ false)
-unfolding all
-all-found zero t e = unlike (sym e)
-all-found (suc n) t e = at (all n t) (t n) refl refl e (all-found n t)
-  where
-    at : (b d : Bool) → all n t ≡ b → t n ≡ d → (b && d) ≡ false → (all n t ≡ false → (k : ℕ) × (k < n) × (t k ≡ false)) → (k : ℕ) × (k < suc n) × (t k ≡ false)
-    at true true p q w ih = unlike (sym w)
-    at true false p q w ih = (n, omega arith, q)
-    at false d p q w ih = let r = ih p in (r .0, omega (arith, r .1), r .2)
 
 -- the same test, in other words
 pub in-words : {b : Bool} {P Q : Type 0} → Decides b P → (P → Q) → (Q → P) → Decides b Q
@@ -189,7 +178,7 @@ true-T false e = unlike e
 ltZ-decides : (y z : ℤ) → Decides (ltZ y z) (y <ℤ z)
 ltZ-decides y z = record { yes-so = λ e. record { lt = true-T (ltZ y z) e }; so-yes = λ h. T-true (ltZ y z) (h .lt) }
 
-leZ-decides : (y z : ℤ) → Decides (leZ y z) (y ≤ℤ z)
+pub leZ-decides : (y z : ℤ) → Decides (leZ y z) (y ≤ℤ z)
 leZ-decides y z = record { yes-so = λ e. record { le = true-T (leZ y z) e }; so-yes = λ h. T-true (leZ y z) (h .le) }
 
 crossed-decides : (p : Plan) (j : ℕ) → Decides (crossesAt p j) (Crossed p j)
@@ -206,7 +195,7 @@ uncrossed-decides p =
 
 pub crossing-found : (p : Plan) → uncrossed p ≡ false → Crossing p
 unfolding uncrossed
-crossing-found p e = let r = all-found (p .cols) _ e in (r .0, r .1, crossed-decides p (r .0) .yes-so (not-false _ (r .2)))
+crossing-found p e = let r = all-missed _ (p .cols) e in (r .0, r .1, crossed-decides p (r .0) .yes-so (not-false _ (r .3)))
 
 -- ---- the kept sizes
 pub count-decides : (n : ℕ) (z : ℤ) → Decides (countFine n z) (Count n z)
@@ -234,7 +223,7 @@ zero-decides (pos (suc n)) = record { yes-so = λ e. unlike e; so-yes = λ h. ab
 zero-decides (negsuc n) = record { yes-so = λ e. unlike e; so-yes = λ h. absurd (omega (arith, ap natAbs h)) }
 
 -- ---- an edit
--- the kinds 1 to 9: "1, 2, 3, 4, 8, 9 a column; 5, 7 a row; 6 both"
+-- of the kinds 1 to 9 all but 5 and 7 use a column; 5, 6 and 7 use a row
 pub column-kinds : map usesColumn (1 ∷ 2 ∷ 3 ∷ 4 ∷ 5 ∷ 6 ∷ 7 ∷ 8 ∷ 9 ∷ []) ≡ true ∷ true ∷ true ∷ true ∷ false ∷ true ∷ false ∷ true ∷ true ∷ []
 column-kinds = refl
 

@@ -3,11 +3,10 @@ use mathlib.Core.Path.{_≡_, refl, sym, ap, ap₂, _∙_}
 use mathlib.Core.Logic.{_⊎_, inl, inr, ⊎-elim}
 use mathlib.Core.Bool.{Bool, true, false, not, _&&_, _||_}
 use mathlib.Core.List.{List, [], _∷_}
-use Prim.Native.Nat.{ℕ, zero, suc, _+_, _-_, _≤_, _<_}
+use Prim.Native.Nat.{ℕ, zero, suc, _≤_, _<_}
 use native.Mathlib.Omega.{arith}
 use lib.Dec.{eqb, ltb}
-use lib.ListN.{length, getD, drop}
-use lib.Seq.{getD-append-add, getD-drop}
+use lib.ListN.{getD}
 use lib.IntN.{ℤ, pos, _+ℤ_, _-ℤ_, _*ℤ_, +ℤ-invr, +ℤ-idr, zero-*ℤ}
 use borrow.Author.Tests.{eqb-true, eqb-false, ltb-true, ltb-false, lt-ltb, not-false}
 use Rattle.doubles.specs.Limits.{unit}
@@ -27,9 +26,9 @@ use Rattle.sheet_rules.proofs.Sums.{change-none}
 use Rattle.sheet_rules.proofs.Bools.{both-not, neither, none-of, all-three}
 use Rattle.sheet_rules.proofs.Local.{put-other, column-used, a-column, a-row, c-still}
 use Rattle.sheet_rules.proofs.Tests.{zero-decides}
-use Rattle.sheet_rules.proofs.Exact.{accepted-so}
+use Rattle.sheet_rules.proofs.Exact.{edit-so}
 use Rattle.sheet_rules.proofs.Takes.{takes}
-use Rattle.sheet_rules.proofs.TrueSheet.{front}
+use Rattle.sheet_rules.proofs.Fronts.{front, past}
 
 -- a number that moves by no change
 still : (k y z : ℤ) → y ≡ z → k +ℤ (y -ℤ z) ≡ k
@@ -148,12 +147,6 @@ module _ (s : Sheet) (e : Edit) (ok : Index (s .plan) e) where
       ∙ +ℤ-idr (s .kept .counts ‼ 3)
 
 -- ---- what an array of kept numbers reads
-past : (f l : List ℤ) (k : ℕ) → length f ≤ k → over f l ‼ k ≡ l ‼ k
-past f l k h =
-    let n : ℕ = k - length f in
-    let e : k ≡ length f + n = omega arith in
-    rw e (getD-append-add f (drop (length f) l) n (pos 0) ∙ getD-drop (length f) l n (pos 0))
-
 kept-at : (n : ℕ) (f : ℕ → ℤ) (l : List ℤ) (k : ℕ) → (k < n → f k ≡ l ‼ k) → over (table n f) l ‼ k ≡ l ‼ k
 kept-at n f l k h = by-test (ltb k n) (λ w. front n f l k (ltb-true k n w) ∙ h (ltb-true k n w)) (λ w. past (table n f) l k (rw (length-tab n 0 f) (ltb-false k n w)))
 
@@ -198,20 +191,20 @@ unfolding edit
 cell-stays s e z t = at (editRefusal s e) refl
   where
     at : (n : ℕ) → editRefusal s e ≡ n → read (leaves n (applied s e) s) z ≡ read s z
-    at zero w = untouched s e (accepted-so s e w .0 .index) z t
+    at zero w = untouched s e (edit-so s e w .0 .index) z t
     at (suc n) w = refl
 
 -- ---- an accepted edit's cell takes the number handed in, and its mark
 pub cell-takes : (s : Sheet) (e : Edit) → editRefusal s e ≡ 0 → Takes e ((edit s e) .plan)
 unfolding edit applied
-cell-takes s e w = let h = accepted-so s e w .0 in rw w (takes s e (h .sized) (h .index))
+cell-takes s e w = let h = edit-so s e w .0 in rw w (takes s e (h .sized) (h .index))
 
 -- ---- the reader of the edited cell reads what the edit wrote
 pub reader-reads : (s : Sheet) (e : Edit) → editRefusal s e ≡ 0
     → (e .kind ≤ 7 → (oldNumber ((edit s e) .plan) e ≡ e .number) × (oldMark ((edit s e) .plan) e ≡ 1))
     × (8 ≤ e .kind → (oldNumber ((edit s e) .plan) e ≡ pos 0) × (oldMark ((edit s e) .plan) e ≡ 0))
 unfolding oldNumber oldMark
-reader-reads s e w = at (cell-takes s e w) (accepted-so s e w .0 .today) (e .kind) refl
+reader-reads s e w = at (cell-takes s e w) (edit-so s e w .0 .today) (e .kind) refl
   where
     at : {q : Plan} → Takes e q → Today e → (k : ℕ) → e .kind ≡ k → (e .kind ≤ 7 → (oldNumber q e ≡ e .number) × (oldMark q e ≡ 1)) × (8 ≤ e .kind → (oldNumber q e ≡ pos 0) × (oldMark q e ≡ 0))
     at t y zero k = absurd (omega (arith, y .first))

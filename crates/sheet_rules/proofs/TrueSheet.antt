@@ -1,14 +1,9 @@
 -- A true sheet stays true. Assumes nothing.
 use mathlib.Core.Path.{_≡_, ap, ap₂, _∙_}
 use mathlib.Core.Logic.{inl, inr, ⊎-elim}
-use mathlib.Core.List.{List}
 use Prim.Native.Nat.{ℕ, _<_}
-use lib.ListN.{length, drop, List·getD-append}
 use lib.IntN.{ℤ, pos, _+ℤ_, _-ℤ_, _*ℤ_, +ℤ-assoc}
 use Rattle.doubles.specs.Limits.{unit}
-use Rattle.doubles.specs.Loop.{table}
-use Rattle.doubles.specs.Lists.{over}
-use Rattle.doubles.proofs.Loops.{length-tab, getD-table}
 use Rattle.sheet_rules.specs.Sum.{_‼_, sum, dot, bit}
 use Rattle.sheet_rules.specs.Sheet.{Plan, Sheet, True, a, c, rhs, x, Y, brokenAt, outsideAt, wrongAt, termAt, lacksAt, activity, price, cost, floor, brokenRows, outsideAmounts, wrongSigns, absentNeeded, overKept}
 use Rattle.sheet_rules.specs.Edit.{put, edited, movedR, movedD, movedC, movedB, movedBroken, movedOutside, movedWrong, movedAbsent, moved, applied}
@@ -16,6 +11,7 @@ use Rattle.sheet_rules.specs.Words.{Index}
 use Rattle.sheet_rules.specs.declared.Edit.{Edit}
 use Rattle.sheet_rules.proofs.Ring.{ring, add-left-comm}
 use Rattle.sheet_rules.proofs.Sums.{moved-to, sum-moves-by, sum-local}
+use Rattle.sheet_rules.proofs.Fronts.{front}
 use Rattle.sheet_rules.proofs.Local.{column-used, row-used, a-column, a-row, c-still, x-still, lower-still, upper-still, lowerMark-still, upperMark-still, rhs-still, Y-still}
 
 -- (p - u) + ((q - w) - (p - v)) = q - (u + (w - v))
@@ -27,10 +23,6 @@ price-moves p q u v w = regroup ∙ ap (λ (z : ℤ). z -ℤ (u +ℤ (w -ℤ v))
 
 parts : (a b d f : ℤ) → a +ℤ b +ℤ d +ℤ f ≡ a +ℤ d +ℤ (b +ℤ f)
 parts a b d f = simp (+ℤ-assoc, add-left-comm)
-
--- what was written over the front of an array
-pub front : (n : ℕ) (f : ℕ → ℤ) (l : List ℤ) (i : ℕ) → i < n → over (table n f) l ‼ i ≡ f i
-front n f l i h = List·getD-append (table n f) (drop (length (table n f)) l) (pos 0) i (rw (length-tab n 0 f) h) ∙ getD-table n f (pos 0) i h
 
 module _ (s : Sheet) (e : Edit) (ok : Index (s .plan) e) (t : True s) where
   abbrev p : Plan

@@ -5,12 +5,12 @@ use Prim.Native.Nat.{ℕ, _+_, _*_}
 use lib.Dec.{leb, ltb, eqb}
 use lib.ListN.{getD, set}
 use lib.IntN.{ℤ, pos, _+ℤ_, _-ℤ_, _*ℤ_}
-use Rattle.doubles.specs.Limits.{maxCoefficient, maxCost, maxRightSide, maxBound, maxAmount, maxMultiplier, unit}
-use Rattle.doubles.specs.Loop.{all, table, each}
+use Rattle.doubles.specs.Limits.{maxCoefficient, maxCost, maxRightSide, maxBound, maxAmount, maxMultiplier, maxR, maxD, maxC, maxB, unit}
+use Rattle.doubles.specs.Loop.{all, table}
 use Rattle.sheet_rules.specs.Sum.{_‼_, sum, bit}
 use Rattle.sheet_rules.specs.Sheet.{Plan, Kept, Sheet, planOf, keptOf, sheetOf, a, c, lower, upper, lowerMark, upperMark, rhs, x, Y, brokenAt, outsideAt, wrongAt, termAt, lacksAt, overKept}
 use Rattle.sheet_rules.specs.Opening.{Test, _unless_, firstFailed, leaves, sizesFine, within, arraysFine, crossesAt}
-use Rattle.sheet_rules.specs.Verdict.{keptFine}
+use Rattle.sheet_rules.specs.Verdict.{countFine, keptFine}
 use Rattle.sheet_rules.specs.declared.Edit.{Edit}
 
 -- ---- the edited cell
@@ -38,7 +38,7 @@ edited p e =
     (put (eqb k 1) j z (p .amounts))
     (put (eqb k 7) i z (p .mults))
 
--- the edited cell's old number and mark; a cell that isn't a bound counts as present
+-- the edited cell's old number and mark, for the journal of 02 (Ask 12); a cell that isn't a bound counts as present
 unfoldable pub oldNumber : Plan → Edit → ℤ
 oldNumber p e =
     let i = e .row in
@@ -117,7 +117,8 @@ kindLimit k = getD (0 ∷ maxAmount ∷ maxCost ∷ maxBound ∷ maxBound ∷ ma
 unfoldable pub numberFine : Edit → Bool
 numberFine e = leb 8 (e .kind) || within (kindLimit (e .kind)) (e .number)
 
--- 13: "two present bounds would cross", for kinds 3 and 4, on that column alone
+-- 13: "two present bounds would cross". Read as: kinds 3 and 4 alone bring a bound, so 13 looks at these kinds and at that column alone; what crosses in another
+-- column is not this edit's
 unfoldable pub bothFine : Plan → Edit → Bool
 bothFine p e = not ((eqb (e .kind) 3 || eqb (e .kind) 4) && crossesAt (edited p e) (e .column))
 
@@ -130,6 +131,14 @@ rowFine p i = all (p .cols) (λ j. within maxCoefficient (a p i j))
 
 unfoldable pub soundAt : Edit → Sheet → Bool
 soundAt e s = arraysFine (s .plan) && (not (usesColumn (e .kind)) || columnFine (s .plan) (e .column)) && (not (usesRow (e .kind)) || rowFine (s .plan) (e .row)) && keptFine s
+
+-- 14 after an edit that all else lets pass: the plan's own numbers keep their limits then, and the moved ones are left to test
+unfoldable pub movedFine : Sheet → Edit → Bool
+movedFine s e =
+    let m = s .plan .rows in
+    let n = s .plan .cols in
+    all m (λ i. within maxR (movedR s e i)) && all n (λ j. within maxD (movedD s e j)) && within maxC (movedC s e) && within maxB (movedB s e)
+    && countFine m (movedBroken s e) && countFine n (movedOutside s e) && countFine m (movedWrong s e) && countFine n (movedAbsent s e)
 
 -- ---- the answer, 0 or a refusal's number, and what is lent afterwards. 01: "A refused edit changes nothing"
 abbrev pub editTests : Sheet → Edit → List Test
@@ -147,7 +156,3 @@ editRefusal s e = firstFailed (editTests s e)
 
 unfoldable pub edit : Sheet → Edit → Sheet
 edit s e = leaves (editRefusal s e) (applied s e) s
-
--- a list of edits, each on what the one before it left
-abbrev pub editAll : List Edit → Sheet → Sheet
-editAll es s = each es (λ e t. edit t e) s

@@ -7,4 +7,5 @@ pub mod Edit
 pub mod Touches
 pub mod Words
 pub mod Promises
+pub mod Meaning
 pub mod Night

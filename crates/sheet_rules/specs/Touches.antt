@@ -31,7 +31,7 @@ read s (C k) = s .kept .C ‼ k
 read s (B k) = s .kept .B ‼ k
 read s (count k) = s .kept .counts ‼ k
 
--- 01's table, read by its cells: the edited number and its mark, and what is "also touched"
+-- 01's table, read by its cells: the edited number and its mark, and what stands under "Also touched"
 module _ (s : Sheet) (e : Edit) where
   abbrev is : ℕ → Bool
   is k = eqb (e .kind) k

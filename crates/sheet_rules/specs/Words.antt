@@ -9,7 +9,7 @@ use lib.IntN.{ℤ, pos, natAbs, _-ℤ_, _*ℤ_}
 use lib.Signed.{_≤ℤ_, _<ℤ_}
 use Rattle.doubles.specs.Limits.{maxRows, maxColumns, maxCoefficient, maxCost, maxRightSide, maxBound, maxAmount, maxMultiplier, maxR, maxD, maxC, maxB, unit}
 use Rattle.sheet_rules.specs.Sum.{_‼_}
-use Rattle.sheet_rules.specs.Sheet.{Plan, Kept, Sheet, True, a, c, lower, upper, lowerMark, upperMark, rhs, op, x, Y, activity}
+use Rattle.sheet_rules.specs.Sheet.{Plan, Kept, Sheet, True, a, c, lower, upper, lowerMark, upperMark, rhs, op, x, Y, activity, cost}
 use Rattle.sheet_rules.specs.Edit.{usesColumn, usesRow, applied}
 use Rattle.sheet_rules.specs.declared.Edit.{Edit}
 use Rattle.sheet_rules.specs.declared.Verdict.{Verdict}
@@ -104,7 +104,7 @@ pub record NumberIn (e : Edit) : Type 0 where
   pub coef-in : e .kind ≡ 6 → natAbs (e .number) ≤ maxCoefficient
   pub mult-in : e .kind ≡ 7 → natAbs (e .number) ≤ maxMultiplier
 
--- 01: "two present bounds would cross"
+-- 01: "two present bounds would cross": a lower bound (kind 3) or an upper one (kind 4) past that column's other bound
 pub data WouldCross (p : Plan) (e : Edit) : Type 0 where
   from-below : e .kind ≡ 3 → upperMark p (e .column) ≡ 1 → upper p (e .column) <ℤ e .number → WouldCross p e
   from-above : e .kind ≡ 4 → lowerMark p (e .column) ≡ 1 → e .number <ℤ lower p (e .column) → WouldCross p e
@@ -172,9 +172,20 @@ pub record Keeps (p : Plan) (k : ℕ) (z : ℕ → ℤ) : Type 0 where
   pub lower-kept : (j : ℕ) → j < p .cols → lowerMark p j ≡ 1 → (pos k *ℤ lower p j) ≤ℤ z j
   pub upper-kept : (j : ℕ) → j < p .cols → upperMark p j ≡ 1 → z j ≤ℤ (pos k *ℤ upper p j)
 
--- ---- a true sheet that opening would accept
+-- what demand 3 says of a shown gap g, which counts 1/1024 of a cost unit: the sheet's own amounts keep every row and bound, g isn't below 0, and no amounts z / k that
+-- keep every row and bound are cheaper than ours by more than g: k * 1024 * (cost of ours - cost of z / k) is at most k * g
+pub record Gapped (s : Sheet) (g : ℤ) : Type 0 where
+  pub plan : Keeps (s .plan) 1 (x (s .plan))
+  pub not-below : pos 0 ≤ℤ g
+  pub no-cheaper : (k : ℕ) (z : ℕ → ℤ) → Keeps (s .plan) k z → (pos unit *ℤ (pos k *ℤ cost (s .plan) (x (s .plan)) -ℤ cost (s .plan) z)) ≤ℤ (pos k *ℤ g)
+
+-- ---- a true sheet within its sizes and limits; its present bounds may cross, since no limit speaks of that
 pub record Good (s : Sheet) : Type 0 where
   pub sized : Sized s
   pub limits : Limits (s .plan)
-  pub uncrossed : ¬ Crossing (s .plan)
   pub true-sheet : True s
+
+-- one that opening would accept
+pub record Openable (s : Sheet) : Type 0 where
+  pub good : Good s
+  pub uncrossed : ¬ Crossing (s .plan)

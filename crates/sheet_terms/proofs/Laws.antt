@@ -1,25 +1,27 @@
 -- Laws that the proofs share. Assumes nothing.
 use mathlib.Core.Path.{_≡_, refl, ap, _∙_}
-use mathlib.Core.Bool.{Bool, true, false}
+use mathlib.Core.Bool.{false}
 use mathlib.Core.List.{List, [], _∷_}
 use Prim.Native.Nat.{ℕ, zero, suc, _+_, _*_, _≤_, _<_, _^_}
 use native.Mathlib.Nat.{le-antisymm}
 use native.Mathlib.Numerals.{add-one}
 use native.Mathlib.Omega.{arith}
 use lib.ListN.{length, set}
-use lib.IntN.{ℤ, pos, natAbs, _+ℤ_}
+use lib.IntN.{ℤ, pos, natAbs, _+ℤ_, _*ℤ_}
 use lib.Dec.{T, ltb, ltb→lt}
 use lib.Signed.{ltZ, leZ}
 use mir.Syntax.{w64}
 use mir.Val.{SFits}
 use mir.ValLaws.{toZ-ofZ}
+use Rattle.doubles.specs.Limits.{maxColumns}
 use Rattle.doubles.specs.Loop.{run}
 use Rattle.doubles.specs.Lists.{over}
-use Rattle.sheet_rules.specs.Sum.{sum, bit}
-use Rattle.sheet_rules.proofs.Sizes.{abs-add, mul-size}
-use Rattle.sheet_rules.specs.Sheet.{holds, wrong, present, termBy, term}
+use Rattle.sheet_rules.specs.Sum.{_‼_, sum, dot}
+use Rattle.sheet_rules.proofs.Sizes.{abs-add, mul-size, up-to}
+use Rattle.sheet_rules.specs.Sheet.{holds, wrong}
 use Rattle.sheet_rules.specs.Opening.{boundFine}
-use Rattle.sheet_terms.proofs.Machine.{word, fits, up-to}
+use Rattle.sheet_terms.specs.Small.{Small}
+use Rattle.sheet_terms.proofs.Machine.{word, fits}
 
 -- one term more of a sum, at the code's k + 1
 pub sum-next : (f : ℕ → ℤ) (k : ℕ) (r : ℤ) → r ≡ sum k f → r +ℤ f k ≡ sum (k + 1) f
@@ -41,10 +43,9 @@ turn N M n f k total t w few l small e q =
     let f-it : SFits w64 (total +ℤ t) = fits (total +ℤ t) (N * M + M) (omega (arith, abs-add total t)) (ltb→lt _ _ w) in
     record { add-fits = f-it; is = toZ-ofZ w64 (total +ℤ t) f-it ∙ ap (λ (z : ℤ). total +ℤ z) q ∙ sum-next f k total e }
 
-pub bit-size : (t : Bool) → natAbs (bit t) ≤ 1
-unfolding bit
-bit-size true = omega arith
-bit-size false = omega arith
+-- the first j of n products, of small numbers
+pub dot-small : (a b n j : ℕ) (l k : List ℤ) → n ≤ maxColumns → Small a n l → Small b n k → j ≤ n → natAbs (dot j (λ i. l ‼ i) (λ i. k ‼ i)) ≤ maxColumns * (a * b)
+dot-small a b n j l k few p q h = up-to maxColumns (a * b) j (λ i. l ‼ i *ℤ k ‼ i) (omega arith) (λ i w. mul-size (l ‼ i) (k ‼ i) a b (p .at i (omega arith)) (q .at i (omega arith)))
 
 -- a comparison that is neither Le nor Eq
 pub holds-other : (op : ℕ) (r b : ℤ) → (op ≡ 0 → ⊥) → (op ≡ 1 → ⊥) → holds op r b ≡ leZ b r
@@ -65,17 +66,6 @@ unfolding boundFine
 bound-other zero z h k = absurd (h refl)
 bound-other (suc zero) z h k = absurd (k refl)
 bound-other (suc (suc n)) z h k = refl
-
-pub term-size : (P Q : ℕ) (d l u : ℤ) (lm um : ℕ) → natAbs d ≤ P → natAbs l ≤ Q → natAbs u ≤ Q → natAbs (term d l u lm um) ≤ P * Q
-unfolding term termBy
-term-size P Q d l u lm um hd hl hu = by (ltZ (pos 0) d) (ltZ d (pos 0)) (present lm) (present um)
-  where
-    by : (above below low high : Bool) → natAbs (termBy above below low high d l u) ≤ P * Q
-    by true below true high = mul-size d l P Q hd hl
-    by true below false high = omega arith
-    by false true low true = mul-size d u P Q hd hu
-    by false true low false = omega arith
-    by false false low high = omega arith
 
 -- ---- stores at the front
 pub set-one : (l : List ℤ) (v : ℤ) → 1 ≤ length l → set l 0 v ≡ over (v ∷ []) l

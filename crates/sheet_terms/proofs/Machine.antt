@@ -13,9 +13,8 @@ use lib.Signed.{quotZ, remZ, mag}
 use mir.Syntax.{w64}
 use mir.Val.{SFits, toZ, ofZ}
 use mir.ValLaws.{toZ-ofZ}
-use native.Mathlib.Nat.{lt-of-le-of-lt, le-trans, mul-le-mul-right}
-use Rattle.sheet_rules.specs.Sum.{sum}
-use Rattle.sheet_rules.proofs.Sizes.{mul-size, sub-size, abs-add, abs-neg, sum-size}
+use native.Mathlib.Nat.{lt-of-le-of-lt}
+use Rattle.sheet_rules.proofs.Sizes.{mul-size, sub-size, abs-add, abs-neg}
 
 mag-abs : (z : ℤ) → mag z ≤ natAbs z
 mag-abs (pos n) = omega arith
@@ -24,10 +23,6 @@ mag-abs (negsuc n) = omega arith
 -- when a number fits an i64
 pub fits : (z : ℤ) (m : ℕ) → natAbs z ≤ m → m < 2 ^ 63 → SFits w64 z
 fits z m h k = record { sfits = lt-of-le-of-lt (mag-abs z) (lt-of-le-of-lt h k) }
-
--- a sum of at most N terms of size at most M
-pub up-to : (N M n : ℕ) (f : ℕ → ℤ) → n ≤ N → ((j : ℕ) → j < n → natAbs (f j) ≤ M) → natAbs (sum n f) ≤ N * M
-up-to N M n f l h = le-trans (sum-size M n f h) (mul-le-mul-right M l)
 
 -- what the machine reads back from the bits of z
 abbrev pub word : ℤ → ℤ

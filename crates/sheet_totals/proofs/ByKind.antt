@@ -5,7 +5,7 @@ use mathlib.Core.List.{List}
 use Prim.Native.Nat.{ℕ, _<_}
 use native.Mathlib.Nat.{lt-of-lt-of-le}
 use lib.Dec.{eqb}
-use lib.ListN.{getD, length, length-set}
+use lib.ListN.{getD, length}
 use lib.Seq.{getD-set-same}
 use borrow.Author.Tests.{eqb-true, lt-ltb}
 use lib.IntN.{ℤ, pos, _+ℤ_, _-ℤ_, _*ℤ_, +ℤ-invr, +ℤ-idr}
@@ -16,6 +16,7 @@ use Rattle.sheet_rules.specs.Edit.{put, edited, movedR, movedD, movedC, movedB,
 use Rattle.sheet_rules.specs.Touches.{C, count, touches}
 use Rattle.sheet_rules.specs.declared.Edit.{Edit}
 use Rattle.sheet_rules.proofs.Sums.{sum-ext, change-none}
+use Rattle.sheet_rules.proofs.Stays.{put-length}
 use Rattle.sheet_rules.proofs.Touched.{R-still, D-still, C-still, broken-still, outside-still, wrong-still, absent-still}
 use Rattle.sheet_rules.proofs.Moves.{amount-R, cost-D, coef-R, coef-D, mult-D, terms-one, lacks-one, broken-one}
 use Rattle.sheet_moves.specs.After.{Ready, totalsAfter, brokenChange, termsChange, absentChange}
@@ -36,11 +37,6 @@ put-at : {A : Type 0} (b : Bool) (j : ℕ) (v d : A) (l : List A) → j < length
 unfolding put
 put-at true j v d l h = sym (getD-set-same l j v d h)
 put-at false j v d l h = refl
-
-put-length : {A : Type 0} (b : Bool) (j : ℕ) (v : A) (l : List A) → length (put b j v l) ≡ length l
-unfolding put
-put-length true j v l = length-set l j v
-put-length false j v l = refl
 
 put-both : {A : Type 0} (b t : Bool) (j : ℕ) (v w d : A) (l : List A) → j < length l → pick b v (pick t w (getD l j d)) ≡ getD (put b j v (put t j w l)) j d
 put-both b t j v w d l h = ap (pick b v) (put-at t j w d l h) ∙ put-at b j v d (put t j w l) (rw (put-length t j w l) h)

@@ -11,9 +11,8 @@ use Rattle.doubles.specs.Limits.{maxRows, maxColumns, maxCost, maxRightSide, ma
 use Rattle.sheet_rules.specs.Sheet.{holds, wrong, outside, lacks}
 use Rattle.sheet_rules.specs.Words.{NumberIn}
 use Rattle.sheet_rules.specs.declared.Edit.{Edit}
-use Rattle.sheet_rules.proofs.Sizes.{abs-add, mul-size, sub-size}
+use Rattle.sheet_rules.proofs.Sizes.{abs-add, mul-size, sub-size, bit-size, term-size}
 use Rattle.sheet_terms.specs.Small.{farD}
-use Rattle.sheet_terms.proofs.Laws.{bit-size, term-size}
 use Rattle.sheet_terms.proofs.Machine.{E, num, add, sub, mul, word, mach, exact, size}
 use Rattle.sheet_moves.specs.declared.Totals.{Totals}
 use Rattle.sheet_totals.specs.declared.Column.{Column}

@@ -1,7 +1,8 @@
 -- `sheet::open` meets its contract. Assumes nothing.
 use mathlib.Core.Path.{refl, sym, _∙_}
 use Rattle.sheet_rules.specs.Sheet.{Sheet, planOf, keptOf, sheetOf}
-use Rattle.sheet.proofs.Laws.{opened-so, opens-new, opens-old}
+use Rattle.sheet_rules.proofs.Exact.{opening-so}
+use Rattle.sheet.proofs.Laws.{opens-new, opens-old}
 use Rattle.sheet.proofs.open.Statement.{statement}
 use Rattle.sheet.proofs.open.Tie as tie
 
@@ -12,7 +13,7 @@ opening-requires : tie.Need-opening-requires
 opening-requires c κs = tt
 
 write-kept-requires : tie.Need-write-kept-requires
-write-kept-requires c κs = let h = opened-so (sheet (c .before .before .before .before .before .before .before .before .before .before .before .before .before .before .before)) (sym (c .before .before .before .before .before .before .opening .ensures) ∙ (c .before .before .before .before .before) .if1 .taken) in h
+write-kept-requires c κs = let h = opening-so (sheet (c .before .before .before .before .before .before .before .before .before .before .before .before .before .before .before)) (sym (c .before .before .before .before .before .before .opening .ensures) ∙ (c .before .before .before .before .before) .if1 .taken) in (h .0, h .1)
 
 same-length : tie.Need-same-length
 same-length c = c .before .before .before .before .before .write-kept .kept .1 .1 .1 .1 .1 .1 .1 .1 .1 .1 .1 .1 .0

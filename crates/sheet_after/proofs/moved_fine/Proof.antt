@@ -7,8 +7,7 @@ use Rattle.sheet_terms.proofs.Machine.{result}
 use mathlib.Core.Bool.{_&&_}
 use lib.Dec.{leb}
 use Rattle.sheet_rules.specs.Sheet.{Sheet, planOf, keptOf, sheetOf}
-use Rattle.sheet_rules.specs.Edit.{movedC, movedB, movedBroken, movedOutside, movedWrong, movedAbsent}
-use Rattle.sheet_rules.proofs.After.{movedFine}
+use Rattle.sheet_rules.specs.Edit.{movedC, movedB, movedBroken, movedOutside, movedWrong, movedAbsent, movedFine}
 use Rattle.sheet_moves.specs.After.{totalsAfter}
 use Rattle.sheet_moves.specs.declared.Totals.{Totals}
 use Rattle.sheet_rules.specs.Verdict.{countFine}

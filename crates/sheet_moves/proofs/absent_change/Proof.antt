@@ -12,10 +12,10 @@ use Rattle.doubles.specs.Lists.{_#_}
 use Rattle.doubles.specs.Loop.{run}
 use Rattle.sheet_rules.specs.Sum.{_‼_, sum, bit}
 use Rattle.sheet_rules.specs.Sheet.{lacks}
-use Rattle.sheet_rules.proofs.Sizes.{mul-size, sub-size}
+use Rattle.sheet_rules.proofs.Sizes.{mul-size, sub-size, bit-size}
 use Rattle.sheet_terms.specs.Small.{farD}
 use Rattle.sheet_terms.proofs.Machine.{of-word, result, E, num, mul, mach, exact, fit, val, sub}
-use Rattle.sheet_terms.proofs.Laws.{Turn, turn, sum-done, bit-size}
+use Rattle.sheet_terms.proofs.Laws.{Turn, turn, sum-done}
 use Rattle.sheet_rules.proofs.Local.{place-in}
 use Rattle.sheet_moves.proofs.absent_change.Statement.{statement}
 use Rattle.sheet_moves.proofs.absent_change.Tie as tie

@@ -12,9 +12,9 @@ use Rattle.doubles.specs.Lists.{_#_}
 use Rattle.doubles.specs.Loop.{run}
 use Rattle.sheet_rules.specs.Sum.{_‼_, sum, bit}
 use Rattle.sheet_rules.specs.Sheet.{holds}
-use Rattle.sheet_rules.proofs.Sizes.{sub-size}
+use Rattle.sheet_rules.proofs.Sizes.{sub-size, bit-size}
 use Rattle.sheet_terms.proofs.Machine.{of-word, result, E, num, mul, mach, exact, fit, sub, add}
-use Rattle.sheet_terms.proofs.Laws.{Turn, turn, sum-done, bit-size}
+use Rattle.sheet_terms.proofs.Laws.{Turn, turn, sum-done}
 use Rattle.sheet_rules.proofs.Local.{place-in}
 use Rattle.sheet_moves.proofs.broken_change.Statement.{statement}
 use Rattle.sheet_moves.proofs.broken_change.Tie as tie

@@ -14,10 +14,10 @@ use Rattle.doubles.specs.Lists.{_#_}
 use Rattle.doubles.specs.Loop.{run}
 use Rattle.sheet_rules.specs.Sum.{_‼_, sum}
 use Rattle.sheet_rules.specs.Sheet.{term}
-use Rattle.sheet_rules.proofs.Sizes.{mul-size, sub-size}
+use Rattle.sheet_rules.proofs.Sizes.{mul-size, sub-size, term-size}
 use Rattle.sheet_terms.specs.Small.{farD}
 use Rattle.sheet_terms.proofs.Machine.{of-word, result, E, num, mul, mach, exact, fit, seen, val, sub}
-use Rattle.sheet_terms.proofs.Laws.{Turn, turn, sum-done, term-size}
+use Rattle.sheet_terms.proofs.Laws.{Turn, turn, sum-done}
 use Rattle.sheet_rules.proofs.Local.{place-in}
 use Rattle.sheet_moves.proofs.Laws.{fall-size}
 use Rattle.sheet_moves.proofs.terms_change.Statement.{statement}

@@ -8,8 +8,8 @@ use lib.ListN.{length}
 use borrow.Author.Needs.{needs}
 use Rattle.doubles.specs.Limits.{maxRows, maxCoefficient, maxCost, maxMultiplier, unit}
 use Rattle.sheet_rules.specs.Sum.{_‼_, dot}
-use Rattle.sheet_rules.proofs.Sizes.{mul-size}
-use Rattle.sheet_terms.proofs.Machine.{E, num, mul, exact, fit, val, sub, up-to}
+use Rattle.sheet_rules.proofs.Sizes.{mul-size, up-to}
+use Rattle.sheet_terms.proofs.Machine.{E, num, mul, exact, fit, val, sub}
 use Rattle.sheet_rules.proofs.Local.{place-in}
 use Rattle.doubles.proofs.Loops.{Filled, filled-none, filled-more, filled-length, filled-done}
 use Rattle.sheet_open.proofs.write_prices.Statement.{statement}

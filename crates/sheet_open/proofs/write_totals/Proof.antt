@@ -1,7 +1,7 @@
 -- `sheet_open::write_totals` meets its contract. Assumes nothing.
 use mathlib.Core.Path.{ap, _∙_}
 use Prim.Native.Nat.{_*_}
-use native.Mathlib.Nat.{le-trans}
+use native.Mathlib.Nat.{le-trans, le-refl}
 use lib.Dec.{lit≤}
 use lib.IntN.{ℤ, _+ℤ_}
 use borrow.Author.Needs.{needs}
@@ -11,8 +11,8 @@ use Rattle.sheet_terms.proofs.Machine.{result, E, num, exact, fit, add}
 use lib.ListN.{set}
 use Rattle.sheet_rules.specs.Sheet.{Plan, planOf, cost}
 use Rattle.sheet_open.specs.At.{floorAt}
-use Rattle.sheet_open.proofs.Laws.{weaken, dot-small, terms-small}
-use Rattle.sheet_terms.proofs.Laws.{set-one}
+use Rattle.sheet_open.proofs.Laws.{weaken, terms-small}
+use Rattle.sheet_terms.proofs.Laws.{dot-small, set-one}
 use Rattle.sheet_open.proofs.write_totals.Statement.{statement}
 use Rattle.sheet_open.proofs.write_totals.Tie as tie
 
@@ -24,7 +24,7 @@ abbrev whole : tie.After-column-terms → E
 whole c =
     let s = (c .before .before .before .before .before .before) in
     add
-    (num (c .before .dot2 .result) (maxColumns * (maxMultiplier * maxRightSide)) (rw (c .before .dot2 .ensures) (dot-small maxMultiplier maxRightSide _ _ _ (le-trans (s .pre .0 .rows-few) (lit≤ tt)) (s .pre .1 .mults-small) (s .pre .1 .rights-small))))
+    (num (c .before .dot2 .result) (maxColumns * (maxMultiplier * maxRightSide)) (rw (c .before .dot2 .ensures) (dot-small maxMultiplier maxRightSide (s .args .rows) (s .args .rows) _ _ (le-trans (s .pre .0 .rows-few) (lit≤ tt)) (s .pre .1 .mults-small) (s .pre .1 .rights-small) (le-refl (s .args .rows)))))
     (num (c .column-terms .result) (maxColumns * (farD * maxBound)) (rw (c .column-terms .ensures) (terms-small (p s) (s .args .d .now) (s .pre .0) (s .pre .1) (s .pre .2))))
 
 dot-requires : tie.Need-dot-requires

@@ -11,8 +11,9 @@ use Rattle.doubles.specs.Lists.{_#_}
 use Rattle.doubles.specs.Loop.{run}
 use Rattle.sheet_rules.specs.Sum.{_‼_, sum, bit}
 use Rattle.sheet_rules.specs.Sheet.{lacks}
+use Rattle.sheet_rules.proofs.Sizes.{bit-size}
 use Rattle.sheet_terms.proofs.Machine.{word, result}
-use Rattle.sheet_terms.proofs.Laws.{Turn, turn, sum-done, bit-size}
+use Rattle.sheet_terms.proofs.Laws.{Turn, turn, sum-done}
 use Rattle.sheet_sums.proofs.absent_needed.Statement.{statement}
 use Rattle.sheet_sums.proofs.absent_needed.Tie as tie
 

@@ -13,9 +13,10 @@ use Rattle.doubles.specs.Lists.{_#_}
 use Rattle.doubles.specs.Loop.{run}
 use Rattle.sheet_rules.specs.Sum.{_‼_, sum}
 use Rattle.sheet_rules.specs.Sheet.{term}
+use Rattle.sheet_rules.proofs.Sizes.{term-size}
 use Rattle.sheet_terms.specs.Small.{farD}
 use Rattle.sheet_terms.proofs.Machine.{word, result, seen}
-use Rattle.sheet_terms.proofs.Laws.{Turn, turn, sum-done, term-size}
+use Rattle.sheet_terms.proofs.Laws.{Turn, turn, sum-done}
 use Rattle.sheet_sums.proofs.column_terms.Statement.{statement}
 use Rattle.sheet_sums.proofs.column_terms.Tie as tie
 

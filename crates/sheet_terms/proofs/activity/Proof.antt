@@ -2,20 +2,17 @@
 use mathlib.Core.Path.{_≡_, refl, _∙_}
 use borrow.Author.Needs.{needs}
 use Prim.Native.Nat.{ℕ, _*_, _≤_, _-_}
-use mathlib.Core.List.{List}
 use native.Mathlib.Omega.{arith}
 use lib.ListN.{length}
-use lib.IntN.{ℤ, natAbs, _*ℤ_}
+use lib.IntN.{ℤ, _*ℤ_}
 use mir.Syntax.{w64}
 use mir.Val.{toZ}
 use Rattle.doubles.specs.Limits.{maxColumns, maxCoefficient, maxAmount}
 use Rattle.doubles.specs.Loop.{run}
 use Rattle.sheet_rules.specs.Sum.{_‼_, sum}
 use Rattle.sheet_rules.specs.Sheet.{rowSum}
-use Rattle.sheet_terms.specs.Small.{Small}
-use Rattle.sheet_rules.proofs.Sizes.{mul-size}
-use Rattle.sheet_terms.proofs.Machine.{up-to, E, num, acc, add, mul, exact, fit}
-use Rattle.sheet_terms.proofs.Laws.{sum-next, sum-done}
+use Rattle.sheet_terms.proofs.Machine.{E, num, acc, add, mul, exact, fit}
+use Rattle.sheet_terms.proofs.Laws.{sum-next, sum-done, dot-small}
 use Rattle.sheet_terms.proofs.activity.Statement.{statement}
 use Rattle.sheet_terms.proofs.activity.Tie as tie
 
@@ -24,10 +21,6 @@ Inv-loop row amounts r₀ j₀ r j = (j ≤ length row) × (toZ w64 r ≡ sum j 
 
 abbrev μ-loop : tie.MeasureT-loop
 μ-loop row amounts r₀ j₀ r j = length row - j
-
--- the sum so far is small
-so-far : (a x : List ℤ) (n j : ℕ) → Small maxCoefficient n a → Small maxAmount n x → j ≤ n → n ≤ maxColumns → natAbs (sum j (λ k. a ‼ k *ℤ x ‼ k)) ≤ maxColumns * (maxCoefficient * maxAmount)
-so-far a x n j ha hx l m = up-to maxColumns (maxCoefficient * maxAmount) j (λ k. a ‼ k *ℤ x ‼ k) (omega arith) (λ k p. mul-size (a ‼ k) (x ‼ k) maxCoefficient maxAmount (ha .at k (omega arith)) (hx .at k (omega arith)))
 
 -- a turn's product and sum, as the machine has them
 module _ (c : tie.In-loop Inv-loop μ-loop) where
@@ -41,7 +34,7 @@ module _ (c : tie.In-loop Inv-loop μ-loop) where
   product = mul (num (s .args .row .now ‼ j) maxCoefficient (s .pre .1 .at j (c .loop-test .taken))) (num (s .args .amounts .now ‼ j) maxAmount (s .pre .2 .at j (c .loop-test .taken)))
 
   abbrev next : E
-  next = add (acc (toZ w64 (c .before .loop .r)) (maxColumns * (maxCoefficient * maxAmount)) (rw (c .before .loop .inv .1) (so-far (s .args .row .now) (s .args .amounts .now) (length (s .args .row .now)) j (s .pre .1) (s .pre .2) (c .before .loop .inv .0) (s .pre .0)))) product
+  next = add (acc (toZ w64 (c .before .loop .r)) (maxColumns * (maxCoefficient * maxAmount)) (rw (c .before .loop .inv .1) (dot-small maxCoefficient maxAmount (length (s .args .row .now)) j (s .args .row .now) (s .args .amounts .now) (s .pre .0) (s .pre .1) (s .pre .2) (c .before .loop .inv .0)))) product
 
 loop-holds : tie.Need-loop-holds Inv-loop μ-loop
 unfolding sum run

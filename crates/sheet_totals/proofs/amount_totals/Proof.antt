@@ -4,7 +4,8 @@ use mathlib.Core.Path.{_≡_, ap, _∙_}
 use Prim.Native.Nat.{_*_, _≤_}
 use lib.IntN.{ℤ, natAbs}
 use Rattle.doubles.specs.Limits.{maxRows, maxAmount}
-use Rattle.sheet_terms.proofs.Machine.{E, num, sub, val, exact, size, fit, up-to}
+use Rattle.sheet_rules.proofs.Sizes.{up-to}
+use Rattle.sheet_terms.proofs.Machine.{E, num, sub, val, exact, size, fit}
 use Rattle.sheet_moves.specs.After.{brokenChange}
 use Rattle.sheet_moves.proofs.Laws.{bits-size}
 use Rattle.sheet_totals.specs.Parts.{withBroken, Near}

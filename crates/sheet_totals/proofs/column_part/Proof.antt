@@ -6,8 +6,8 @@ use Prim.Native.Nat.{_*_}
 use Rattle.doubles.specs.Limits.{maxCost, maxAmount, maxBound}
 use Rattle.sheet_rules.specs.Sum.{bit}
 use Rattle.sheet_rules.specs.Sheet.{term, outside, lacks}
+use Rattle.sheet_rules.proofs.Sizes.{bit-size, term-size}
 use Rattle.sheet_terms.specs.Small.{farD}
-use Rattle.sheet_terms.proofs.Laws.{bit-size, term-size}
 use Rattle.sheet_terms.proofs.Machine.{E, num, mul, exact, fit}
 use Rattle.sheet_totals.specs.Parts.{totalsOf, columnPart}
 use Rattle.sheet_totals.proofs.Sizes.{back}

@@ -5,8 +5,8 @@ use Prim.Native.Nat.{_+_, _*_, _≤_}
 use lib.IntN.{ℤ, natAbs, _*ℤ_}
 use Rattle.doubles.specs.Limits.{maxColumns, maxCoefficient, maxMultiplier, maxBound}
 use Rattle.sheet_rules.specs.Sum.{_‼_}
-use Rattle.sheet_rules.proofs.Sizes.{mul-size}
-use Rattle.sheet_terms.proofs.Machine.{E, num, sub, val, exact, size, fit, up-to}
+use Rattle.sheet_rules.proofs.Sizes.{mul-size, up-to}
+use Rattle.sheet_terms.proofs.Machine.{E, num, sub, val, exact, size, fit}
 use Rattle.sheet_moves.specs.After.{termsChange, absentChange}
 use Rattle.sheet_moves.proofs.Laws.{fall-size, bits-size}
 use Rattle.sheet_totals.specs.Parts.{withTerms, Near}

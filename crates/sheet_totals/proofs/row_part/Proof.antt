@@ -6,7 +6,7 @@ use lib.IntN.{pos}
 use Rattle.doubles.specs.Limits.{maxMultiplier, maxRightSide}
 use Rattle.sheet_rules.specs.Sum.{bit}
 use Rattle.sheet_rules.specs.Sheet.{holds, wrong}
-use Rattle.sheet_terms.proofs.Laws.{bit-size}
+use Rattle.sheet_rules.proofs.Sizes.{bit-size}
 use Rattle.sheet_terms.proofs.Machine.{E, num, mul, word, exact, fit}
 use Rattle.sheet_totals.specs.Parts.{totalsOf, rowPart}
 use Rattle.sheet_totals.proofs.Sizes.{back}
