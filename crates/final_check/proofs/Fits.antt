@@ -6,6 +6,7 @@ use Rattle.doubles.specs.Limits.{vars}
 use Rattle.doubles.specs.Lists.{_#_}
 use Rattle.rules.specs.Plan.{Problem, Workspace, nOf, mOf}
 use Rattle.rules.specs.Invariant.{ProblemFits, Lengths, Maps}
+use Rattle.plan.proofs.Kept.{fits-read}
 use Rattle.final_check.specs.Lent.{sizesOf, rowsOf, Valued, RowReads, RowsRead, Checkable}
 use Rattle.final_check.proofs.Parts.{valuedBy, checkedBy}
 
@@ -16,7 +17,7 @@ rowsBy P =
     rowsOf (p .columns) (p .tolerance) (p .starts) (p .cols) (p .coeffs) (p .rhs) (P .kept)
 
 row-lent : (P : Problem) (r : ℕ) → RowReads P r → RowReads (rowsBy P) r
-row-lent P r h = record { cols-in = h .cols-in; coeffs-in = h .coeffs-in; has-rhs = h .has-rhs; columns = h .columns }
+row-lent P r h = record { entries = h .entries; has-rhs = h .has-rhs }
 
 pub rows-lent : (P : Problem) → RowsRead P → RowsRead (rowsBy P)
 rows-lent P h = record { room = h .room; row = λ r l. row-lent P r (h .row r l) }
@@ -33,15 +34,7 @@ module _ (P : Problem) (f : ProblemFits P) where
       }
 
   row-reads : (r : ℕ) → r < mOf P → RowReads P r
-  row-reads r h =
-      let k = f .kept r h .inside in
-      let i = f .plan .row (P .kept # r) k in
-      record {
-        cols-in = record { has = omega (arith, f .plan .starts-long); rises = i .rises; ends = omega (arith, i .ends, f .plan .cols-long) };
-        coeffs-in = record { has = omega (arith, f .plan .starts-long); rises = i .rises; ends = omega (arith, i .ends, f .plan .coeffs-long) };
-        has-rhs = omega (arith, f .plan .rhs-long);
-        columns = record { inside = i .col };
-      }
+  row-reads r h = record { entries = fits-read P f .row r h; has-rhs = omega (arith, f .kept r h .inside, f .plan .rhs-long) }
 
   pub fits-rows : RowsRead P
   fits-rows = record { room = few; row = row-reads }
@@ -54,5 +47,5 @@ module _ (P : Problem) (f : ProblemFits P) where
           lower = record { bounds-long = f .plan .lowers-long; row-inside = row };
           upper = record { bounds-long = f .plan .uppers-long; row-inside = row };
         };
-        rows = record { room = few; row = λ r h. let q = row-reads r h in record { cols-in = q .cols-in; coeffs-in = q .coeffs-in; has-rhs = q .has-rhs; columns = q .columns } };
+        rows = record { room = few; row = λ r h. let q = row-reads r h in record { entries = q .entries; has-rhs = q .has-rhs } };
       }

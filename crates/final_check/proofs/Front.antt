@@ -38,7 +38,7 @@ module _ (P : Problem) (xs ys : List Float) (h : RowsRead P) (same : (v : ℕ) �
       let at = rowCols (P .plan) (P .kept # r) in
       let cs = rowCoeffs (P .plan) (P .kept # r) in
       run-same (dotTurn at cs xs) (dotTurn at cs ys) (length at)
-      (λ k s g. ap (λ (x : Float). s ⊕ cs ! k ⊗ x) (same (at # k) (omega (arith, h .row r l .columns .inside k g)))) f0
+      (λ k s g. ap (λ (x : Float). s ⊕ cs ! k ⊗ x) (same (at # k) (omega (arith, h .row r l .entries .col k g)))) f0
 
   row-same : (r : ℕ) → r < mOf P → rowHolds P xs r ≡ rowHolds P ys r
   unfolding rowHolds

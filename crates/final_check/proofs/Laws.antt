@@ -4,20 +4,16 @@ use mathlib.Core.Bool.{Bool, true, false, _&&_}
 use mathlib.Core.List.{List}
 use Prim.Native.Nat.{ℕ, _+_, _-_, _<_, _≤_}
 use native.Mathlib.Omega.{arith}
-use lib.ListN.{length}
 use lib.Dec.{ltb}
 use lib.Ieee.{Float, le}
 use borrow.Author.Tests.{ltb-true, ltb-false, lt-ltb, le-ltb}
 use Rattle.doubles.specs.Num.{_⊕_, _⊖_, finite}
 use Rattle.doubles.specs.Lists.{_!_, _#_}
-use Rattle.sparse.specs.Scattered.{Within}
-use Rattle.rules.specs.Plan.{Problem, Workspace, nOf, mOf, rowCols, rowCoeffs, varStateOf, varMin, varMax}
+use Rattle.rules.specs.Plan.{Problem, Workspace, nOf, mOf, varStateOf, varMin, varMax}
 use Rattle.rules.specs.FinalCheck.{valueOf, valueHolds, firstValue, firstRow, finalCheck}
 use Rattle.rules.specs.declared.VarState.{VarState}
 use Rattle.rules.specs.declared.VarState.the-variants.{Basic, NonBasic}
 use Rattle.rules.specs.declared.Checked.the-variants.{Passed, Value, Row}
-use Rattle.rules.proofs.Lists.{part-long}
-use Rattle.final_check.specs.Lent.{RowReads}
 
 -- ---- get_value: the cell that it reads is there
 module _ (n cell : ℕ) where
@@ -51,19 +47,6 @@ pub value-tested : (P : Problem) (xs : List Float) (v : ℕ) {b : Bool} {min max
     → b && le (min ⊖ P .plan .tolerance) (xs ! v) && le (xs ! v) (max ⊕ P .plan .tolerance) ≡ valueHolds P xs v
 unfolding valueHolds
 value-tested P xs v e f g = rw (e, f, g)
-
--- ---- row_holds: a row's sum can be reckoned
-pub row-read : (P : Problem) (r m : ℕ) → RowReads P r → nOf P ≤ m
-    → {at : List ℕ} {cs : List Float} → at ≡ rowCols (P .plan) (P .kept # r) → cs ≡ rowCoeffs (P .plan) (P .kept # r)
-    → (length at ≤ length cs) × Within m (length at) at
-row-read P r m h room {at} {cs} e f =
-    let i = P .kept # r in
-    let S = P .plan .starts in
-    let same : (length (rowCols (P .plan) i) ≤ length (rowCoeffs (P .plan) i)) × Within m (length (rowCols (P .plan) i)) (rowCols (P .plan) i) = (
-      omega (arith, part-long (S # i) (S # (i + 1)) (P .plan .cols) (h .cols-in .ends), part-long (S # i) (S # (i + 1)) (P .plan .coeffs) (h .coeffs-in .ends)),
-      record { inside = λ k l. omega (arith, h .columns .inside k l) },
-    ) in
-    rw (e, f) same
 
 -- ---- final_check: by its two tests
 module _ (P : Problem) (xs : List Float) where

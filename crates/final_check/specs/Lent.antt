@@ -6,11 +6,10 @@ use lib.Ieee.{Float}
 use Rattle.doubles.specs.Num.{f0}
 use Rattle.doubles.specs.Limits.{vars}
 use Rattle.doubles.specs.Lists.{_#_}
-use Rattle.sparse.specs.Scattered.{Within}
-use Rattle.rules.specs.Plan.{Problem, Workspace, nOf, mOf, rowCols}
+use Rattle.rules.specs.Plan.{Problem, Workspace, nOf, mOf}
 use Rattle.rules.specs.Parts.{planOf, problem, workspaceOf, noEtas}
 use Rattle.cells.specs.Bounds.{Sides}
-use Rattle.plan.specs.Lent.{RowIn}
+use Rattle.plan.specs.Kept.{bare, RowReads as Kept·RowReads}
 
 -- where each variable stands, and its value there
 abbrev pub valuedOf : List ℕ → List Float → List Float → Workspace
@@ -40,12 +39,10 @@ pub record Valued (P : Problem) (w : Workspace) : Type 0 where
   pub room : nOf P + mOf P ≤ vars
   pub placed : (v : ℕ) → v < nOf P + mOf P → Placed (nOf P) w v
 
--- kept row r stands within the plan, and its column numbers are columns
+-- kept row r can be read, its column numbers are columns, and it has a right side
 pub record RowReads (P : Problem) (r : ℕ) : Type 0 where
-  pub cols-in : RowIn (P .plan .starts) (length (P .plan .cols)) (P .kept # r)
-  pub coeffs-in : RowIn (P .plan .starts) (length (P .plan .coeffs)) (P .kept # r)
+  pub entries : Kept·RowReads (bare P) (nOf P) r
   pub has-rhs : P .kept # r < length (P .plan .rhs)
-  pub columns : Within (nOf P) (length (rowCols (P .plan) (P .kept # r))) (rowCols (P .plan) (P .kept # r))
 
 pub record RowsRead (P : Problem) : Type 0 where
   pub room : nOf P + mOf P ≤ vars

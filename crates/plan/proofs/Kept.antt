@@ -1,13 +1,14 @@
--- Kept rows that can be read: what a wider vector, and a call of this crate's, asks of them. Assumes nothing.
+-- Kept rows that can be read: those of a problem that fits, and what a wider vector, and a call of this crate's, asks of them. Assumes nothing.
 use Prim.Native.Nat.{ℕ, _+_, _≤_}
 use native.Mathlib.Omega.{arith}
 use lib.ListN.{length}
 use Rattle.doubles.specs.Lists.{_#_}
 use Rattle.sparse.specs.Scattered.{Within}
-use Rattle.rules.specs.Plan.{Problem, rowCols, rowCoeffs}
+use Rattle.rules.specs.Plan.{Problem, nOf, rowCols, rowCoeffs}
+use Rattle.rules.specs.Invariant.{ProblemFits}
 use Rattle.rules.proofs.Lists.{part-long}
 use Rattle.plan.specs.Lent.{RowIn}
-use Rattle.plan.specs.Kept.{RowReads, RowsRead}
+use Rattle.plan.specs.Kept.{bare, RowReads, RowsRead}
 
 module _ (P : Problem) (w r : ℕ) (a : RowReads P w r) where
   pub cols-in : RowIn (P .plan .starts) (length (P .plan .cols)) (P .kept # r)
@@ -26,10 +27,23 @@ module _ (P : Problem) (w r : ℕ) (a : RowReads P w r) where
         record { inside = a .col },
       )
 
-pub widened : {P : Problem} {n w : ℕ} → n ≤ w → RowsRead P n → RowsRead P w
-widened h a =
+pub fits-read : (P : Problem) → ProblemFits P → RowsRead (bare P) (nOf P)
+fits-read P f =
     record {
       row = λ r l.
-          let b = a .row r l in
-          record { has = b .has; rises = b .rises; cols-end = b .cols-end; coeffs-end = b .coeffs-end; col = λ k g. omega (arith, b .col k g) };
+          let k = f .kept r l in
+          let g = f .plan .row (P .kept # r) (k .inside) in
+          record {
+            has = omega (arith, f .plan .starts-long, k .inside);
+            rises = g .rises;
+            cols-end = omega (arith, g .ends, f .plan .cols-long);
+            coeffs-end = omega (arith, g .ends, f .plan .coeffs-long);
+            col = g .col;
+          };
     }
+
+pub wider : {P : Problem} {n w r : ℕ} → n ≤ w → RowReads P n r → RowReads P w r
+wider h a = record { has = a .has; rises = a .rises; cols-end = a .cols-end; coeffs-end = a .coeffs-end; col = λ k g. omega (arith, a .col k g) }
+
+pub widened : {P : Problem} {n w : ℕ} → n ≤ w → RowsRead P n → RowsRead P w
+widened h a = record { row = λ r l. wider h (a .row r l) }

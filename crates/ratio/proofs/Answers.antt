@@ -43,10 +43,10 @@ module _ (P : Problem) (w : Workspace) (up : Bool) (c : Sv) (distance : Float) {
 
 -- ---- the step
 module _ (P : Problem) (w : Workspace) (e : Entering) (c : Sv) (o : Float) (at : ℕ) where
-  pub pivot-exchange : {x : Float} → at < c .pat .count → x ≡ ahead P w (rises e) (listed c at) (listedVal c at)
+  pub pivot-exchange : {up : Bool} → up ≡ rises e → {x : Float} → at < c .pat .count → x ≡ ahead P w up (listed c at) (listedVal c at)
       → let diff = (w .basicVarVals ! listed c at ⊖ x) ⊘ listedVal c at in Pivot (Exchange (w .nbVarVals ! e .col ⊕ diff) diff (listed c at) (listedVal c at) x) ≡ pivotBy P w e c o at
   unfolding pivotBy exchangeOf
-  pivot-exchange l h = rw (lt-ltb at (c .pat .count) l, pivotBy, h)
+  pivot-exchange u l h = rw (lt-ltb at (c .pat .count) l, pivotBy, h, u)
 
   pub pivot-unbounded : {x : Bool} → c .pat .count ≤ at → x ≡ infinite o → x ≡ true → Unbounded ≡ pivotBy P w e c o at
   unfolding pivotBy

@@ -5,13 +5,13 @@ use Prim.Native.Nat.{ℕ, _<_, _≤_}
 use native.Mathlib.Nat.{le-antisymm}
 use native.Mathlib.Omega.{arith}
 use lib.Ieee.{Float, lt, le}
-use Rattle.doubles.specs.Num.{_⊕_, _⊘_, eps, finite, infinite, size}
+use Rattle.doubles.specs.Num.{_⊕_, _⊘_, eps, -inf, finite, infinite, size}
 use Rattle.sparse.specs.Scattered.{Sv, listed, listedVal}
 use Rattle.rules.specs.Plan.{Problem, Workspace}
 use Rattle.doubles.specs.Loop.{run, all}
 use Rattle.doubles.specs.Lists.{_!_, _#_}
 use Rattle.doubles.proofs.Loops.{done, all-fails}
-use Rattle.rules.specs.Ratio.{towardsMax, ahead, limitBy, limit, examined, relaxed, stepTo, soundAt, soundRatios, passOneTurn, passOne, candidate, Leaving, leavingOf, passTwoTurn}
+use Rattle.rules.specs.Ratio.{towardsMax, ahead, limitBy, limit, examined, relaxed, stepTo, soundAt, soundRatios, passOneTurn, passOne, candidate, Leaving, leavingOf, passTwoTurn, passTwo}
 use Rattle.rules.proofs.Choices.{one-test}
 use Rattle.choose.specs.Parts.{sideOf}
 use Rattle.ratio.specs.Parts.{roomOf, shrunk, maxStepOf, taken}
@@ -147,17 +147,6 @@ module _ (P : Problem) (w : Workspace) (up : Bool) (c : Sv) where
   unfolding shrunk
   one-more k t {u} b h = let y = picked (looked k) (finite (quotientAt k)) (lt (quotientAt k) t) (quotientAt k) t u (sym b ∙ h) in (one-test P w up c k ∙ y .0, y .1)
 
-  pub max-step-23 : (k : ℕ) (t distance : Float) {x : MaxStep} → x ≡ shrunk P w up (listed c k) (listedVal c k) t → x ≡ NotFinite → k < c .pat .count
-      → NotFinite ≡ maxStepOf P w up c distance
-  unfolding shrunk soundRatios maxStepOf
-  max-step-23 k t distance b h l =
-      rw (all-fails (soundAt P w up c) (c .pat .count) k l (one-test P w up c k ∙ refused (looked k) (finite (quotientAt k)) (lt (quotientAt k) t) (quotientAt k) t (sym b ∙ h)), maxStepOf)
-
-  pub max-step-is : (k : ℕ) {t : Float} (distance : Float) → k ≤ c .pat .count → c .pat .count ≤ k → all k (soundAt P w up c) ≡ true → t ≡ run (passOneTurn P w up c) k distance
-      → Step t ≡ maxStepOf P w up c distance
-  unfolding soundRatios passOne maxStepOf
-  max-step-is k distance l g s e = rw (rw (le-antisymm l g) at s, maxStepOf) (ap Step (done _ _ k _ l g e))
-
   pub two-takes : (maxStep : Float) (k : ℕ) (b : Leaving) {x : Bool} {s : Float} → x ≡ taken P w up (listed c k) (listedVal c k) maxStep (b .size) → x ≡ true
       → s ≡ size (listedVal c k) → leavingOf k s ≡ passTwoTurn P w up c maxStep k b
   unfolding taken candidate passTwoTurn
@@ -167,3 +156,21 @@ module _ (P : Problem) (w : Workspace) (up : Bool) (c : Sv) where
       → b ≡ passTwoTurn P w up c maxStep k b
   unfolding taken candidate passTwoTurn
   two-keeps maxStep k b q h = rw (sym q ∙ h, passTwoTurn)
+
+  -- ---- what a pass answers, where `up` is what was asked of the entering column
+  module _ {rises : Bool} (u : up ≡ rises) where
+    pub max-step-23 : (k : ℕ) (t distance : Float) {x : MaxStep} → x ≡ shrunk P w up (listed c k) (listedVal c k) t → x ≡ NotFinite → k < c .pat .count
+        → NotFinite ≡ maxStepOf P w rises c distance
+    unfolding shrunk soundRatios maxStepOf
+    max-step-23 k t distance b h l =
+        rw (← u) (rw (all-fails (soundAt P w up c) (c .pat .count) k l (one-test P w up c k ∙ refused (looked k) (finite (quotientAt k)) (lt (quotientAt k) t) (quotientAt k) t (sym b ∙ h)), maxStepOf))
+
+    pub max-step-is : (k : ℕ) {t : Float} (distance : Float) → k ≤ c .pat .count → c .pat .count ≤ k → all k (soundAt P w up c) ≡ true → t ≡ run (passOneTurn P w up c) k distance
+        → Step t ≡ maxStepOf P w rises c distance
+    unfolding soundRatios passOne maxStepOf
+    max-step-is k distance l g s e = rw (← u) (rw (rw (le-antisymm l g) at s, maxStepOf) (ap Step (done _ _ k _ l g e)))
+
+    pub leaves-at : (maxStep : Float) (k : ℕ) {b : Leaving} → k ≤ c .pat .count → c .pat .count ≤ k
+        → b ≡ run (passTwoTurn P w up c maxStep) k (leavingOf (c .pat .count) -inf) → b .at ≡ passTwo P w rises c maxStep .at
+    unfolding passTwo
+    leaves-at maxStep k l g e = rw (← u) (ap (λ x. x .at) (done _ _ k _ l g e))

@@ -15,6 +15,13 @@ ghost use Rattle.cells.specs.Bounds.{Sides};
 ghost use Rattle.ratio.specs.Lent.{basicOf, Rows, Passing, Stepping};
 ghost use Rattle.ratio.specs.Parts.{roomOf, shrunk, maxStepOf, taken, leavingBy, pivotBy};
 
+// Whether the entering variable rises.
+fn rises(e: rules::Entering) -> bool
+    ensures { λ r. ⌜ r ≡ Ratio.rises e ⌝ }
+{
+    e.price < 0.0
+}
+
 // `leaving_diff = -entering_diff * coeff`: whether a row with coefficient a moves towards its upper bound.
 fn towards_max(up: bool, a: f64) -> bool
     ensures { λ r. ⌜ r ≡ towardsMax up a ⌝ }
@@ -152,7 +159,10 @@ fn shrink(
     MaxStep::NotFinite
 }
 
+// 01: "The entering column travels with its price, score and distance": from the choice to both passes. Pass one
+// starts from its distance.
 fn pass_one(
+    e: rules::Entering,
     n: usize,
     lowers: &[f64],
     uppers: &[f64],
@@ -163,14 +173,13 @@ fn pass_one(
     values: &[f64; doubles::PLACES],
     list: &[usize; doubles::PLACES],
     count: usize,
-    up: bool,
-    distance: f64,
 ) -> MaxStep
     requires { ⌜ Passing (bounded n (now lowers) (now uppers) (now ops) (now kept)) (basicOf (now «basic_vars») (now «basic_var_vals»)) (now list) count ⌝ }
     ensures { λ x. ⌜ ((m : List Bool) → x ≡ maxStepOf (bounded n (now (lowers .entry)) (now (uppers .entry)) (now (ops .entry)) (now (kept .entry)))
-        (basicOf (now («basic_vars» .entry)) (now («basic_var_vals» .entry))) up (sv (now (values .entry)) m (now (list .entry)) count) distance) ⌝ }
+        (basicOf (now («basic_vars» .entry)) (now («basic_var_vals» .entry))) (Ratio.rises e) (sv (now (values .entry)) m (now (list .entry)) count) (e .distance)) ⌝ }
 {
-    let mut step = distance;
+    let up = rises(e);
+    let mut step = e.distance;
     let mut k = 0;
     while k < count {
         let r = list[k];
@@ -241,6 +250,7 @@ fn takes(
 
 // The place of the leaving row in the list, and `count` where there is none.
 fn pass_two(
+    e: rules::Entering,
     n: usize,
     lowers: &[f64],
     uppers: &[f64],
@@ -251,13 +261,13 @@ fn pass_two(
     values: &[f64; doubles::PLACES],
     list: &[usize; doubles::PLACES],
     count: usize,
-    up: bool,
     max_step: f64,
 ) -> usize
     requires { ⌜ Passing (bounded n (now lowers) (now uppers) (now ops) (now kept)) (basicOf (now «basic_vars») (now «basic_var_vals»)) (now list) count ⌝ }
     ensures { λ x. ⌜ ((m : List Bool) → x ≡ passTwo (bounded n (now (lowers .entry)) (now (uppers .entry)) (now (ops .entry)) (now (kept .entry)))
-        (basicOf (now («basic_vars» .entry)) (now («basic_var_vals» .entry))) up (sv (now (values .entry)) m (now (list .entry)) count) «max_step» .at) ⌝ }
+        (basicOf (now («basic_vars» .entry)) (now («basic_var_vals» .entry))) (Ratio.rises e) (sv (now (values .entry)) m (now (list .entry)) count) «max_step» .at) ⌝ }
 {
+    let up = rises(e);
     let mut at = count;
     let mut best = -doubles::infinity();
     let mut k = 0;
@@ -293,6 +303,7 @@ pub enum Leaving {
 }
 
 fn leaving_row(
+    e: rules::Entering,
     n: usize,
     lowers: &[f64],
     uppers: &[f64],
@@ -303,14 +314,13 @@ fn leaving_row(
     values: &[f64; doubles::PLACES],
     list: &[usize; doubles::PLACES],
     count: usize,
-    up: bool,
-    distance: f64,
 ) -> Leaving
     requires { ⌜ Passing (bounded n (now lowers) (now uppers) (now ops) (now kept)) (basicOf (now «basic_vars») (now «basic_var_vals»)) (now list) count ⌝ }
     ensures { λ x. ⌜ ((m : List Bool) → x ≡ leavingBy (bounded n (now (lowers .entry)) (now (uppers .entry)) (now (ops .entry)) (now (kept .entry)))
-        (basicOf (now («basic_vars» .entry)) (now («basic_var_vals» .entry))) up (sv (now (values .entry)) m (now (list .entry)) count) distance) ⌝ }
+        (basicOf (now («basic_vars» .entry)) (now («basic_var_vals» .entry))) (Ratio.rises e) (sv (now (values .entry)) m (now (list .entry)) count) (e .distance)) ⌝ }
 {
     let first = pass_one(
+        e,
         n,
         lowers,
         uppers,
@@ -321,13 +331,12 @@ fn leaving_row(
         values,
         list,
         count,
-        up,
-        distance,
     );
     let MaxStep::Step(step) = first else {
         return Leaving::NotFinite;
     };
     let at = pass_two(
+        e,
         n,
         lowers,
         uppers,
@@ -338,7 +347,6 @@ fn leaving_row(
         values,
         list,
         count,
-        up,
         step,
     );
     Leaving::Place(at)
@@ -370,7 +378,7 @@ fn pivot_by(
         e (sv (now (values .entry)) m (now (list .entry)) count) other at) ⌝ }
 {
     let col = e.col;
-    let up = e.price < 0.0;
+    let up = rises(e);
     if at < count {
         let row = list[at];
         let pivot = values[row];
@@ -423,6 +431,7 @@ pub fn ratio(
         return rules::Ratio::NotFinite;
     }
     let found = leaving_row(
+        e,
         n,
         lowers,
         uppers,
@@ -433,8 +442,6 @@ pub fn ratio(
         values,
         list,
         count,
-        e.price < 0.0,
-        e.distance,
     );
     let Leaving::Place(at) = found else {
         return rules::Ratio::NotFinite;

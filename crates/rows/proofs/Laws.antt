@@ -2,11 +2,10 @@
 use mathlib.Core.Path.{_≡_, refl}
 use mathlib.Core.Bool.{Bool, true, false}
 use mathlib.Core.List.{List}
-use Prim.Native.Nat.{ℕ, _+_, _-_, _<_, _≤_}
+use Prim.Native.Nat.{ℕ, _-_, _<_, _≤_}
 use native.Mathlib.Nat.{le-refl}
 use native.Mathlib.Omega.{arith}
 use lib.Dec.{ltb}
-use lib.ListN.{length}
 use lib.Ieee.{Float}
 use borrow.Author.Tests.{ltb-true}
 use Rattle.doubles.specs.Num.{_⊗_}
@@ -20,8 +19,6 @@ use Rattle.rules.specs.Plan.{Problem, nOf, rowCols, rowCoeffs, varStateOf}
 use Rattle.rules.specs.declared.VarState.{VarState}
 use Rattle.rules.specs.declared.VarState.the-variants.{Basic, NonBasic}
 use Rattle.rules.specs.Basis.{addEntry, addTurn, addRow}
-use Rattle.rules.proofs.Lists.{part-long}
-use Rattle.rows.specs.Lent.{RowLent}
 
 -- a non-basic variable's place is below n
 pub place-below : (n cell c : ℕ) → varStateOf n cell ≡ NonBasic c → c < n
@@ -49,13 +46,6 @@ module _ {m : ℕ} (n : ℕ) (h : n ≤ m) (vs : List ℕ) where
   pub good-adding : (cols : List ℕ) (coeffs : List Float) (y : Float) (s : Sv) → Good m s → (k : ℕ) → Good m (run (addTurn n vs cols coeffs y) k s)
   good-adding cols coeffs y s g k =
       keeps (addTurn n vs cols coeffs y) s (λ _. Good m) k (λ j t _ p. good-addEntry (cols # j) (coeffs ! j ⊗ y) t p) g k (le-refl k)
-
--- a row that is lent has as many coefficients as columns
-pub row-long : (P : Problem) (cells r : ℕ) → RowLent P cells r → length (rowCols (P .plan) (P .kept # r)) ≤ length (rowCoeffs (P .plan) (P .kept # r))
-row-long P cells r w =
-    let i = P .kept # r in
-    let st = P .plan .starts in
-    omega (arith, part-long (st # i) (st # (i + 1)) (P .plan .cols) (w .cols-long), part-long (st # i) (st # (i + 1)) (P .plan .coeffs) (w .coeffs-long))
 
 -- a loop of rows
 pub good-rows : (P : Problem) → nOf P ≤ places → (vs : List ℕ) (y : Sv) (k : ℕ) → Good places (run (λ k s. addRow P vs (listed y k) (listedVal y k) s) k blank)

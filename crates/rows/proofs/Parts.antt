@@ -4,7 +4,6 @@ use mathlib.Core.List.{List}
 use Prim.Native.Nat.{ℕ, _+_, _≤_}
 use native.Mathlib.Omega.{arith}
 use Rattle.doubles.specs.Limits.{places}
-use Rattle.doubles.specs.Lists.{_#_}
 use Rattle.sparse.specs.Scattered.{Sv, blank, Within}
 use Rattle.sparse.proofs.Laws.{wf-listed}
 use Rattle.rules.specs.Plan.{Problem, nOf, mOf}
@@ -12,6 +11,7 @@ use Rattle.rules.specs.Parts.{rowed}
 use Rattle.rules.specs.Basis.{addRow, combine}
 use Rattle.rules.specs.Invariant.{ProblemFits, Vector}
 use Rattle.rules.proofs.Vectors.{columns-places}
+use Rattle.plan.proofs.Kept.{fits-read, wider}
 use Rattle.rows.specs.Lent.{RowsLent, Fresh}
 
 pub fresh-blank : Fresh blank
@@ -30,19 +30,7 @@ module _ (P : Problem) where
     fits-rows cells h =
         record {
           columns = columns-places P f;
-          row = λ r l.
-              let k = f .kept r l in
-              let w = f .plan .row (P .kept # r) (k .inside) in
-              let p = f .plan in
-              record {
-                inside = l;
-                starts-long = omega arith;
-                rises = w .rises;
-                cols-long = omega arith;
-                coeffs-long = omega arith;
-                cols = record { inside = λ i g. omega (arith, w .col i g) };
-                slack = omega arith;
-              };
+          row = λ r l. record { inside = l; reads = wider {w = cells} (omega arith) (fits-read P f .row r l); slack = omega arith };
         }
 
 -- a vector in order lists at most as many places as there are, each of them one

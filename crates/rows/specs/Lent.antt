@@ -1,20 +1,15 @@
 -- What the functions ask of the arrays that they are lent. The definitions that their contracts cite are those of `rules`. Assumes nothing.
 use mathlib.Core.Path.{_≡_}
 use Prim.Native.Nat.{ℕ, _+_, _<_, _≤_}
-use lib.ListN.{length}
 use Rattle.doubles.specs.Limits.{places}
-use Rattle.doubles.specs.Lists.{_#_}
-use Rattle.sparse.specs.Scattered.{Sv, blank, Within}
-use Rattle.rules.specs.Plan.{Problem, nOf, mOf, rowCols}
+use Rattle.sparse.specs.Scattered.{Sv, blank}
+use Rattle.rules.specs.Plan.{Problem, nOf, mOf}
+use Rattle.plan.specs.Kept.{bare, RowReads}
 
--- kept row r: its entries stand within the plan's, and each column of it has a cell
+-- kept row r can be read, and each column of it has a cell, as has its slack
 pub record RowLent (P : Problem) (cells r : ℕ) : Type 0 where
   pub inside : r < mOf P
-  pub starts-long : P .kept # r + 1 < length (P .plan .starts)
-  pub rises : P .plan .starts # (P .kept # r) ≤ P .plan .starts # (P .kept # r + 1)
-  pub cols-long : P .plan .starts # (P .kept # r + 1) ≤ length (P .plan .cols)
-  pub coeffs-long : P .plan .starts # (P .kept # r + 1) ≤ length (P .plan .coeffs)
-  pub cols : Within cells (length (rowCols (P .plan) (P .kept # r))) (rowCols (P .plan) (P .kept # r))
+  pub reads : RowReads (bare P) cells r
   pub slack : nOf P + r < cells
 
 -- all kept rows, and the cells of the variables: columns first, then slacks

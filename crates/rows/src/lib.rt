@@ -83,8 +83,8 @@ fn add_row(
         ≡ addRow (rowed n (now (starts .entry)) (now (cols .entry)) (now (coeffs .entry)) (now (kept .entry))) (now («var_states» .entry)) r y (sv (now (values .entry)) (now (marks .entry)) (now (list .entry)) count) ⌝ }
 {
     let i = kept[r];
-    let a = starts[i];
-    let e = starts[i + 1];
+    let row_cols = plan::row_cols(starts, cols, i);
+    let row_coeffs = plan::row_coeffs(starts, coeffs, i);
     let c = add_entries(
         values,
         marks,
@@ -92,8 +92,8 @@ fn add_row(
         count,
         n,
         var_states,
-        &cols[a..e],
-        &coeffs[a..e],
+        row_cols,
+        row_coeffs,
         y,
     );
     add_entry(values, marks, list, c, n, var_states, n + r, 1.0 * y)

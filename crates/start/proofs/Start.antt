@@ -17,6 +17,7 @@ use Rattle.rules.specs.Start.{startValAt, startVals, startObjective, objectiveT
 use Rattle.rules.specs.Invariant.{ProblemFits, Lengths}
 use Rattle.rules.proofs.Lists.{over-at, over-enough}
 use Rattle.plan.specs.Kept.{bare, RowReads}
+use Rattle.plan.proofs.Kept.{fits-read}
 use Rattle.start_values.specs.Lent.{costed}
 use Rattle.start.specs.Lent.{Reckonable, Scratch, Room}
 use Rattle.start.specs.Reckoned.{Numbers, numbers, reckoned, allFinite, slacksInside, written}
@@ -164,25 +165,13 @@ module _ (P : Problem) (s u : Numbers) (e : u ≡ reckoned (unruledOf P) s) wher
 
 -- ---- what the functions ask, of a problem that fits
 module _ (P : Problem) (f : ProblemFits P) where
-  row-reads : (r : ℕ) → r < mOf P → RowReads (bare P) (nOf P) r
-  row-reads r h =
-      let k = f .kept r h in
-      let g = f .plan .row (P .kept # r) (k .inside) in
-      record {
-        has = omega (arith, f .plan .starts-long, k .inside);
-        rises = g .rises;
-        cols-end = omega (arith, g .ends, f .plan .cols-long);
-        coeffs-end = omega (arith, g .ends, f .plan .coeffs-long);
-        col = g .col;
-      }
-
   pub fits-reckonable : Reckonable (unruledOf P)
   fits-reckonable =
       record {
         columns-most = f .plan .columns-most;
         rows-most = omega (arith, f .few, f .plan .rows-most);
         columns = record { costs-long = f .plan .costs-long; lowers-long = f .plan .lowers-long; uppers-long = f .plan .uppers-long };
-        rows = record { row = row-reads };
+        rows = fits-read P f;
         sides = record { inside = λ r h. omega (arith, f .kept r h .inside, f .plan .rhs-long) };
       }
 

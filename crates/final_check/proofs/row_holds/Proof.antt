@@ -1,7 +1,8 @@
 -- `final_check::row_holds`: the row's sum, its slack, and the test. Assumes nothing.
 use native.Mathlib.Omega.{arith}
+use lib.ListN.{length}
 use Rattle.rules.specs.FinalCheck.{rowHolds}
-use Rattle.final_check.proofs.Laws.{row-read}
+use Rattle.plan.proofs.Kept.{row-read, wider}
 use borrow.Author.Needs.{needs}
 use Rattle.final_check.proofs.row_holds.Statement.{statement}
 use Rattle.final_check.proofs.row_holds.Tie as tie
@@ -22,7 +23,8 @@ dot-requires : tie.Need-dot-requires
 dot-requires c κs =
     let s : tie.Start = search in
     let a : tie.After-row-cols = search in
-    row-read _ _ _ (s .pre .0) (omega (arith, s .pre .1)) (a .row-cols .ensures) (c .before .row-coeffs .ensures)
+    let b = wider {w = length (s .args .xs .now)} (omega (arith, s .pre .1)) (s .pre .0 .entries) in
+    rw (a .row-cols .ensures, c .before .row-coeffs .ensures) (row-read _ _ _ b)
 
 mul-abs : tie.Need-mul-abs
 mul-abs c = search needs

@@ -17,13 +17,13 @@ use Rattle.ratio.proofs.pass_one.Statement.{statement}
 use Rattle.ratio.proofs.pass_one.Tie as tie
 
 abbrev Inv-loop : tie.InvT-loop
-Inv-loop n lowers uppers ops kept basic-vars basic-var-vals values list count up distance step₀ k₀ step k =
+Inv-loop n lowers uppers ops kept basic-vars basic-var-vals values list count up step₀ k₀ step k =
     (k ≤ count)
     × (all k (soundAt (bounded n lowers uppers ops kept) (basicOf basic-vars basic-var-vals) up (sv values [] list count)) ≡ true)
-    × (step ≡ run (passOneTurn (bounded n lowers uppers ops kept) (basicOf basic-vars basic-var-vals) up (sv values [] list count)) k distance)
+    × (step ≡ run (passOneTurn (bounded n lowers uppers ops kept) (basicOf basic-vars basic-var-vals) up (sv values [] list count)) k step₀)
 
 abbrev μ-loop : tie.MeasureT-loop
-μ-loop n lowers uppers ops kept basic-vars basic-var-vals values list count up distance step₀ k₀ step k = count - k
+μ-loop n lowers uppers ops kept basic-vars basic-var-vals values list count up step₀ k₀ step k = count - k
 
 abbrev entry : tie.At-loop Inv-loop μ-loop → tie.Start Inv-loop μ-loop
 entry a = search
@@ -35,6 +35,9 @@ column a = sv (entry a .args .values .now) [] (entry a .args .list .now) (entry 
 -- in a turn the place is a row
 row : (t : tie.In-loop Inv-loop μ-loop) → getD (entry (t .before) .args .list .now) (t .before .loop .k) 0 < length (entry (t .before) .args .kept .now)
 row t = entry (t .before) .pre .listing .rows-listed .inside (t .before .loop .k) (t .loop-test .taken)
+
+rises-requires : tie.Need-rises-requires Inv-loop μ-loop
+rises-requires c κs = search needs
 
 loop-holds : tie.Need-loop-holds Inv-loop μ-loop
 unfolding run all
@@ -64,7 +67,8 @@ enum-told c = search needs
 returns : tie.Need-returns Inv-loop μ-loop
 returns c =
     let t : tie.In-loop Inv-loop μ-loop = search in
-    λ m. max-step-23 _ _ _ _ (t .before .loop .k) _ _ (c .before .before .shrink .ensures) (c .enum-told .given .1) (t .loop-test .taken)
+    let u : tie.After-rises Inv-loop μ-loop = search in
+    λ m. max-step-23 _ _ _ _ (u .rises .ensures) (t .before .loop .k) _ _ (c .before .before .shrink .ensures) (c .enum-told .given .1) (t .loop-test .taken)
 
 add-k : tie.Need-add-k Inv-loop μ-loop
 add-k c = search needs
@@ -80,7 +84,9 @@ loop-again c =
     (omega arith, all-next _ _ (t .before .loop .inv .1) (y .0), next _ _ (t .before .loop .k) (t .before .loop .inv .2) (y .1))
 
 returns-2 : tie.Need-returns-2 Inv-loop μ-loop
-returns-2 c = λ m. max-step-is _ _ _ _ (c .before .loop .k) _ (c .before .loop .inv .0) (c .loop-test .left) (c .before .loop .inv .1) (c .before .loop .inv .2)
+returns-2 c =
+    let u : tie.After-rises Inv-loop μ-loop = search in
+    λ m. max-step-is _ _ _ _ (u .rises .ensures) (c .before .loop .k) _ (c .before .loop .inv .0) (c .loop-test .left) (c .before .loop .inv .1) (c .before .loop .inv .2)
 
 pub pass-one-spec : {M : Type 1} → statement M
 pass-one-spec =
@@ -88,6 +94,7 @@ pass-one-spec =
     (tie.spec
     Inv-loop
     μ-loop
+    rises-requires
     loop-holds
     mul-r
     element-copy-out-r

@@ -1,5 +1,5 @@
 -- `ratio::pass_two`: after k turns the row is the definition's after k turns. Assumes nothing.
-use mathlib.Core.Path.{_≡_, ap}
+use mathlib.Core.Path.{_≡_}
 use mathlib.Core.List.{[]}
 use mathlib.Core.Logic.{⊎-elim}
 use Prim.Native.Nat.{_-_, _<_, _≤_}
@@ -9,22 +9,25 @@ use lib.ListN.{length, getD}
 use lib.Ieee.{neg}
 use Rattle.doubles.specs.Num as Num
 use Rattle.doubles.specs.Loop.{run}
-use Rattle.doubles.proofs.Loops.{next, done}
+use Rattle.doubles.proofs.Loops.{next}
 use Rattle.sparse.specs.Scattered.{Sv, sv}
 use Rattle.rules.specs.Parts.{bounded}
 use Rattle.rules.specs.Ratio.{leavingOf, candidate, passTwoTurn, passTwo}
 use Rattle.ratio.specs.Lent.{basicOf}
-use Rattle.ratio.proofs.Passes.{two-takes, two-keeps}
+use Rattle.ratio.proofs.Passes.{two-takes, two-keeps, leaves-at}
 use Rattle.ratio.proofs.pass_two.Statement.{statement}
 use Rattle.ratio.proofs.pass_two.Tie as tie
 
 abbrev Inv-loop : tie.InvT-loop
-Inv-loop n lowers uppers ops kept basic-vars basic-var-vals values list count up max-step at₀ best₀ k₀ at best k =
+Inv-loop n lowers uppers ops kept basic-vars basic-var-vals values list count max-step up at₀ best₀ k₀ at best k =
     (k ≤ count)
     × (leavingOf at best ≡ run (passTwoTurn (bounded n lowers uppers ops kept) (basicOf basic-vars basic-var-vals) up (sv values [] list count) max-step) k (leavingOf count Num.-inf))
 
 abbrev μ-loop : tie.MeasureT-loop
-μ-loop n lowers uppers ops kept basic-vars basic-var-vals values list count up max-step at₀ best₀ k₀ at best k = count - k
+μ-loop n lowers uppers ops kept basic-vars basic-var-vals values list count max-step up at₀ best₀ k₀ at best k = count - k
+
+rises-requires : tie.Need-rises-requires Inv-loop μ-loop
+rises-requires c κs = search needs
 
 infinity-requires : tie.Need-infinity-requires Inv-loop μ-loop
 infinity-requires c κs = search needs
@@ -83,7 +86,9 @@ loop-again c =
 
 returns : tie.Need-returns Inv-loop μ-loop
 unfolding passTwo passTwoTurn candidate
-returns c = λ m. ap (λ b. b .at) (done _ _ _ _ (c .before .loop .inv .0) (c .loop-test .left) (c .before .loop .inv .1))
+returns c =
+    let u : tie.After-rises Inv-loop μ-loop = search in
+    λ m. leaves-at _ _ _ (column (c .before)) (u .rises .ensures) _ (c .before .loop .k) (c .before .loop .inv .0) (c .loop-test .left) (c .before .loop .inv .1)
 
 pub pass-two-spec : {M : Type 1} → statement M
 pass-two-spec =
@@ -91,6 +96,7 @@ pass-two-spec =
     (tie.spec
     Inv-loop
     μ-loop
+    rises-requires
     infinity-requires
     loop-holds
     mul-r

@@ -15,6 +15,9 @@ entry a = search
 inside : (a : tie.Then1) → getD (entry a .args .list .now) (entry a .args .at) 0 < length (entry a .args .kept .now)
 inside a = entry a .pre .0 .listing .rows-listed .inside _ (a .if1 .taken)
 
+rises-requires : tie.Need-rises-requires
+rises-requires c κs = search needs
+
 mul-row : tie.Need-mul-row
 mul-row c = search needs
 
@@ -47,7 +50,8 @@ unfolding ahead
 returns c =
     let a : tie.Then1 = search in
     let h : tie.After-ahead = search in
-    λ m. pivot-exchange _ _ _ _ _ _ (a .if1 .taken) (h .ahead .ensures)
+    let u : tie.After-rises = search in
+    λ m. pivot-exchange _ _ _ _ _ _ (u .rises .ensures) (a .if1 .taken) (h .ahead .ensures)
 
 is-infinite-requires : tie.Need-is-infinite-requires
 is-infinite-requires c κs = search needs
@@ -70,6 +74,7 @@ pub pivot-by-spec : {M : Type 1} → statement M
 pivot-by-spec =
     tie.close
     (tie.spec
+    rises-requires
     mul-row
     element-copy-out-row
     mul-pivot

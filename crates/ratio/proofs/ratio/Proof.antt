@@ -40,8 +40,9 @@ returns-2 c =
     let o : tie.After-other-val = search in
     let i : tie.After-is-infinite = search in
     let f : tie.After-is-finite = search in
+    let n : tie.Else1 = search in
     let l : tie.After-leaving-row = search in
-    λ m. ratio-23 _ _ _ _ (o .other-val .ensures) (i .is-infinite .ensures) (f .is-finite .ensures) (l .before .before .if1 .left) (l .leaving-row .ensures m ∙ leaving-part _ _ _ _ _) (c .enum-told .given .1)
+    λ m. ratio-23 _ _ _ _ (o .other-val .ensures) (i .is-infinite .ensures) (f .is-finite .ensures) (n .if1 .left) (l .leaving-row .ensures m ∙ leaving-part _ _ _ _ _) (c .enum-told .given .1)
 
 pivot-by-requires : tie.Need-pivot-by-requires
 pivot-by-requires c κs = let s : tie.Start = search in (passing (s .pre), omega (arith, s .pre .col-inside, s .pre .vals-long))
@@ -52,9 +53,10 @@ returns-3 c =
     let o : tie.After-other-val = search in
     let i : tie.After-is-infinite = search in
     let f : tie.After-is-finite = search in
+    let n : tie.Else1 = search in
     let l : tie.After-leaving-row = search in
     let v : tie.After-found = search in
-    λ m. ratio-pivots _ _ _ _ (o .other-val .ensures) (i .is-infinite .ensures) (f .is-finite .ensures) (l .before .before .if1 .left) (l .leaving-row .ensures m ∙ leaving-part _ _ _ _ _) (v .found .given .1) (c .pivot-by .ensures m ∙ pivot-part _ _ _ _ _ _)
+    λ m. ratio-pivots _ _ _ _ (o .other-val .ensures) (i .is-infinite .ensures) (f .is-finite .ensures) (n .if1 .left) (l .leaving-row .ensures m ∙ leaving-part _ _ _ _ _) (v .found .given .1) (c .pivot-by .ensures m ∙ pivot-part _ _ _ _ _ _)
 
 pub ratio-spec : {M : Type 1} → statement M
 ratio-spec =
