@@ -187,7 +187,8 @@ size_t tevalumi_open(
 
 /* status  0, or 11 as at opening, or 14 a kept number over its size
  * kind    0 not a plan: a row is broken or an amount out of bounds; 1 no floor: a sign is wrong or an
- *         absent bound needed; 2 a gap
+ *         absent bound needed; 2 a gap; 3 none exists: where the kept numbers are true, no amounts, whole or
+ *         fractional, keep every row and bound (costs all 0, right signs, no absent bound needed, b above 0)
  * value   the gap 1024 * c - b: where the kept numbers are true, no plan is cheaper than these amounts by
  *         more than value / 1024 */
 typedef struct {

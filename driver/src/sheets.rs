@@ -259,6 +259,7 @@ impl Arrays {
             (0, 0) => Verdict::NoPlan,
             (0, 1) => Verdict::NoFloor,
             (0, 2) => Verdict::Gap(i128::from(verdict.value)),
+            (0, 3) => Verdict::NoneExists,
             (0, _) => Verdict::Refused(u8::MAX),
             (status, _) => Verdict::Refused(number(status)),
         }

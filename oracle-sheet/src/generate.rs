@@ -52,6 +52,8 @@ pub struct Scale {
     pub sizes: u64,
     pub full: u64,
     pub wrecks: u64,
+    /// Sheets without costs, on which no plan exists, or nearly.
+    pub nones: u64,
     /// Scripts with `short` lines, which the exchange format doesn't have.
     pub short: u64,
     /// The largest kind number written.
@@ -70,6 +72,7 @@ pub const WHOLE: Scale = Scale {
     sizes: 200,
     full: 60,
     wrecks: 150,
+    nones: 2500,
     short: 0,
     kind_max: 255,
 };
@@ -86,6 +89,7 @@ pub const FIXED: Scale = Scale {
     sizes: 0,
     full: 0,
     wrecks: 4,
+    nones: 0,
     short: 0,
     kind_max: 255,
 };
@@ -1439,6 +1443,86 @@ fn sized_script(rng: &mut Rng, id: String, m: usize, n: usize, scale: &Scale) ->
     script.block
 }
 
+/// A sheet without costs, with right signs and no absent bound needed, whose floor is 0, 1 or some more by its first right side: one
+/// that has a multiplier of 1 or -1, so that a right side moves B by ones.
+fn costless(rng: &mut Rng) -> Sheet {
+    let (m, n) = small_size(rng);
+    let t = Taste {
+        cost: 0,
+        wrong: 0,
+        floor: true,
+        ..taste(rng)
+    };
+    let mut s = make(rng, m, n, t);
+    s.mult[0] = match s.ops[0] {
+        LE => -1,
+        GE => 1,
+        _ => rng.pick(&[1, -1]),
+    };
+    for j in 0..n {
+        s.cost[j] = 0;
+        let sum: i128 = (0..m).map(|i| s.a(i, j) * i128::from(s.mult[i])).sum();
+        // What the price -sum needs is there.
+        if sum < 0 && s.haslow[j] == 0 {
+            (s.lower[j], s.haslow[j]) = (fit(i128::from(s.upper[j]) - 1, rf::BOUND), 1);
+        }
+        if sum > 0 && s.hasup[j] == 0 {
+            (s.upper[j], s.hasup[j]) = (fit(i128::from(s.lower[j]) + 1, rf::BOUND), 1);
+        }
+    }
+    let floor = rf::fresh(&s).b;
+    let want = i128::from(rng.pick(&[0, 0, 1, 1, 2, 5, 1024]));
+    let right = i128::from(s.rhs[0]) + (want - floor) * i128::from(s.mult[0]);
+    s.rhs[0] = fit(right, rf::RHS);
+    s
+}
+
+/// 02: "none exists". Costs go to 1 and back to 0, and every other part of the condition is broken and mended: every other edit
+/// but of bounds that are dropped is taken back by the next one.
+fn none_script(rng: &mut Rng, id: String, scale: &Scale) -> Block {
+    let mut script = Script::open(id, costless(rng));
+    if rng.chance(20) {
+        // Kept counts that call the amounts a plan: none exists comes first all the same.
+        script.poke(Array::Counts, 0, 0);
+        script.poke(Array::Counts, 1, 0);
+    }
+    let mut back = None;
+    for _ in 0..rng.range(4, 10) {
+        if let Some(edit) = back.take() {
+            script.edit(edit);
+            continue;
+        }
+        let s = &script.live;
+        let (row, column) = (rng.below(s.rows), rng.below(s.columns));
+        let j = column as usize;
+        let a = s.coef[(row * s.columns + column) as usize];
+        let y = s.mult[row as usize];
+        let (kind, old, number) = match rng.below(12) {
+            0..=4 => (2, s.cost[j], if s.cost[j] == 0 { 1 } else { 0 }),
+            5 => (5, s.rhs[row as usize], s.rhs[row as usize] + rng.pick(&[-1, 1])),
+            6 => (7, y, y + rng.pick(&[-1, 1, -1024, 1024])),
+            7 => (3, s.lower[j], s.lower[j] + rng.pick(&[-1, 1])),
+            8 => (4, s.upper[j], s.upper[j] + rng.pick(&[-1, 1])),
+            9 => (6, a, a + rng.pick(&[-1, 1])),
+            10 => (rng.pick(&[8, 9]), 0, 0),
+            _ => {
+                common_edit(rng, &mut script, scale.kind_max);
+                continue;
+            }
+        };
+        let edit = |number| Edit {
+            kind,
+            row,
+            column,
+            number,
+        };
+        if script.edit(edit(number)) == 0 && kind < 8 && rng.chance(60) {
+            back = Some(edit(old));
+        }
+    }
+    script.block
+}
+
 /// Arrays that are lent shorter after the opening: edits and verdicts answer 11.
 fn short_script(rng: &mut Rng, id: String, turn: u64, scale: &Scale) -> Block {
     let (m, n) = small_size(rng);
@@ -1578,6 +1662,9 @@ pub fn blocks(seed: u64, scale: &Scale, see: &mut dyn FnMut(Block)) {
     }
     for k in 0..scale.wrecks {
         see(wreck_script(&mut rng(11, k), format!("wreck{k}")));
+    }
+    for k in 0..scale.nones {
+        see(none_script(&mut rng(12, k), format!("none{k}"), scale));
     }
     for k in 0..scale.short {
         see(short_script(&mut rng(10, k), format!("short{k}"), k, scale));

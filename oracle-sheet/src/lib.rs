@@ -421,6 +421,7 @@ fn print_kept(sheet: &Sheet, verdict: Verdict, out: &mut String) {
     }
     match verdict {
         Verdict::Refused(status) => write!(out, " verdict {status}"),
+        Verdict::NoneExists => write!(out, " verdict none"),
         Verdict::NoPlan => write!(out, " verdict no-plan"),
         Verdict::NoFloor => write!(out, " verdict no-floor"),
         Verdict::Gap(gap) => write!(out, " verdict gap:{gap}"),

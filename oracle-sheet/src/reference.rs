@@ -76,6 +76,7 @@ pub struct Edit {
 pub enum Verdict {
     /// 11 or 14.
     Refused(u8),
+    NoneExists,
     NoPlan,
     NoFloor,
     Gap(i128),
@@ -555,14 +556,25 @@ pub fn edit(sheet: &mut Sheet, edit: Edit) -> u8 {
     }
 }
 
+/// 02: "with all costs 0, right signs, no absent bound needed and B above 0".
+pub fn none_exists(sheet: &Sheet) -> bool {
+    let costless = (0..sheet.n()).all(|j| sheet.cost[j] == 0);
+    let kept = &sheet.kept;
+    costless && kept.counts[2] == 0 && kept.counts[3] == 0 && kept.b > 0
+}
+
 /// 01: "not a plan if either of the first two counts isn't 0; else no floor if either of the last
 /// isn't; else gap = 1024*C - B. A verdict gives 11, or 14 where a kept number is over its size."
+/// 02: "none exists" "takes precedence over the other verdicts".
 pub fn verdict(sheet: &Sheet) -> Verdict {
     if badly_sized(sheet) {
         return Verdict::Refused(11);
     }
     if kept_breaks(sheet, &sheet.kept) {
         return Verdict::Refused(14);
+    }
+    if none_exists(sheet) {
+        return Verdict::NoneExists;
     }
     let counts = sheet.kept.counts;
     if counts[0] != 0 || counts[1] != 0 {

@@ -298,6 +298,17 @@ impl Tally {
     fn judged(&mut self, sheet: &Sheet) {
         match rf::verdict(sheet) {
             Verdict::Refused(status) => self.add(&format!("verdicts {status}")),
+            Verdict::NoneExists => {
+                self.add("verdicts none");
+                let counts = sheet.kept.counts;
+                let plan = counts[0] == 0 && counts[1] == 0;
+                match (rf::is_true(sheet), plan) {
+                    (true, true) => self.add("none exists on a true sheet with a plan"),
+                    (true, false) => self.add("verdicts none on true sheets"),
+                    (false, true) => self.add("verdicts none before a gap of a damaged sheet"),
+                    (false, false) => self.add("verdicts none on other damaged sheets"),
+                }
+            }
             Verdict::NoPlan => self.add("verdicts no-plan"),
             Verdict::NoFloor => self.add("verdicts no-floor"),
             Verdict::Gap(gap) => {
@@ -316,9 +327,30 @@ impl Tally {
         }
     }
 
+    /// What an edit makes of the verdict that none exists, and how nearly it is given.
+    fn turned(&mut self, before: &Sheet, edit: Edit, after: &Sheet) {
+        let none = |s: &Sheet| rf::verdict(s) == Verdict::NoneExists;
+        let kind = edit.kind;
+        match (none(before), none(after)) {
+            (false, true) => self.add(&format!("none exists by an edit of kind {kind}")),
+            (true, false) => self.add(&format!("no longer none by an edit of kind {kind}")),
+            _ => {}
+        }
+        let signs = after.kept.counts[2] == 0 && after.kept.counts[3] == 0;
+        let costs = after.cost.iter().take(after.columns as usize).filter(|c| **c != 0);
+        match (costs.count(), signs, after.kept.b) {
+            (0, true, 0) => self.add("not none for B at 0 alone"),
+            (0, true, 1) => self.add("none exists with B at 1"),
+            (1, true, 1..) => self.add("not none for one cost alone"),
+            (0, false, 1..) => self.add("not none for signs or absent bounds alone"),
+            _ => {}
+        }
+    }
+
     fn edited(&mut self, before: &Sheet, edit: Edit, status: u8, after: &Sheet) {
         self.add("edits");
         self.judged(after);
+        self.turned(before, edit, after);
         let kind = edit.kind;
         let sort = if kind > 32 {
             "above 32".to_string()
@@ -712,9 +744,23 @@ pub fn targets() -> Vec<(String, Wanted)> {
         want(&format!("accepted with {place}"), 50);
     }
     want("kind 7 passing 64 bits midway", 20);
-    for verdict in ["no-plan", "no-floor", "gap", "14"] {
+    for verdict in ["none", "no-plan", "no-floor", "gap", "14"] {
         want(&format!("verdicts {verdict}"), 500);
     }
+    want("verdicts none on true sheets", 500);
+    want("verdicts none before a gap of a damaged sheet", 100);
+    for kind in 2..=9 {
+        let least = if kind == 2 { 500 } else { 40 };
+        // A dropped bound only takes from what a sheet shows.
+        if kind < 8 {
+            want(&format!("none exists by an edit of kind {kind}"), least);
+        }
+        want(&format!("no longer none by an edit of kind {kind}"), least);
+    }
+    want("not none for B at 0 alone", 100);
+    want("none exists with B at 1", 50);
+    want("not none for one cost alone", 500);
+    want("not none for signs or absent bounds alone", 100);
     want("verdicts gap 0 on true sheets", 500);
     want("verdicts gap above 0 on true sheets", 500);
     for status in [0, 11, 12, 13] {
@@ -758,6 +804,7 @@ pub fn targets() -> Vec<(String, Wanted)> {
         "accepted edits that left a true sheet untrue",
         "accepted edits that changed an unlisted cell",
         "gaps below 0 on true sheets",
+        "none exists on a true sheet with a plan",
         "14 on a true sheet",
         "edits of badly sized sheets that weren't refused",
     ] {

@@ -85,7 +85,7 @@ fn verdicts_and_limits_are_in_it() {
         .collect();
     assert_eq!(
         verdicts,
-        BTreeSet::from(["14", "no-plan", "no-floor", "gap"])
+        BTreeSet::from(["14", "none", "no-plan", "no-floor", "gap"])
     );
     // R, D, C and B at exactly their sizes.
     let mut seen = [false; 4];

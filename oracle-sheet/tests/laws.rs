@@ -250,6 +250,29 @@ fn no_amounts_in_reach_are_below_the_floor() {
     assert!(floors >= 1000 && points > 100_000 && exact > 1000);
 }
 
+#[test]
+fn no_amounts_in_reach_where_none_exists() {
+    let (mut nones, mut kept) = (0, 0);
+    each_edit(4, &mut |_, _, _, after| {
+        if after.columns > 3 || !rf::is_true(after) {
+            return;
+        }
+        let none = rf::verdict(after) == Verdict::NoneExists;
+        if !none && (nones == 0 || kept > 1000) {
+            return;
+        }
+        nones += u64::from(none);
+        for k in 1..=3 {
+            each_point(after, k, &mut |_| {
+                assert!(!none);
+                kept += 1;
+            });
+        }
+    });
+    // The points were looked for in earnest: other sheets have them.
+    assert!(nones >= 1000 && kept > 1000, "{nones} {kept}");
+}
+
 /// One row, one column, every number far from its limit.
 fn plain() -> Sheet {
     let mut sheet = Sheet {

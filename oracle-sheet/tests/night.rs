@@ -1,7 +1,7 @@
-//! 01's N5: N2 as a sheet, its five starred cases, with D and B as 01 gives them.
+//! 01's N5: N2 as a sheet, its five starred cases, with D and B as 01 gives them; and 02's sheet on which none exists.
 
 use oracle_sheet::generate::night_sheet;
-use oracle_sheet::reference::{edit, open, verdict, Edit, Sheet, Verdict};
+use oracle_sheet::reference::{edit, open, verdict, Edit, Sheet, Verdict, LE};
 
 fn opened(amount: i64, mult: i64) -> Sheet {
     let mut sheet = night_sheet(amount, mult);
@@ -68,5 +68,48 @@ fn edits_lead_from_case_to_case() {
             }
             assert_eq!(sheet, opened(to.0, to.1));
         }
+    }
+}
+
+#[test]
+fn none_exists() {
+    // Cost 0, bounds 0 up, row x <= -1, multiplier -1.
+    let mut sheet = Sheet {
+        rows: 1,
+        columns: 1,
+        coef: vec![1],
+        cost: vec![0],
+        lower: vec![0],
+        upper: vec![0],
+        haslow: vec![1],
+        hasup: vec![0],
+        rhs: vec![-1],
+        ops: vec![LE],
+        amount: vec![0],
+        mult: vec![-1024],
+        ..Sheet::default()
+    };
+    sheet.lend_kept();
+    assert_eq!(open(&mut sheet), 0);
+    assert_eq!((sheet.kept.d[0], sheet.kept.b), (1024, 1024));
+    assert_eq!(verdict(&sheet), Verdict::NoneExists);
+    let edits = [
+        (2, 1, Verdict::NoPlan),
+        (2, 0, Verdict::NoneExists),
+        (5, 0, Verdict::Gap(0)),
+        (5, -1, Verdict::NoneExists),
+        (7, 0, Verdict::NoPlan),
+        (7, -1, Verdict::NoneExists),
+        (8, 0, Verdict::NoPlan),
+    ];
+    for (kind, number, said) in edits {
+        let step = Edit {
+            kind,
+            row: 0,
+            column: 0,
+            number,
+        };
+        assert_eq!(edit(&mut sheet, step), 0);
+        assert_eq!(verdict(&sheet), said, "after kind {kind}, {number}");
     }
 }

@@ -33,7 +33,7 @@ pub fn tri_answer(a: lu::Answer) -> TriAnswer
     }
 }
 
-// 01's number of a verdict, its kind (0 not a plan, 1 no floor, 2 gap), and the gap.
+// 01's number of a verdict, its kind (0 not a plan, 1 no floor, 2 gap, 3 none exists), and the gap.
 #[repr(C)]
 pub struct SheetVerdict {
     pub status: usize,
@@ -45,6 +45,11 @@ pub fn sheet_verdict(v: sheet_rules::Verdict) -> SheetVerdict
     ensures { λ z. ⌜ sheetNumbers z ≡ verdictNumbers v ⌝ }
 {
     match v {
+        sheet_rules::Verdict::NoneExists => SheetVerdict {
+            status: 0,
+            kind: 3,
+            value: 0,
+        },
         sheet_rules::Verdict::NotPlan => SheetVerdict {
             status: 0,
             kind: 0,

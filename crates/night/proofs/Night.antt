@@ -19,7 +19,7 @@ use Rattle.rules.specs.Solve.{checkedAnswer, answerOf, valuesAfter, memoryAfter
 use Rattle.sheet_rules.specs.Sum.{sum, bit}
 use Rattle.sheet_rules.specs.Sheet.{holds, wrong, outside, termBy, term, lacksBy, lacks, activity, price, cost, floor, brokenRows, outsideAmounts, wrongSigns, absentNeeded, fresh, overKept}
 use Rattle.sheet_rules.specs.Opening.{firstFailed, sizesFine, allWithin, boundFine, boundsFine, opsFine, arraysFine, numbersFine, crosses, uncrossed, opening, opened}
-use Rattle.sheet_rules.specs.Verdict.{countFine, countsFine, keptFine, isZero, gap, verdictBy, verdict}
+use Rattle.sheet_rules.specs.Verdict.{countFine, countsFine, keptFine, isZero, gap, noneExists, verdictBy, verdict}
 use Rattle.night.specs.Plans.{num, minus, oneRow, N1, N2, N3, N4, roomFor, kindsFrom}
 use Rattle.night.specs.Cases.{shown, wanted, cases}
 
@@ -36,6 +36,6 @@ unfolding
     exchange flip pivot step next atBudget runOf valueOf valuesOf valueHolds rowHolds firstValue firstRow finalCheck asRow
     checkedAnswer answerOf valuesAfter memoryAfter close endOf solvePlan
     sum bit holds wrong outside termBy term lacksBy lacks activity price cost floor brokenRows outsideAmounts wrongSigns absentNeeded fresh overKept
-    firstFailed sizesFine allWithin boundFine boundsFine opsFine arraysFine numbersFine crosses uncrossed opening opened countFine countsFine keptFine isZero gap verdictBy verdict
+    firstFailed sizesFine allWithin boundFine boundsFine opsFine arraysFine numbersFine crosses uncrossed opening opened countFine countsFine keptFine isZero gap noneExists verdictBy verdict
     num minus oneRow N1 N2 N3 N4 roomFor kindsFrom shown wanted cases
 night = refl

@@ -1,4 +1,4 @@
--- The wrong programs of 01 about the sheet: each breaks its promise on a night case of N5. Assumes nothing.
+-- The wrong programs of 01 and 02 about the sheet: each breaks its promise on a night case, or on the sheet on which no plan exists. Assumes nothing.
 use mathlib.Core.Path.{_≡_, refl, sym, ap, _∙_}
 use mathlib.Core.List.{List, []}
 use Prim.Native.Nat.{ℕ, zero, suc}
@@ -9,15 +9,15 @@ use Rattle.doubles.specs.Loop.{run, all, tab}
 use Rattle.sheet_rules.specs.Sum.{_‼_, sum, bit}
 use Rattle.sheet_rules.specs.Sheet.{Plan, Sheet, sheetOf, holds, wrong, outside, termBy, term, lacksBy, lacks, activity, price, cost, floor, brokenRows, outsideAmounts, wrongSigns, absentNeeded, fresh, overKept}
 use Rattle.sheet_rules.specs.Opening.{leaves, firstFailed, sizesFine, allWithin, boundFine, boundsFine, opsFine, arraysFine, numbersFine, crosses, uncrossed, opening, opened}
-use Rattle.sheet_rules.specs.Verdict.{countFine, countsFine, keptFine, isZero, verdict}
+use Rattle.sheet_rules.specs.Verdict.{countFine, countsFine, keptFine, isZero, gap, noneExists, verdictBy, verdict}
 use Rattle.sheet_rules.specs.Edit.{put, edited, movedR, movedD, movedC, movedB, movedBroken, movedOutside, movedWrong, movedAbsent, moved, applied, indexFine, numberFine, bothFine, columnFine, rowFine, soundAt, editRefusal, edit}
 use Rattle.sheet_rules.specs.Promises.{Edits, Judges}
-use Rattle.sheet_rules.specs.Night.{minus, n2, amountTo}
+use Rattle.sheet_rules.specs.Night.{minus, n2, noPlan, amountTo}
 use Rattle.night.specs.Cases.{Shown, solves, judges, shown, wanted, cases}
 use Rattle.night.proofs.Night.{night}
 use Rattle.sheet_rules.specs.declared.Edit.{Edit}
 use Rattle.sheet_rules.specs.declared.Verdict.{Verdict}
-use Rattle.sheet_rules.specs.declared.Verdict.the-variants.{NotPlan, Gap}
+use Rattle.sheet_rules.specs.declared.Verdict.the-variants.{NoneExists, NotPlan, Gap}
 
 -- N5's first sheet with its amount edited to 3 is N5's fourth, opened
 edited-night : edit (opened (n2 (pos 4) (minus 3072))) (amountTo 3) ≡ opened (n2 (pos 3) (minus 3072))
@@ -56,3 +56,21 @@ never-a-gap program none h =
     let e : verdict s ≡ Gap (pos 4096) = ap (λ (l : List Shown). said (getD l 8 (judges 0 [] [] NotPlan))) night in
     let w : _≡_ {A = ℕ} 4096 0 = ap natAbs (none s (pos 4096) (h .answers ∙ e)) in
     omega arith
+
+-- a sheet that says "none exists" of every plan: N2 has one
+pub always-none : (program : Sheet → Verdict) → ((s : Sheet) → program s ≡ NoneExists) → let s = opened (n2 (pos 4) (minus 4096)) in Judges s (program s) → ⊥
+unfolding cases shown wanted
+always-none program none h =
+    let s = opened (n2 (pos 4) (minus 4096)) in
+    let e : verdict s ≡ Gap (pos 4096) = ap (λ (l : List Shown). said (getD l 8 (judges 0 [] [] NotPlan))) night in
+    let w : NoneExists ≡ Gap (pos 4096) = sym (none s) ∙ h .answers ∙ e in
+    let q : _≡_ {A = ℕ} 0 1 = cc in
+    omega arith
+
+none-shown : verdict (opened noPlan) ≡ NoneExists
+unfolding run all tab sum bit holds wrong outside termBy term lacksBy lacks activity price cost floor brokenRows outsideAmounts wrongSigns absentNeeded fresh overKept firstFailed sizesFine allWithin boundFine boundsFine opsFine arraysFine numbersFine crosses uncrossed opening opened countFine countsFine keptFine isZero gap noneExists verdictBy verdict
+none-shown = refl
+
+-- a sheet that never says it
+pub never-none : (program : Sheet → Verdict) → ((s : Sheet) → ¬ (program s ≡ NoneExists)) → Judges (opened noPlan) (program (opened noPlan)) → ⊥
+never-none program never h = never (opened noPlan) (h .answers ∙ none-shown)

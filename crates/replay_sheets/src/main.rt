@@ -95,6 +95,7 @@ fn poke_byte(out: &mut [u8], meant: bool, at: usize, number: u8) {
 fn show_verdict(v: Verdict) {
     words::text(b" verdict");
     match v {
+        Verdict::NoneExists => words::text(b" none"),
         Verdict::NotPlan => words::text(b" no-plan"),
         Verdict::NoFloor => words::text(b" no-floor"),
         Verdict::Gap(gap) => {

@@ -1,5 +1,10 @@
 // The audit sheet's public calls. They ask nothing: whatever is lent, the answer and every lent cell afterwards are settled.
+ghost use mathlib.Core.Path.{_≡_};
+ghost use mathlib.Core.List.{[]};
+ghost use Prim.Native.Nat.{_≤_};
+ghost use lib.ListN.{length};
 ghost use Rattle.sheet_rules.specs.Sheet.{planOf, keptOf, sheetOf};
+ghost use Rattle.sheet_rules.specs.Verdict.{noneExists};
 ghost use Rattle.sheet_rules.specs.Promises.{Opens, Edits, Judges};
 use sheet_rules::Edit;
 use sheet_rules::Verdict;
@@ -147,6 +152,16 @@ pub fn edit(
     refusal
 }
 
+// 02: "with all costs 0, right signs, no absent bound needed and B above 0".
+fn none_exists(columns: usize, costs: &[i64], b: &[i64], counts: &[i64]) -> bool
+    requires { ⌜ (columns ≤ length (now costs)) × (1 ≤ length (now b)) × (4 ≤ length (now counts)) ⌝ }
+    ensures { λ r. ⌜ r ≡ noneExists columns (now (costs .entry)) (keptOf [] [] [] (now (b .entry)) (now (counts .entry))) ⌝ }
+{
+    sheet_tests::all_within(0, columns, costs)
+        & (is_zero(counts[2]) & is_zero(counts[3]))
+        & (0 < b[0])
+}
+
 // The verdict of a sheet. It reads only.
 pub fn verdict(
     rows: usize,
@@ -192,6 +207,9 @@ pub fn verdict(
     }
     if !sheet_tests::kept_fine(rows, columns, r, d, c, b, counts) {
         return Verdict::Refused(14);
+    }
+    if none_exists(columns, costs, b, counts) {
+        return Verdict::NoneExists;
     }
     if !(is_zero(counts[0]) & is_zero(counts[1])) {
         return Verdict::NotPlan;

@@ -14,10 +14,10 @@ use Rattle.sheet_rules.specs.Sheet.{Sheet}
 use Rattle.sheet_rules.specs.Opening.{_unless_, firstFailed, sizesFine, numbersFine, uncrossed, opening, leaves}
 use Rattle.sheet_rules.specs.Verdict.{keptFine, isZero, gap, verdictBy, verdict}
 use Rattle.sheet_rules.specs.Edit.{knownKind, todaysKind, indexFine, numberFine, bothFine, soundAt, applied, editRefusal}
-use Rattle.sheet_rules.specs.Words.{Sized, Limits, Crossing, KeptIn, Index, NumberIn, WouldCross, Sound, Today, Placed, IsPlan, HasFloor, OpeningSays, EditSays, VerdictSays}
+use Rattle.sheet_rules.specs.Words.{Sized, Limits, Crossing, KeptIn, Index, NumberIn, WouldCross, Sound, Today, Placed, IsPlan, HasFloor, ShowsNone, OpeningSays, EditSays, VerdictSays}
 use Rattle.sheet_rules.specs.declared.Edit.{Edit}
 use Rattle.sheet_rules.specs.declared.Verdict.{Verdict}
-use Rattle.sheet_rules.proofs.Tests.{Decides, no-so, so-no, and-decides, sizes-decide, numbers-decide, uncrossed-decides, crossing-found, kept-decides, zero-decides, index-decides, number-decides, both-decides, would-cross-found, sound-decides}
+use Rattle.sheet_rules.proofs.Tests.{Decides, no-so, so-no, and-decides, sizes-decide, numbers-decide, uncrossed-decides, crossing-found, kept-decides, none-decides, zero-decides, index-decides, number-decides, both-decides, would-cross-found, sound-decides}
 
 -- ---- opening
 pub opening-says : (s : Sheet) → OpeningSays s (opening s)
@@ -142,19 +142,22 @@ module _ (s : Sheet) where
 
   pub verdict-says : VerdictSays s (verdict s)
   unfolding verdict verdictBy gap
-  verdict-says = at (sizesFine s) (sizes-decide s) (keptFine s) (kept-decides s) _ plan-decides _ floor-decides
+  verdict-says = at (sizesFine s) (sizes-decide s) (keptFine s) (kept-decides s) _ (none-decides s) _ plan-decides _ floor-decides
     where
-      at : (b : Bool) → Decides b (Sized s) → (d : Bool) → Decides d (KeptIn s) → (f : Bool) → Decides f (IsPlan (s .kept)) → (g : Bool) → Decides g (HasFloor (s .kept)) → VerdictSays s (verdictBy b d f g (gap (s .kept)))
-      at false z d k f p g h = VerdictSays.size (no-so z refl)
-      at true z false k f p g h = VerdictSays.over (z .yes-so refl) (no-so k refl)
-      at true z true k false p g h = VerdictSays.not-plan (z .yes-so refl) (k .yes-so refl) (no-so p refl)
-      at true z true k true p false h = VerdictSays.no-floor (z .yes-so refl) (k .yes-so refl) (p .yes-so refl) (no-so h refl)
-      at true z true k true p true h = VerdictSays.gap (z .yes-so refl) (k .yes-so refl) (p .yes-so refl) (h .yes-so refl)
+      at : (b : Bool) → Decides b (Sized s) → (d : Bool) → Decides d (KeptIn s) → (e : Bool) → Decides e (ShowsNone s)
+          → (f : Bool) → Decides f (IsPlan (s .kept)) → (g : Bool) → Decides g (HasFloor (s .kept)) → VerdictSays s (verdictBy b d e f g (gap (s .kept)))
+      at false z d k e n f p g h = VerdictSays.size (no-so z refl)
+      at true z false k e n f p g h = VerdictSays.over (z .yes-so refl) (no-so k refl)
+      at true z true k true n f p g h = VerdictSays.none (z .yes-so refl) (k .yes-so refl) (n .yes-so refl)
+      at true z true k false n false p g h = VerdictSays.not-plan (z .yes-so refl) (k .yes-so refl) (no-so n refl) (no-so p refl)
+      at true z true k false n true p false h = VerdictSays.no-floor (z .yes-so refl) (k .yes-so refl) (no-so n refl) (p .yes-so refl) (no-so h refl)
+      at true z true k false n true p true h = VerdictSays.gap (z .yes-so refl) (k .yes-so refl) (no-so n refl) (p .yes-so refl) (h .yes-so refl)
 
   pub verdict-only : {v : Verdict} → VerdictSays s v → verdict s ≡ v
   unfolding verdict verdictBy gap
   verdict-only (VerdictSays.size h) = rw (so-no _ (sizes-decide s) h)
   verdict-only (VerdictSays.over z h) = rw (sizes-decide s .so-yes z, so-no _ (kept-decides s) h)
-  verdict-only (VerdictSays.not-plan z k h) = rw (sizes-decide s .so-yes z, kept-decides s .so-yes k, so-no _ plan-decides h)
-  verdict-only (VerdictSays.no-floor z k p h) = rw (sizes-decide s .so-yes z, kept-decides s .so-yes k, plan-decides .so-yes p, so-no _ floor-decides h)
-  verdict-only (VerdictSays.gap z k p h) = rw (sizes-decide s .so-yes z, kept-decides s .so-yes k, plan-decides .so-yes p, floor-decides .so-yes h)
+  verdict-only (VerdictSays.none z k n) = rw (sizes-decide s .so-yes z, kept-decides s .so-yes k, none-decides s .so-yes n)
+  verdict-only (VerdictSays.not-plan z k n h) = rw (sizes-decide s .so-yes z, kept-decides s .so-yes k, so-no _ (none-decides s) n, so-no _ plan-decides h)
+  verdict-only (VerdictSays.no-floor z k n p h) = rw (sizes-decide s .so-yes z, kept-decides s .so-yes k, so-no _ (none-decides s) n, plan-decides .so-yes p, so-no _ floor-decides h)
+  verdict-only (VerdictSays.gap z k n p h) = rw (sizes-decide s .so-yes z, kept-decides s .so-yes k, so-no _ (none-decides s) n, plan-decides .so-yes p, floor-decides .so-yes h)

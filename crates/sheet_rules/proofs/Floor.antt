@@ -1,12 +1,12 @@
 -- The floor is a floor: weak duality with bounds, over fractional amounts; and what a gap means. Assumes nothing.
 use mathlib.Core.Path.{_≡_, refl, sym, ap, _∙_, subst}
 use mathlib.Core.Bool.{Bool, true, false, not, _&&_}
-use Prim.Native.Nat.{ℕ, zero, suc, _≤_, _<_}
+use Prim.Native.Nat.{ℕ, zero, suc, _*_, _≤_, _<_}
 use native.Mathlib.Nat.{le-antisymm, le-of-lt}
 use native.Mathlib.Omega.{arith}
 use lib.Dec.{T, leb→le, le→leb, ltb→lt, eqb→eq}
 use lib.IntN.{ℤ, pos, negsuc, negℤ, _+ℤ_, _-ℤ_, _*ℤ_, one, *ℤ-one, *ℤ-comm, *ℤ-zero, zero-*ℤ, +ℤ-invr, +ℤ-idr}
-use lib.Signed.{_≤ℤ_, ltZ, ltZ-no, ≤ℤ-refl}
+use lib.Signed.{_≤ℤ_, _<ℤ_, ltZ, ltZ-no, ≤ℤ-refl}
 use borrow.Author.Tests.{eq-eqb, not-false}
 use Rattle.doubles.proofs.Loops.{both-true}
 use Rattle.sheet_rules.proofs.Bools.{neither}
@@ -14,13 +14,13 @@ use Rattle.doubles.specs.Limits.{unit}
 use Rattle.sheet_rules.specs.Sum.{_‼_, sum, dot}
 use Rattle.sheet_rules.specs.Sheet.{Plan, Sheet, True, a, c, lower, upper, lowerMark, upperMark, rhs, op, x, Y, present, holds, wrong, outside, termBy, term, lacksBy, lacks, brokenAt, outsideAt, wrongAt, termAt, lacksAt, activity, price, cost, floor, brokenRows, outsideAmounts, wrongSigns, absentNeeded}
 use Rattle.sheet_rules.specs.Verdict.{verdict}
-use Rattle.sheet_rules.specs.Words.{Keeps, Gapped, IsPlan, HasFloor, VerdictSays}
+use Rattle.sheet_rules.specs.Words.{Sized, KeptIn, Keeps, NoneKeep, Gapped, IsPlan, HasFloor, ShowsNone, VerdictSays}
 use Rattle.sheet_rules.specs.declared.Verdict.{Verdict}
-use Rattle.sheet_rules.specs.declared.Verdict.the-variants.{Gap}
+use Rattle.sheet_rules.specs.declared.Verdict.the-variants.{NoneExists, Gap}
 use Rattle.sheet_rules.proofs.Ring.{mul-add, add-mul, mul-assoc, mul-left-comm, add-left-comm, neg-mul, mul-neg, add-le-add, mul-le-mul, mul-le-neg, neg-le-neg, sub-nonneg}
-use Rattle.sheet_rules.proofs.Sums.{sum-ext, sum-add, sum-mul, sum-swap, sum-mono, count-zero}
+use Rattle.sheet_rules.proofs.Sums.{sum-ext, sum-none, sum-add, sum-mul, sum-swap, sum-mono, count-zero}
 use Rattle.sheet_rules.proofs.Tests.{leZ-decides}
-use Rattle.sheet_rules.proofs.Exact.{verdict-says}
+use Rattle.sheet_rules.proofs.Exact.{verdict-says, verdict-only}
 
 -- ---- the order of ℤ and its tests
 not-so : {b : Bool} → b ≡ false → T (not b)
@@ -144,6 +144,9 @@ own-plan p b o = record {
     columns : (j : ℕ) → j < p .cols → (lowerMark p j ≡ 1 → lower p j ≤ℤ x p j) × (upperMark p j ≡ 1 → x p j ≤ℤ upper p j)
     columns j l = within-bounds (x p j) (lower p j) (upper p j) (lowerMark p j) (upperMark p j) (count-zero (p .cols) (outsideAt p) o j l)
 
+own-true : (s : Sheet) → True s → IsPlan (s .kept) → Keeps (s .plan) 1 (x (s .plan))
+own-true s t p = own-plan (s .plan) (sym (t .broken-true) ∙ p .0) (sym (t .outside-true) ∙ p .1)
+
 -- ---- the gap theorem: what a shown gap means
 cheaper : (k c b z : ℤ) → (k *ℤ b) ≤ℤ (pos unit *ℤ z) → (pos unit *ℤ (k *ℤ c -ℤ z)) ≤ℤ (k *ℤ (pos unit *ℤ c -ℤ b))
 cheaper k c b z h =
@@ -158,14 +161,48 @@ gapped s t p f = record {
 }
   where
     own : Keeps (s .plan) 1 (x (s .plan))
-    own = own-plan (s .plan) (sym (t .broken-true) ∙ p .0) (sym (t .outside-true) ∙ p .1)
+    own = own-true s t p
 
 gap-says : (s : Sheet) {v : Verdict} → VerdictSays s v → (g : ℤ) → v ≡ Gap g → True s → Gapped s g
 gap-says s (VerdictSays.size h) g w t = absurd (let q : _≡_ {A = ℕ} 0 1 = cc in omega arith)
 gap-says s (VerdictSays.over z h) g w t = absurd (let q : _≡_ {A = ℕ} 0 1 = cc in omega arith)
-gap-says s (VerdictSays.not-plan z k h) g w t = absurd (let q : _≡_ {A = ℕ} 0 1 = cc in omega arith)
-gap-says s (VerdictSays.no-floor z k p h) g w t = absurd (let q : _≡_ {A = ℕ} 0 1 = cc in omega arith)
-gap-says s (VerdictSays.gap z k p f) g w t = let e : pos unit *ℤ (s .kept .C ‼ 0) -ℤ s .kept .B ‼ 0 ≡ g = cc in subst (Gapped s) e (gapped s t p f)
+gap-says s (VerdictSays.none z k n) g w t = absurd (let q : _≡_ {A = ℕ} 0 1 = cc in omega arith)
+gap-says s (VerdictSays.not-plan z k n h) g w t = absurd (let q : _≡_ {A = ℕ} 0 1 = cc in omega arith)
+gap-says s (VerdictSays.no-floor z k n p h) g w t = absurd (let q : _≡_ {A = ℕ} 0 1 = cc in omega arith)
+gap-says s (VerdictSays.gap z k n p f) g w t = let e : pos unit *ℤ (s .kept .C ‼ 0) -ℤ s .kept .B ‼ 0 ≡ g = cc in subst (Gapped s) e (gapped s t p f)
 
 pub gap-theorem : (s : Sheet) → True s → (g : ℤ) → verdict s ≡ Gap g → Gapped s g
 gap-theorem s t g w = gap-says s (verdict-says s) g w t
+
+-- ---- 02, Ask 13: with no costs, a floor above 0 can't be met
+
+costless : (p : Plan) (z : ℕ → ℤ) → ((j : ℕ) → j < p .cols → c p j ≡ pos 0) → cost p z ≡ pos 0
+unfolding cost
+costless p z n = sum-ext (p .cols) _ _ (λ j l. rw (n j l) (zero-*ℤ (z j))) ∙ sum-none (p .cols)
+
+-- a product of two numbers above 0 isn't at most 0
+not-met : (k : ℕ) (b : ℤ) → 1 ≤ k → pos 0 <ℤ b → (pos k *ℤ b) ≤ℤ pos 0 → ⊥
+not-met zero b h l m = absurd (omega arith)
+not-met (suc k) (pos zero) h l m = absurd (l .lt)
+not-met (suc k) (pos (suc n)) h l m = let z = leb→le (suc k * suc n) 0 (m .le) in omega (arith, z)
+not-met (suc k) (negsuc n) h l m = absurd (l .lt)
+
+none-shown : (s : Sheet) → True s → ShowsNone s → NoneKeep (s .plan)
+none-shown s t n k h z keeps =
+    not-met k (s .kept .B ‼ 0) h (n .above)
+    (subst (λ (v : ℤ). (pos k *ℤ (s .kept .B ‼ 0)) ≤ℤ v) (ap (λ (v : ℤ). pos unit *ℤ v) (costless (s .plan) z (n .costless)) ∙ *ℤ-zero (pos unit)) (floor-theorem s t (n .has-floor) k z keeps))
+
+none-says : (s : Sheet) {v : Verdict} → VerdictSays s v → v ≡ NoneExists → ShowsNone s
+none-says s (VerdictSays.size h) w = absurd (let q : _≡_ {A = ℕ} 0 1 = cc in omega arith)
+none-says s (VerdictSays.over z h) w = absurd (let q : _≡_ {A = ℕ} 0 1 = cc in omega arith)
+none-says s (VerdictSays.none z k n) w = n
+none-says s (VerdictSays.not-plan z k n h) w = absurd (let q : _≡_ {A = ℕ} 0 1 = cc in omega arith)
+none-says s (VerdictSays.no-floor z k n p h) w = absurd (let q : _≡_ {A = ℕ} 0 1 = cc in omega arith)
+none-says s (VerdictSays.gap z k n p f) w = absurd (let q : _≡_ {A = ℕ} 0 1 = cc in omega arith)
+
+pub none-theorem : (s : Sheet) → True s → verdict s ≡ NoneExists → NoneKeep (s .plan)
+none-theorem s t w = none-shown s t (none-says s (verdict-says s) w)
+
+-- "The gap verdict and its meaning stay": a true sheet whose amounts are a plan isn't one that shows that none exists, so it has its gap as before
+pub gap-stays : (s : Sheet) → True s → Sized s → KeptIn s → IsPlan (s .kept) → HasFloor (s .kept) → verdict s ≡ Gap (pos unit *ℤ (s .kept .C ‼ 0) -ℤ s .kept .B ‼ 0)
+gap-stays s t z k p f = verdict-only s (VerdictSays.gap z k (λ n. none-shown s t n 1 (omega arith) (x (s .plan)) (own-true s t p)) p f)

@@ -8,16 +8,16 @@ use Rattle.sheet_rules.specs.Sheet.{Sheet}
 use Rattle.sheet_rules.specs.Opening.{opened}
 use Rattle.sheet_rules.specs.Edit.{edit}
 use Rattle.sheet_rules.specs.Touches.{Cell, read, touches}
-use Rattle.sheet_rules.specs.Words.{Openable, OpeningSays, EditSays, VerdictSays, Takes}
+use Rattle.sheet_rules.specs.Words.{NoneKeep, Openable, OpeningSays, EditSays, VerdictSays, Takes}
 use Rattle.sheet_rules.specs.Promises.{Opens, Edits, Judges}
 use Rattle.sheet_rules.specs.Meaning.{Called, Demand3}
 use Rattle.sheet_rules.specs.declared.Edit.{Edit}
 use Rattle.sheet_rules.specs.declared.Verdict.{Verdict}
-use Rattle.sheet_rules.specs.declared.Verdict.the-variants.{Refused}
+use Rattle.sheet_rules.specs.declared.Verdict.the-variants.{NoneExists, Refused}
 use Rattle.sheet_rules.proofs.Exact.{opening-says, opening-only, edit-says, edit-only, verdict-says, verdict-only, left-old}
 use Rattle.sheet_rules.proofs.Reached.{opened-good, edit-good, reopens, good-afresh, opened-alike, edit-never-14, verdict-never-14}
 use Rattle.sheet_rules.proofs.Touched.{cell-stays, cell-takes}
-use Rattle.sheet_rules.proofs.Floor.{gap-theorem}
+use Rattle.sheet_rules.proofs.Floor.{gap-theorem, none-theorem}
 
 -- ---- an opening
 module _ {s t : Sheet} {n : ℕ} (o : Opens s n t) where
@@ -69,6 +69,10 @@ demand-3 {s} h =
       opens-alike = λ n t o. (o .answers ∙ reopens s k, o .left ∙ opened-alike s k);
       gap-is = λ g j. gap-theorem s (k .good .true-sheet) g (sym (j .answers));
     }
+
+-- 02: where such a sheet says "none exists", "no amounts, whole or fractional, keep every row and bound"
+pub none-exists : {s : Sheet} → Called s → Judges s NoneExists → NoneKeep (s .plan)
+none-exists {s} h j = none-theorem s (called-openable h .good .true-sheet) (sym (j .answers))
 
 -- 01: "14 is never given on a true sheet", by an edit or by a verdict
 pub edits-never-14 : {s t : Sheet} {e : Edit} {n : ℕ} → Called s → Edits s e n t → ¬ (n ≡ 14)

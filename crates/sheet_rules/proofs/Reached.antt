@@ -140,9 +140,10 @@ edit-never-14 s e g w = edit-broken s e (edit-says s e) w g
 over-size : (s : Sheet) {v : Verdict} → VerdictSays s v → v ≡ Refused 14 → Good s → ⊥
 over-size s (VerdictSays.size h) w g = let q : _≡_ {A = ℕ} 11 14 = cc in omega arith
 over-size s (VerdictSays.over z h) w g = h (kept-in s (g .sized) (g .limits) (g .true-sheet))
-over-size s (VerdictSays.not-plan z k h) w g = let q : _≡_ {A = ℕ} 0 1 = cc in omega arith
-over-size s (VerdictSays.no-floor z k p h) w g = let q : _≡_ {A = ℕ} 0 1 = cc in omega arith
-over-size s (VerdictSays.gap z k p h) w g = let q : _≡_ {A = ℕ} 0 1 = cc in omega arith
+over-size s (VerdictSays.none z k n) w g = let q : _≡_ {A = ℕ} 0 1 = cc in omega arith
+over-size s (VerdictSays.not-plan z k n h) w g = let q : _≡_ {A = ℕ} 0 1 = cc in omega arith
+over-size s (VerdictSays.no-floor z k n p h) w g = let q : _≡_ {A = ℕ} 0 1 = cc in omega arith
+over-size s (VerdictSays.gap z k n p h) w g = let q : _≡_ {A = ℕ} 0 1 = cc in omega arith
 
 pub verdict-never-14 : (s : Sheet) → Good s → verdict s ≡ Refused 14 → ⊥
 verdict-never-14 s g w = over-size s (verdict-says s) w g

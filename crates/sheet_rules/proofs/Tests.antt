@@ -16,10 +16,10 @@ use Rattle.doubles.proofs.Loops.{both-true, all-at, all-by, all-missed}
 use Rattle.sheet_rules.specs.Sum.{_‼_}
 use Rattle.sheet_rules.specs.Sheet.{Plan, Sheet, a, lower, upper, lowerMark, upperMark, op}
 use Rattle.sheet_rules.specs.Opening.{sizesFine, within, allWithin, boundFine, boundsFine, opsFine, arraysFine, numbersFine, crosses, crossesAt, uncrossed}
-use Rattle.sheet_rules.specs.Verdict.{countFine, countsFine, keptFine, isZero}
+use Rattle.sheet_rules.specs.Verdict.{countFine, countsFine, keptFine, isZero, noneExists}
 use Rattle.sheet_rules.specs.Edit.{put, edited, usesColumn, usesRow, indexFine, kindLimit, numberFine, bothFine, columnFine, rowFine, soundAt}
 use Rattle.sheet_rules.specs.declared.Edit.{Edit}
-use Rattle.sheet_rules.specs.Words.{Sized, Within, Bound, Arrays, Limits, Crossed, Crossing, Count, KeptIn, Index, NumberIn, WouldCross, from-below, from-above, Sound, Takes}
+use Rattle.sheet_rules.specs.Words.{Sized, Within, Bound, Arrays, Limits, Crossed, Crossing, Count, KeptIn, ShowsNone, Index, NumberIn, WouldCross, from-below, from-above, Sound, Takes}
 use Rattle.sheet_rules.proofs.Bools.{unlike}
 use Rattle.sheet_rules.proofs.Takes.{takes}
 
@@ -221,6 +221,22 @@ unfolding isZero
 zero-decides (pos zero) = record { yes-so = λ _. refl; so-yes = λ _. refl }
 zero-decides (pos (suc n)) = record { yes-so = λ e. unlike e; so-yes = λ h. absurd (omega (arith, ap natAbs h)) }
 zero-decides (negsuc n) = record { yes-so = λ e. unlike e; so-yes = λ h. absurd (omega (arith, ap natAbs h)) }
+
+-- a number that isn't above 0 in size is 0
+size-zero : (z : ℤ) → natAbs z ≤ 0 → z ≡ pos 0
+size-zero (pos zero) h = refl
+size-zero (pos (suc n)) h = absurd (omega arith)
+size-zero (negsuc n) h = absurd (omega arith)
+
+pub none-decides : (s : Sheet) → Decides (noneExists (s .plan .cols) (s .plan .costs) (s .kept)) (ShowsNone s)
+unfolding noneExists
+none-decides s =
+    in-words
+    (and-decides _ _
+    (and-decides _ _ (within-decides 0 _ (s .plan .costs)) (and-decides _ _ (zero-decides (s .kept .counts ‼ 2)) (zero-decides (s .kept .counts ‼ 3))))
+    (ltZ-decides (pos 0) (s .kept .B ‼ 0)))
+    (λ h. record { costless = λ j l. size-zero _ (h .0 .0 j l); has-floor = h .0 .1; above = h .1 })
+    (λ r. (((λ j l. omega (arith, ap natAbs (r .costless j l))), r .has-floor), r .above))
 
 -- ---- an edit
 -- of the kinds 1 to 9 all but 5 and 7 use a column; 5, 6 and 7 use a row

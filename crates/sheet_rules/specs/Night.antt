@@ -1,4 +1,4 @@
--- Night case N5's sheets; crate `night` has what 01 gives for each. Assumes nothing.
+-- Night case N5's sheets, and one on which no plan exists; crate `night` has what is given for each. Assumes nothing.
 use mathlib.Core.List.{[], _∷_}
 use Prim.Native.Nat.{ℕ}
 use lib.IntN.{ℤ, pos, negℤ}
@@ -14,6 +14,12 @@ n2 amount y =
     sheetOf
     (planOf 1 2 (pos 1 ∷ pos 1 ∷ []) (minus 3 ∷ minus 1 ∷ []) (pos 0 ∷ pos 0 ∷ []) (pos 0 ∷ pos 2 ∷ []) (1 ∷ 1 ∷ []) (0 ∷ 1 ∷ []) (pos 4 ∷ []) (0 ∷ []) (amount ∷ pos 0 ∷ []) (y ∷ []))
     (keptOf (pos 0 ∷ []) (pos 0 ∷ pos 0 ∷ []) (pos 0 ∷ []) (pos 0 ∷ []) (pos 0 ∷ pos 0 ∷ pos 0 ∷ pos 0 ∷ []))
+
+-- 02, Ask 13: cost 0, bounds 0 to +inf, row x <= -1 with multiplier -1, before it is opened
+abbrev pub noPlan : Sheet
+noPlan =
+    sheetOf (planOf 1 1 (pos 1 ∷ []) (pos 0 ∷ []) (pos 0 ∷ []) (pos 0 ∷ []) (1 ∷ []) (0 ∷ []) (minus 1 ∷ []) (0 ∷ []) (pos 0 ∷ []) (minus 1024 ∷ []))
+    (keptOf (pos 0 ∷ []) (pos 0 ∷ []) (pos 0 ∷ []) (pos 0 ∷ []) (pos 0 ∷ pos 0 ∷ pos 0 ∷ pos 0 ∷ []))
 
 -- the edit of the first amount
 abbrev pub amountTo : ℕ → Edit

@@ -13,7 +13,7 @@ use Rattle.sheet_rules.specs.Sheet.{Plan, Kept, Sheet, True, a, c, lower
 use Rattle.sheet_rules.specs.Edit.{usesColumn, usesRow, applied}
 use Rattle.sheet_rules.specs.declared.Edit.{Edit}
 use Rattle.sheet_rules.specs.declared.Verdict.{Verdict}
-use Rattle.sheet_rules.specs.declared.Verdict.the-variants.{NotPlan, NoFloor, Gap, Refused}
+use Rattle.sheet_rules.specs.declared.Verdict.the-variants.{NoneExists, NotPlan, NoFloor, Gap, Refused}
 
 -- ---- 11: no size is over its limit, no array short
 pub record Sized (s : Sheet) : Type 0 where
@@ -156,12 +156,19 @@ IsPlan k = (k .counts ‼ 0 ≡ pos 0) × (k .counts ‼ 1 ≡ pos 0)
 abbrev pub HasFloor : Kept → Type 0
 HasFloor k = (k .counts ‼ 2 ≡ pos 0) × (k .counts ‼ 3 ≡ pos 0)
 
+-- 02: "with all costs 0, right signs, no absent bound needed and B above 0"
+pub record ShowsNone (s : Sheet) : Type 0 where
+  pub costless : (j : ℕ) → j < s .plan .cols → c (s .plan) j ≡ pos 0
+  pub has-floor : HasFloor (s .kept)
+  pub above : pos 0 <ℤ s .kept .B ‼ 0
+
 pub data VerdictSays (s : Sheet) : Verdict → Type 0 where
   size : ¬ Sized s → VerdictSays s (Refused 11)
   over : Sized s → ¬ KeptIn s → VerdictSays s (Refused 14)
-  not-plan : Sized s → KeptIn s → ¬ IsPlan (s .kept) → VerdictSays s NotPlan
-  no-floor : Sized s → KeptIn s → IsPlan (s .kept) → ¬ HasFloor (s .kept) → VerdictSays s NoFloor
-  gap : Sized s → KeptIn s → IsPlan (s .kept) → HasFloor (s .kept) → VerdictSays s (Gap (pos unit *ℤ (s .kept .C ‼ 0) -ℤ s .kept .B ‼ 0))
+  none : Sized s → KeptIn s → ShowsNone s → VerdictSays s NoneExists
+  not-plan : Sized s → KeptIn s → ¬ ShowsNone s → ¬ IsPlan (s .kept) → VerdictSays s NotPlan
+  no-floor : Sized s → KeptIn s → ¬ ShowsNone s → IsPlan (s .kept) → ¬ HasFloor (s .kept) → VerdictSays s NoFloor
+  gap : Sized s → KeptIn s → ¬ ShowsNone s → IsPlan (s .kept) → HasFloor (s .kept) → VerdictSays s (Gap (pos unit *ℤ (s .kept .C ‼ 0) -ℤ s .kept .B ‼ 0))
 
 -- ---- plans
 -- 01: "Fractional amounts mean whole multiples of 1/k, any k > 0". The amounts z / k keep every row (Le, Eq, Ge are 0, 1, 2) and every present bound
@@ -171,6 +178,10 @@ pub record Keeps (p : Plan) (k : ℕ) (z : ℕ → ℤ) : Type 0 where
   pub ge-kept : (i : ℕ) → i < p .rows → 2 ≤ op p i → (pos k *ℤ rhs p i) ≤ℤ activity p z i
   pub lower-kept : (j : ℕ) → j < p .cols → lowerMark p j ≡ 1 → (pos k *ℤ lower p j) ≤ℤ z j
   pub upper-kept : (j : ℕ) → j < p .cols → upperMark p j ≡ 1 → z j ≤ℤ (pos k *ℤ upper p j)
+
+-- 02: "no amounts, whole or fractional, keep every row and bound". Of k = 0 nothing is said: 0 / 0 is no amount, and `Keeps p 0` holds of zeros on every plan
+abbrev pub NoneKeep : Plan → Type 0
+NoneKeep p = (k : ℕ) → 1 ≤ k → (z : ℕ → ℤ) → ¬ Keeps p k z
 
 -- what demand 3 says of a shown gap g, which counts 1/1024 of a cost unit: the sheet's own amounts keep every row and bound, g isn't below 0, and no amounts z / k that
 -- keep every row and bound are cheaper than ours by more than g: k * 1024 * (cost of ours - cost of z / k) is at most k * g

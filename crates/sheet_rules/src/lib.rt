@@ -8,8 +8,9 @@ pub struct Edit {
     pub number: i64,
 }
 
-// Not a plan, no floor, the gap in 1/1024 of a cost unit, or refused with 01's number.
+// No plan exists, not a plan, no floor, the gap in 1/1024 of a cost unit, or refused with 01's number.
 pub enum Verdict {
+    NoneExists,
     NotPlan,
     NoFloor,
     Gap(i64),

@@ -9,7 +9,7 @@ use std::collections::BTreeSet;
 use std::path::Path;
 use std::process::ExitCode;
 
-use oracle_sheet::reference::{Edit, COLUMNS, ROWS};
+use oracle_sheet::reference::{verdict, Edit, Verdict, COLUMNS, ROWS};
 use oracle_sheet::{
     answer, parse, play, Array, Block, Moment, Reference, Step, KEPT_ARRAYS, PLAN_ARRAYS,
 };
@@ -62,17 +62,24 @@ fn run(dir: &Path) -> Result<(), String> {
         .map_err(|err| format!("{}: {err}", dir.display()))
 }
 
-/// What a block reaches: the opening's answer, and each edit's kind with its answer.
+/// What a block reaches: the opening's answer, each edit's kind with its answer, and that no plan exists.
 fn kinds(block: &Block) -> BTreeSet<(u64, u8)> {
     let mut kinds = BTreeSet::new();
-    play(block, &mut |moment| match moment {
-        Moment::Opened(status, _) => {
-            kinds.insert((u64::MAX, status));
+    play(block, &mut |moment| {
+        let sheet = match moment {
+            Moment::Opened(status, sheet) => {
+                kinds.insert((u64::MAX, status));
+                sheet
+            }
+            Moment::Edited(_, edit, status, sheet) => {
+                kinds.insert((edit.kind, status));
+                sheet
+            }
+            Moment::Ended(_) => return,
+        };
+        if verdict(sheet) == Verdict::NoneExists {
+            kinds.insert((u64::MAX - 1, 0));
         }
-        Moment::Edited(_, edit, status, _) => {
-            kinds.insert((edit.kind, status));
-        }
-        Moment::Ended(_) => {}
     });
     kinds
 }

@@ -1,56 +1,97 @@
 -- `sheet::verdict` meets its contract. Assumes nothing.
-use mathlib.Core.Path.{_≡_, sym, ap, _∙_}
+use mathlib.Core.Path.{_≡_, sym, ap, ap₂, _∙_}
+use mathlib.Core.Bool.{Bool, true, false, _&&_}
 use Prim.Native.Nat.{ℕ}
 use native.Mathlib.Omega.{arith}
 use lib.Dec.{lit≤}
 use lib.IntN.{ℤ, pos}
+use borrow.Author.Tests.{not-true, not-false}
 use Rattle.doubles.specs.Limits.{maxC, maxB, unit}
 use Rattle.sheet_rules.specs.Sum.{_‼_}
-use Rattle.sheet_terms.proofs.Machine.{result, E, num, mul, exact, fit, sub}
-use mathlib.Core.Bool.{true, _&&_}
-use borrow.Author.Tests.{not-true, not-false}
 use Rattle.sheet_rules.specs.Sheet.{Sheet, planOf, keptOf, sheetOf}
-use Rattle.sheet_rules.specs.Verdict.{verdict, verdictBy, keptFine, gap, isZero}
+use Rattle.sheet_rules.specs.Opening.{sizesFine}
+use Rattle.sheet_rules.specs.Verdict.{verdict, verdictBy, keptFine, noneExists, gap, isZero}
 use Rattle.sheet_rules.specs.Words.{Sized, KeptIn}
 use Rattle.sheet_rules.specs.declared.Verdict.the-variants.{Gap}
 use Rattle.sheet_rules.proofs.Tests.{sizes-decide, kept-decides}
 use Rattle.sheet_tests.proofs.Tells.{kept-sized}
+use Rattle.sheet_terms.proofs.Machine.{result, E, num, mul, exact, fit, sub}
 use Rattle.sheet.proofs.verdict.Statement.{statement}
 use Rattle.sheet.proofs.verdict.Tie as tie
 
-abbrev sheet : tie.Start → Sheet
-sheet s = sheetOf (planOf (s .args .rows) (s .args .columns) (s .args .coefs .now) (s .args .costs .now) (s .args .lowers .now) (s .args .uppers .now) (s .args .lower-marks .now) (s .args .upper-marks .now) (s .args .rights .now) (s .args .ops .now) (s .args .amounts .now) (s .args .mults .now)) (keptOf (s .args .r .now) (s .args .d .now) (s .args .c .now) (s .args .b .now) (s .args .counts .now))
+-- the way back from each test to the one before it
+abbrev start : tie.Else1 → tie.Start
+start c = c .before .before .before .before .before
 
-sized : (c : tie.Else1) → Sized (sheet (c .before .before .before .before .before))
-sized c = sizes-decide (sheet (c .before .before .before .before .before)) .yes-so (sym (c .before .sizes-fine .ensures) ∙ not-false _ (c .if1 .left))
+abbrev else1 : tie.Else2 → tie.Else1
+else1 c = c .before .before
+
+abbrev else2 : tie.Else3 → tie.Else2
+else2 c = c .before .before
+
+abbrev else3 : tie.After-is-zero2 → tie.Else3
+else3 c = c .before .before .before .before
+
+abbrev else4 : tie.After-is-zero4 → tie.Else4
+else4 c = c .before .before .before .before
+
+abbrev sheet : tie.Else1 → Sheet
+sheet c =
+    let a = start c .args in
+    sheetOf (planOf (a .rows) (a .columns) (a .coefs .now) (a .costs .now) (a .lowers .now) (a .uppers .now) (a .lower-marks .now) (a .upper-marks .now) (a .rights .now) (a .ops .now) (a .amounts .now) (a .mults .now))
+    (keptOf (a .r .now) (a .d .now) (a .c .now) (a .b .now) (a .counts .now))
+
+-- ---- what each test that is passed says
+
+module _ (c : tie.Else1) where
+  sizes : sizesFine (sheet c) ≡ true
+  sizes = sym (c .before .sizes-fine .ensures) ∙ not-false _ (c .if1 .left)
+
+  sized : Sized (sheet c)
+  sized = sizes-decide (sheet c) .yes-so sizes
 
 -- 14 not given
-keeps : (c : tie.Else2) → keptFine (sheet (c .before .before .before .before .before .before .before)) ≡ true
+keeps : (c : tie.Else2) → keptFine (sheet (else1 c)) ≡ true
 unfolding keptFine
 keeps c = sym (c .before .kept-fine .ensures) ∙ not-false _ (c .if2 .left)
 
-abbrev count : ℕ → tie.Start → ℤ
-count k s = s .args .counts .now ‼ k
+-- it doesn't show that none exists
+abbrev shows : tie.Else2 → Bool
+shows c = let s = sheet (else1 c) in noneExists (s .plan .cols) (s .plan .costs) (s .kept)
 
-plan : (c : tie.After-is-zero2) → (c .before .before .is-zero .result && c .is-zero2 .result) ≡ (isZero (count 0 (c .before .before .before .before .before .before .before .before .before .before .before)) && isZero (count 1 (c .before .before .before .before .before .before .before .before .before .before .before)))
-plan c = rw (c .before .before .is-zero .ensures, c .is-zero2 .ensures, result (count 0 (c .before .before .before .before .before .before .before .before .before .before .before)) (c .before .before .before .is-zero-arg .given), result (count 1 (c .before .before .before .before .before .before .before .before .before .before .before)) (c .before .is-zero-arg2 .given))
+others : (c : tie.Else3) → shows (else2 c) ≡ false
+unfolding noneExists
+others c = sym (c .before .none-exists .ensures) ∙ c .if3 .left
 
-floor : (c : tie.After-is-zero4) → (c .before .before .is-zero3 .result && c .is-zero4 .result) ≡ (isZero (count 2 (c .before .before .before .before .before .before .before .before .before .before .before .before .before .before .before .before)) && isZero (count 3 (c .before .before .before .before .before .before .before .before .before .before .before .before .before .before .before .before)))
-floor c = rw (c .before .before .is-zero3 .ensures, c .is-zero4 .ensures, result (count 2 (c .before .before .before .before .before .before .before .before .before .before .before .before .before .before .before .before)) (c .before .before .before .is-zero-arg3 .given), result (count 3 (c .before .before .before .before .before .before .before .before .before .before .before .before .before .before .before .before)) (c .before .is-zero-arg4 .given))
+abbrev count : ℕ → tie.Else3 → ℤ
+count k c = sheet (else1 (else2 c)) .kept .counts ‼ k
+
+plan : (c : tie.After-is-zero2) → (c .before .before .is-zero .result && c .is-zero2 .result) ≡ (isZero (count 0 (else3 c)) && isZero (count 1 (else3 c)))
+plan c =
+    ap₂ _&&_
+    (c .before .before .is-zero .ensures ∙ ap isZero (result (count 0 (else3 c)) (c .before .before .before .is-zero-arg .given)))
+    (c .is-zero2 .ensures ∙ ap isZero (result (count 1 (else3 c)) (c .before .is-zero-arg2 .given)))
+
+floor : (c : tie.After-is-zero4) → let t = else3 (else4 c .before) in (c .before .before .is-zero3 .result && c .is-zero4 .result) ≡ (isZero (count 2 t) && isZero (count 3 t))
+floor c =
+    let t = else3 (else4 c .before) in
+    ap₂ _&&_
+    (c .before .before .is-zero3 .ensures ∙ ap isZero (result (count 2 t) (c .before .before .before .is-zero-arg3 .given)))
+    (c .is-zero4 .ensures ∙ ap isZero (result (count 3 t) (c .before .is-zero-arg4 .given)))
 
 -- 1024 * C - B
 module _ (c : tie.Else2) where
-  abbrev s : tie.Start
-  s = (c .before .before .before .before .before .before .before)
+  abbrev s : Sheet
+  s = sheet (else1 c)
 
-  in-size : KeptIn (sheet s)
-  in-size = kept-decides (sheet s) .yes-so (keeps c)
+  in-size : KeptIn s
+  in-size = kept-decides s .yes-so (keeps c)
 
   abbrev scaled : E
-  scaled = mul (num (pos unit) unit (lit≤ tt)) (num (s .args .c .now ‼ 0) maxC (in-size .C-in 0 (lit≤ tt)))
+  scaled = mul (num (pos unit) unit (lit≤ tt)) (num (s .kept .C ‼ 0) maxC (in-size .C-in 0 (lit≤ tt)))
 
   abbrev whole : E
-  whole = sub scaled (num (s .args .b .now ‼ 0) maxB (in-size .B-in 0 (lit≤ tt)))
+  whole = sub scaled (num (s .kept .B ‼ 0) maxB (in-size .B-in 0 (lit≤ tt)))
 
 sizes-fine-requires : tie.Need-sizes-fine-requires
 sizes-fine-requires c κs = tt
@@ -60,59 +101,82 @@ unfolding verdict verdictBy
 returns c = record { answers = rw (sym (c .before .sizes-fine .ensures) ∙ not-true _ (c .if1 .taken)) }
 
 kept-fine-requires : tie.Need-kept-fine-requires
-kept-fine-requires c κs = kept-sized (sheet (c .before .before .before .before .before)) (sized c)
+kept-fine-requires c κs = kept-sized (sheet c) (sized c)
 
 returns-2 : tie.Need-returns-2
 unfolding verdict verdictBy keptFine
-returns-2 c = record { answers = rw (sym (c .before .before .before .sizes-fine .ensures) ∙ not-false _ (c .before .before .if1 .left), sym (c .before .kept-fine .ensures) ∙ not-true _ (c .if2 .taken)) }
+returns-2 c = record { answers = rw (sizes (c .before .before), sym (c .before .kept-fine .ensures) ∙ not-true _ (c .if2 .taken)) }
+
+none-exists-requires : tie.Need-none-exists-requires
+none-exists-requires c κs = let z = sized (else1 c) in (z .costs-fit, z .B-fits, z .counts-fit)
+
+returns-3 : tie.Need-returns-3
+unfolding verdict verdictBy noneExists
+returns-3 c = record { answers = rw (sizes (else1 (c .before .before)), keeps (c .before .before), sym (c .before .none-exists .ensures) ∙ c .if3 .taken) }
 
 shared-slice-copy-out-is-zero : tie.Need-shared-slice-copy-out-is-zero
-shared-slice-copy-out-is-zero c = omega (arith, sized (c .before .before) .counts-fit)
+shared-slice-copy-out-is-zero c = omega (arith, sized (else1 (else2 c)) .counts-fit)
 
 is-zero-requires : tie.Need-is-zero-requires
 is-zero-requires c κs = tt
 
 shared-slice-copy-out-is-zero-2 : tie.Need-shared-slice-copy-out-is-zero-2
-shared-slice-copy-out-is-zero-2 c = omega (arith, sized (c .before .before .before .before) .counts-fit)
+shared-slice-copy-out-is-zero-2 c = omega (arith, sized (else1 (else2 (c .before .before))) .counts-fit)
 
 is-zero-requires-2 : tie.Need-is-zero-requires-2
 is-zero-requires-2 c κs = tt
 
-returns-3 : tie.Need-returns-3
+returns-4 : tie.Need-returns-4
 unfolding verdict verdictBy
-returns-3 c = record { answers = rw (sym (c .before .before .before .before .before .before .before .before .sizes-fine .ensures) ∙ not-false _ (c .before .before .before .before .before .before .before .if1 .left), keeps (c .before .before .before .before .before), sym (plan (c .before)) ∙ not-true _ (c .if3 .taken)) }
+returns-4 c =
+    let t = else3 (c .before) in
+    record { answers = rw (sizes (else1 (else2 t)), keeps (else2 t), others t, sym (plan (c .before)) ∙ not-true _ (c .if4 .taken)) }
 
 shared-slice-copy-out-is-zero-3 : tie.Need-shared-slice-copy-out-is-zero-3
-shared-slice-copy-out-is-zero-3 c = omega (arith, sized (c .before .before .before .before .before .before .before) .counts-fit)
+shared-slice-copy-out-is-zero-3 c = omega (arith, sized (else1 (else2 (else3 (c .before)))) .counts-fit)
 
 is-zero-requires-3 : tie.Need-is-zero-requires-3
 is-zero-requires-3 c κs = tt
 
 shared-slice-copy-out-is-zero-4 : tie.Need-shared-slice-copy-out-is-zero-4
-shared-slice-copy-out-is-zero-4 c = omega (arith, sized (c .before .before .before .before .before .before .before .before .before) .counts-fit)
+shared-slice-copy-out-is-zero-4 c = omega (arith, sized (else1 (else2 (else3 (c .before .before .before)))) .counts-fit)
 
 is-zero-requires-4 : tie.Need-is-zero-requires-4
 is-zero-requires-4 c κs = tt
 
-returns-4 : tie.Need-returns-4
-unfolding verdict verdictBy
-returns-4 c = record { answers = rw (sym (c .before .before .before .before .before .before .before .before .before .before .before .before .before .sizes-fine .ensures) ∙ not-false _ (c .before .before .before .before .before .before .before .before .before .before .before .before .if1 .left), keeps (c .before .before .before .before .before .before .before .before .before .before), sym (plan (c .before .before .before .before .before .before)) ∙ not-false _ (c .before .before .before .before .before .if3 .left), sym (floor (c .before)) ∙ not-true _ (c .if4 .taken)) }
-
-shared-slice-copy-out-t21 : tie.Need-shared-slice-copy-out-t21
-shared-slice-copy-out-t21 c = omega (arith, sized (c .before .before .before .before .before .before .before .before .before .before .before .before) .C-fits)
-
-mul-t23 : tie.Need-mul-t23
-mul-t23 c = fit (scaled (c .before .before .before .before .before .before .before .before .before .before .before)) tt
-
-shared-slice-copy-out-t30 : tie.Need-shared-slice-copy-out-t30
-shared-slice-copy-out-t30 c = omega (arith, sized (c .before .before .before .before .before .before .before .before .before .before .before .before .before) .B-fits)
-
-sub-t31 : tie.Need-sub-t31
-sub-t31 c = fit (whole (c .before .before .before .before .before .before .before .before .before .before .before .before)) tt
-
 returns-5 : tie.Need-returns-5
+unfolding verdict verdictBy
+returns-5 c =
+    let u = else4 (c .before) in
+    let t = else3 (u .before) in
+    record { answers = rw (sizes (else1 (else2 t)), keeps (else2 t), others t, sym (plan (u .before)) ∙ not-false _ (u .if4 .left), sym (floor (c .before)) ∙ not-true _ (c .if5 .taken)) }
+
+-- from the last test back to the third
+abbrev last : tie.Else5 → tie.Else3
+last c = else3 (else4 (c .before) .before)
+
+shared-slice-copy-out-t22 : tie.Need-shared-slice-copy-out-t22
+shared-slice-copy-out-t22 c = omega (arith, sized (else1 (else2 (last c))) .C-fits)
+
+mul-t24 : tie.Need-mul-t24
+mul-t24 c = fit (scaled (else2 (last (c .before)))) tt
+
+shared-slice-copy-out-t31 : tie.Need-shared-slice-copy-out-t31
+shared-slice-copy-out-t31 c = omega (arith, sized (else1 (else2 (last (c .before)))) .B-fits)
+
+sub-t32 : tie.Need-sub-t32
+sub-t32 c = fit (whole (else2 (last (c .before .before)))) tt
+
+returns-6 : tie.Need-returns-6
 unfolding verdict verdictBy gap
-returns-5 c = record { answers = rw (sym (c .before .before .before .before .before .before .before .before .before .before .before .before .before .before .before .sizes-fine .ensures) ∙ not-false _ (c .before .before .before .before .before .before .before .before .before .before .before .before .before .before .if1 .left), keeps (c .before .before .before .before .before .before .before .before .before .before .before .before), sym (plan (c .before .before .before .before .before .before .before .before)) ∙ not-false _ (c .before .before .before .before .before .before .before .if3 .left), sym (floor (c .before .before .before)) ∙ not-false _ (c .before .before .if4 .left)) (ap Gap (exact (whole (c .before .before .before .before .before .before .before .before .before .before .before .before)) tt)) }
+returns-6 c =
+    let v : tie.Else5 = c .before .before in
+    let u = else4 (v .before) in
+    let t = else3 (u .before) in
+    record {
+      answers = rw (sizes (else1 (else2 t)), keeps (else2 t), others t, sym (plan (u .before)) ∙ not-false _ (u .if4 .left), sym (floor (v .before)) ∙ not-false _ (v .if5 .left))
+          (ap Gap (exact (whole (else2 t)) tt));
+    }
 
 pub verdict-spec : {M : Type 1} → statement M
 verdict-spec =
@@ -122,18 +186,20 @@ verdict-spec =
     returns
     kept-fine-requires
     returns-2
+    none-exists-requires
+    returns-3
     shared-slice-copy-out-is-zero
     is-zero-requires
     shared-slice-copy-out-is-zero-2
     is-zero-requires-2
-    returns-3
+    returns-4
     shared-slice-copy-out-is-zero-3
     is-zero-requires-3
     shared-slice-copy-out-is-zero-4
     is-zero-requires-4
-    returns-4
-    shared-slice-copy-out-t21
-    mul-t23
-    shared-slice-copy-out-t30
-    sub-t31
-    returns-5)
+    returns-5
+    shared-slice-copy-out-t22
+    mul-t24
+    shared-slice-copy-out-t31
+    sub-t32
+    returns-6)
