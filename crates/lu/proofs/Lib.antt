@@ -5,3 +5,4 @@ pub mod Differ
 pub mod Settled
 pub mod Unvisited
 pub mod Listing
+pub mod Composed

@@ -1,6 +1,6 @@
 -- When each number is given. 01: "Refused, lowest first, nothing changed: 1 a bad size or start, an off-diagonal row too large or not below (lower) or above
--- (upper), a diagonal of 0; 2 a number not finite; 3 a listed place too large or repeated". The conditions are stated in words of their own, apart from the
--- tests that pick; `sparse-exactly` and `dense-exactly` say that a number is given exactly where its condition holds and no lower one's does. Assumes nothing.
+-- (upper), a diagonal of 0; 2 a number not finite; 3 a listed place too large or repeated". `sparse-exactly`, `dense-exactly` and `solve-dense-exactly` say
+-- that a number is given exactly where its condition (specs/Conditions.antt) holds and no lower one's does. Assumes nothing.
 use mathlib.Core.Path.{_≡_, refl, sym, ap, _∙_}
 use mathlib.Core.Bool.{Bool, true, false, not, _&&_, _||_}
 use mathlib.Core.List.{List, []}
@@ -22,62 +22,8 @@ use Rattle.lu_solve.specs.Solve.{Tri, Out, out, sparse, dense}
 use Rattle.lu_solve.proofs.Laws.{given-marks}
 use Rattle.lu_gate.specs.Gate.{sizesOf, risesAt, okStarts, beyond, okRow, okColumn, okRows, nonzeroAt, okDiag, okTriangle, finiteAt, okNumbers, heldAt, okHeld, newAt, okList}
 use Rattle.lu_gate.proofs.Laws.{told, list-inside, list-once}
-use Rattle.lu.specs.Result.{Result, lowest, sparse1, sparse2, sparse3, dense2, solveSparse, solveDense}
-
--- ---- 01's conditions
-
--- "not below (lower) or above (upper)": the row r of an entry of column c
-abbrev pub NotBeyond : Bool → ℕ → ℕ → Type 0
-NotBeyond true c r = r ≤ c
-NotBeyond false c r = c ≤ r
-
--- 1, of a triangle with e entries and m cells of values
-pub data BadTriangle (t : Tri) (e m : ℕ) : Type 0 where
-  -- "At most 64 places, 2,048 entries", and no array is too short
-  too-many-places : maxRows < t .shape .size → BadTriangle t e m
-  too-many-entries : maxEntries < e → BadTriangle t e m
-  starts-short : length (t .shape .starts) ≤ t .shape .size → BadTriangle t e m
-  rows-short : length (t .shape .rows) < e → BadTriangle t e m
-  numbers-short : length (t .vals) < e → BadTriangle t e m
-  diagonal-short : t .hasDiag ≡ true → length (t .diag) < t .shape .size → BadTriangle t e m
-  values-short : m < t .shape .size → BadTriangle t e m
-  -- the starts don't begin at 0, don't end at the entry count, or fall
-  begins-elsewhere : (t .shape .starts # 0 ≡ 0 → ⊥) → BadTriangle t e m
-  ends-elsewhere : (t .shape .starts # (t .shape .size) ≡ e → ⊥) → BadTriangle t e m
-  falls : (j : ℕ) → j < t .shape .size → t .shape .starts # (j + 1) < t .shape .starts # j → BadTriangle t e m
-  -- "an off-diagonal row too large or not below (lower) or above (upper)": the i-th of column c
-  row-too-large : (c i : ℕ) → c < t .shape .size → i < many (t .shape) c → t .shape .size ≤ kid (t .shape) c i → BadTriangle t e m
-  row-on-the-wrong-side : (c i : ℕ) → c < t .shape .size → i < many (t .shape) c → NotBeyond (t .shape .lower) c (kid (t .shape) c i) → BadTriangle t e m
-  -- "a diagonal of 0"
-  diagonal-of-0 : t .hasDiag ≡ true → (j : ℕ) → j < t .shape .size → eq (t .diag ! j) f0 ≡ true → BadTriangle t e m
-
--- 1, of a sparse solve: the list's array too
-pub data BadSparse (t : Tri) (e : ℕ) (l : List ℕ) (n m : ℕ) : Type 0 where
-  of-triangle : BadTriangle t e m → BadSparse t e l n m
-  list-short : length l < t .shape .size → BadSparse t e l n m
-  listed-beyond : length l < n → BadSparse t e l n m
-
--- 2, where the values of the places in Counts count
-pub data NotFinite (t : Tri) (e : ℕ) (v : List Float) (Counts : ℕ → Type 0) : Type 0 where
-  entry : (i : ℕ) → i < e → finite (t .vals ! i) ≡ false → NotFinite t e v Counts
-  diagonal : t .hasDiag ≡ true → (j : ℕ) → j < t .shape .size → finite (t .diag ! j) ≡ false → NotFinite t e v Counts
-  value : (i : ℕ) → i < t .shape .size → Counts i → finite (v ! i) ≡ false → NotFinite t e v Counts
-
--- the listed places
-abbrev pub Named : List ℕ → ℕ → ℕ → Type 0
-Named l n i = (k : ℕ) × (k < n) × (l # k ≡ i)
-
--- 3
-pub data BadList (size : ℕ) (l : List ℕ) (n : ℕ) : Type 0 where
-  too-large : (k : ℕ) → k < n → size ≤ l # k → BadList size l n
-  repeated : (j k : ℕ) → j < k → k < n → l # j ≡ l # k → BadList size l n
-
--- each number exactly where its condition holds and no lower one's does
-pub record Exactly (r : Result) (P1 P2 P3 : Type 0) : Type 0 where
-  pub one : (r .number ≡ 1 → P1) × (P1 → r .number ≡ 1)
-  pub two : (r .number ≡ 2 → (P1 → ⊥) × P2) × ((P1 → ⊥) → P2 → r .number ≡ 2)
-  pub three : (r .number ≡ 3 → (P1 → ⊥) × (P2 → ⊥) × P3) × ((P1 → ⊥) → (P2 → ⊥) → P3 → r .number ≡ 3)
-  pub solved : (r .number ≡ 0 → (P1 → ⊥) × (P2 → ⊥) × (P3 → ⊥)) × ((P1 → ⊥) → (P2 → ⊥) → (P3 → ⊥) → r .number ≡ 0)
+use Rattle.lu.specs.Result.{lowest, sparse1, sparse2, sparse3, dense2, factors1, factors2, triSolveSparse, triSolveDense, solveDense}
+use Rattle.lu.specs.Conditions.{NotBeyond, BadTriangle, too-many-places, too-many-entries, starts-short, rows-short, numbers-short, diagonal-short, values-short, begins-elsewhere, ends-elsewhere, falls, row-too-large, row-on-the-wrong-side, diagonal-of-0, BadSparse, of-triangle, list-short, listed-beyond, NotFinite, entry, diagonal, value, BadFactors, FactorsNotFinite, Named, Inside, BadList, too-large, repeated, Exactly}
 
 -- ---- a test that fails exactly where P holds
 record Tests (b : Bool) (P : Type 0) : Type 0 where
@@ -252,7 +198,7 @@ module _ (t : Tri) (e m : ℕ) where
 
 -- ---- the numbers
 
-module _ (t : Tri) (e : ℕ) (v : List Float) (Counts : ℕ → Type 0) (b : Bool) (c : Tests b ((i : ℕ) × (i < t .shape .size) × (Counts i × (finite (v ! i) ≡ false)))) where
+module _ (t : Tri) (e : ℕ) where
   abbrev Numbers : Type 0
   Numbers = ((i : ℕ) × (i < e) × (finite (t .vals ! i) ≡ false)) ⊎ ((t .hasDiag ≡ true) × ((j : ℕ) × (j < t .shape .size) × (finite (t .diag ! j) ≡ false)))
 
@@ -260,18 +206,23 @@ module _ (t : Tri) (e : ℕ) (v : List Float) (Counts : ℕ → Type 0) (b : Boo
   unfolding okNumbers
   t-numbers = t-and (t-all e (finiteAt (t .vals)) _ (λ i. t-is _)) (t-if (t .hasDiag) (t-all (t .shape .size) (finiteAt (t .diag)) _ (λ j. t-is _)))
 
-  to-2 : Numbers ⊎ ((i : ℕ) × (i < t .shape .size) × (Counts i × (finite (v ! i) ≡ false))) → NotFinite t e v Counts
+-- the values that count, of n places
+abbrev Values : ℕ → List Float → (ℕ → Type 0) → Type 0
+Values n v Counts = (i : ℕ) × (i < n) × (Counts i × (finite (v ! i) ≡ false))
+
+module _ (t : Tri) (e : ℕ) (v : List Float) (Counts : ℕ → Type 0) where
+  to-2 : Numbers t e ⊎ Values (t .shape .size) v Counts → NotFinite t e v Counts
   to-2 (inl (inl x)) = entry (x .0) (x .1) (x .2)
   to-2 (inl (inr x)) = diagonal (x .0) (x .1 .0) (x .1 .1) (x .1 .2)
   to-2 (inr x) = value (x .0) (x .1) (x .2 .0) (x .2 .1)
 
-  from-2 : NotFinite t e v Counts → Numbers ⊎ ((i : ℕ) × (i < t .shape .size) × (Counts i × (finite (v ! i) ≡ false)))
+  from-2 : NotFinite t e v Counts → Numbers t e ⊎ Values (t .shape .size) v Counts
   from-2 (entry i h x) = inl (inl (i, h, x))
   from-2 (diagonal d j h x) = inl (inr (d, (j, h, x)))
   from-2 (value i h g x) = inr (i, h, (g, x))
 
-  t-finite : Tests (okNumbers (t .shape .size) e (t .vals) (t .hasDiag) (t .diag) && b) (NotFinite t e v Counts)
-  t-finite = t-map to-2 from-2 (t-and t-numbers c)
+  t-finite : (b : Bool) → Tests b (Values (t .shape .size) v Counts) → Tests (okNumbers (t .shape .size) e (t .vals) (t .hasDiag) (t .diag) && b) (NotFinite t e v Counts)
+  t-finite b c = t-map to-2 from-2 (t-and (t-numbers t e) c)
 
 -- the numbers of listed places that are in range
 held-false : (a b : Bool) → not a || b ≡ false → (a ≡ true) × (b ≡ false)
@@ -282,7 +233,7 @@ held-true : (a b : Bool) → not a || b ≡ true → a ≡ true → b ≡ true
 held-true true b e f = e
 held-true false b e f = absurd (clash (sym f))
 
-t-held : (size : ℕ) (l : List ℕ) (n : ℕ) (v : List Float) → Tests (okHeld size l n v) ((i : ℕ) × (i < size) × (Named l n i × (finite (v ! i) ≡ false)))
+t-held : (size : ℕ) (l : List ℕ) (n : ℕ) (v : List Float) → Tests (okHeld size l n v) (Values size v (Named l n))
 unfolding okHeld
 t-held size l n v =
     record {
@@ -299,7 +250,7 @@ t-held size l n v =
           no-both (finite (v ! (l # k))) (held-true (ltb (l # k) size) _ a (lt-ltb _ _ inside)) (ap (λ (i : ℕ). finite (v ! i)) q ∙ w .2 .1);
     }
 
-t-dense : (size : ℕ) (v : List Float) → Tests (all size (finiteAt v)) ((i : ℕ) × (i < size) × ((i < size) × (finite (v ! i) ≡ false)))
+t-dense : (size : ℕ) (v : List Float) → Tests (all size (finiteAt v)) (Values size v (Inside size))
 t-dense size v = t-map (λ w. (w .0, w .1, (w .1, w .2))) (λ w. (w .0, w .1, w .2 .1)) (t-all size (finiteAt v) _ (λ i. t-is _))
 
 -- ---- the list
@@ -321,12 +272,16 @@ t-list size l n small = record { fails = λ e. first-bad (all-missed (newAt size
     none e (too-large k h x) = omega (arith, list-inside size n l small e k h)
     none e (repeated j k h g x) = omega (arith, list-once size n l small e j k (omega arith) g x)
 
+-- a dense solve has none
+no-list : Tests true ⊥
+no-list = record { fails = λ x. clash x; passes = λ _ x. x }
+
 -- ---- the theorems
 
 module _ (t : Tri) (e : ℕ) (v : List Float) where
   pub sparse-exactly : (l : List ℕ) (n : ℕ)
-      → Exactly (solveSparse t e l n v) (BadSparse t e l n (length v)) (NotFinite t e v (Named l n)) (BadList (t .shape .size) l n)
-  unfolding solveSparse
+      → Exactly (triSolveSparse t e l n v) (BadSparse t e l n (length v)) (NotFinite t e v (Named l n)) (BadList (t .shape .size) l n)
+  unfolding triSolveSparse
   sparse-exactly l n =
       exactly (sparse1 t e l n v) (sparse2 t e l n v) (sparse3 t l n) _ _ _ v l (sparse t l n v)
       (t-map into out-of (t-and (t-and (t-triangle t e (length v)) (t-leb _ _)) (t-leb _ _)))
@@ -344,10 +299,32 @@ module _ (t : Tri) (e : ℕ) (v : List Float) where
       out-of (listed-beyond x) = inr x
 
   -- the dense call has no list: all places count, and 3 is never given
-  pub dense-exactly : Exactly (solveDense t e v) (BadTriangle t e (length v)) (NotFinite t e v (λ i. i < t .shape .size)) ⊥
-  unfolding solveDense
+  pub dense-exactly : Exactly (triSolveDense t e v) (BadTriangle t e (length v)) (NotFinite t e v (Inside (t .shape .size))) ⊥
+  unfolding triSolveDense
   dense-exactly =
       exactly (okTriangle t e (length v)) (dense2 t e v) true _ _ ⊥ v [] (out (dense t v) [] (t .shape .size))
       (t-triangle t e (length v))
-      (λ _. t-finite t e v (λ i. i < t .shape .size) _ (t-dense (t .shape .size) v))
-      (λ _ _. record { fails = λ x. clash x; passes = λ _ x. x })
+      (λ _. t-finite t e v (Inside (t .shape .size)) _ (t-dense (t .shape .size) v))
+      (λ _ _. no-list)
+
+  -- nor has the one with two triangles
+  pub solve-dense-exactly : (u : Tri) (f : ℕ) → Exactly (solveDense t e u f v) (BadFactors t e u f (length v)) (FactorsNotFinite t e u f v (Inside (t .shape .size))) ⊥
+  unfolding solveDense
+  solve-dense-exactly u f =
+      exactly (factors1 t e u f v) (factors2 t e u f v) true _ _ ⊥ v [] (out (dense u (dense t v)) [] (t .shape .size))
+      (t-and (t-triangle t e (length v)) (t-triangle u f (length v)))
+      (λ _. t-map into out-of (t-and (t-and (t-numbers t e) (t-numbers u f)) (t-dense (t .shape .size) v)))
+      (λ _ _. no-list)
+    where
+      into : (Numbers t e ⊎ Numbers u f) ⊎ Values (t .shape .size) v (Inside (t .shape .size)) → FactorsNotFinite t e u f v (Inside (t .shape .size))
+      into (inl (inl x)) = inl (to-2 t e v (Inside (t .shape .size)) (inl x))
+      into (inl (inr x)) = inr (to-2 u f v (Inside (t .shape .size)) (inl x))
+      into (inr x) = inl (to-2 t e v (Inside (t .shape .size)) (inr x))
+
+      out-of : FactorsNotFinite t e u f v (Inside (t .shape .size)) → (Numbers t e ⊎ Numbers u f) ⊎ Values (t .shape .size) v (Inside (t .shape .size))
+      out-of (inl (entry i h x)) = inl (inl (inl (i, h, x)))
+      out-of (inl (diagonal d j h x)) = inl (inl (inr (d, (j, h, x))))
+      out-of (inl (value i h g x)) = inr (i, h, (g, x))
+      out-of (inr (entry i h x)) = inl (inr (inl (i, h, x)))
+      out-of (inr (diagonal d j h x)) = inl (inr (inr (d, (j, h, x))))
+      out-of (inr (value i h g x)) = inr (i, g, (g, x))

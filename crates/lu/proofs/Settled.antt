@@ -11,15 +11,15 @@ use lib.Seq.{getD-set-other}
 use lib.Ieee.{Float, nan}
 use Rattle.doubles.specs.Limits.{maxRows}
 use Rattle.doubles.specs.Lists.{_!_, _#_}
-use Rattle.doubles.proofs.Loops.{keeps, keeps-down}
+use Rattle.doubles.proofs.Loops.{both-true, keeps, keeps-down}
 use Rattle.sparse.specs.Scattered.{Pat, pat, touched, touchedBy}
 use Rattle.lu_walk.specs.Walk.{State, many, kid, fresh, reached}
 use Rattle.lu_solve.specs.Solve.{Tri, Out, out, ownOf, offTurn, processCol, denseBy, dense, given, zeroTurn, zeroed, backTurn, processed, growTurn, grown, sparse, Numbers, Places, Grows}
-use Rattle.lu_solve.proofs.Laws.{places-reached, grows-given, grows-touched, room-below}
+use Rattle.lu_solve.proofs.Laws.{length-dense, numbers-kept, places-reached, grows-given, grows-touched, room-below}
 use Rattle.lu_gate.specs.Gate.{okTriangle}
 use Rattle.lu_gate.proofs.Laws.{told, numbers-told}
 use Rattle.lu.proofs.Accepted.{accepted}
-use Rattle.lu.specs.Result.{Result, result, numberOf, placesOf, lowest, sparse1, sparse2, sparse3, dense2, solveSparse, solveDense}
+use Rattle.lu.specs.Result.{Result, result, numberOf, placesOf, lowest, sparse1, sparse2, sparse3, dense2, factors1, factors2, triSolveSparse, triSolveDense, solveDense}
 use Rattle.lu.specs.declared.Answer.{Answer}
 use Rattle.lu.specs.declared.Answer.the-variants.{Solved, BadTriangle, NotFinite, BadList}
 
@@ -47,12 +47,15 @@ equal : (a b : Answer) (v w : List Float) (l m : List ℕ) → result a v l ≡ 
 equal a b v w l m e = (same-answer a b (ap (λ (r : Result). r .number) e) (ap (λ (r : Result). r .places) e), ap (λ (r : Result). r .values) e, ap (λ (r : Result). r .list) e)
 
 module _ (t : Tri) (e : ℕ) (v₀ : List Float) where
-  pub sparse-settled : (l₀ : List ℕ) (n : ℕ) (a b : Answer) (v w : List Float) (l m : List ℕ) → result a v l ≡ solveSparse t e l₀ n v₀ → result b w m ≡ solveSparse t e l₀ n v₀
+  pub sparse-settled : (l₀ : List ℕ) (n : ℕ) (a b : Answer) (v w : List Float) (l m : List ℕ) → result a v l ≡ triSolveSparse t e l₀ n v₀ → result b w m ≡ triSolveSparse t e l₀ n v₀
       → (a ≡ b) × (v ≡ w) × (l ≡ m)
   sparse-settled l₀ n a b v w l m p q = equal a b v w l m (p ∙ sym q)
 
-  pub dense-settled : (a b : Answer) (v w : List Float) → result a v [] ≡ solveDense t e v₀ → result b w [] ≡ solveDense t e v₀ → (a ≡ b) × (v ≡ w)
+  pub dense-settled : (a b : Answer) (v w : List Float) → result a v [] ≡ triSolveDense t e v₀ → result b w [] ≡ triSolveDense t e v₀ → (a ≡ b) × (v ≡ w)
   dense-settled a b v w p q = let r = equal a b v w [] [] (p ∙ sym q) in (r .0, r .1)
+
+  pub solve-dense-settled : (u : Tri) (f : ℕ) (a b : Answer) (v w : List Float) → result a v [] ≡ solveDense t e u f v₀ → result b w [] ≡ solveDense t e u f v₀ → (a ≡ b) × (v ≡ w)
+  solve-dense-settled u f a b v w p q = let r = equal a b v w [] [] (p ∙ sym q) in (r .0, r .1)
 
 -- ---- "Refused .. nothing changed"
 
@@ -62,14 +65,18 @@ refusal-keeps true false c v l s h = (refl, refl)
 refusal-keeps true true false v l s h = (refl, refl)
 refusal-keeps true true true v l s h = absurd (h refl)
 
-pub sparse-refusal-keeps : (t : Tri) (e : ℕ) (l : List ℕ) (n : ℕ) (v : List Float) → (solveSparse t e l n v .number ≡ 0 → ⊥)
-    → (solveSparse t e l n v .values ≡ v) × (solveSparse t e l n v .list ≡ l)
-unfolding solveSparse
+pub sparse-refusal-keeps : (t : Tri) (e : ℕ) (l : List ℕ) (n : ℕ) (v : List Float) → (triSolveSparse t e l n v .number ≡ 0 → ⊥)
+    → (triSolveSparse t e l n v .values ≡ v) × (triSolveSparse t e l n v .list ≡ l)
+unfolding triSolveSparse
 sparse-refusal-keeps t e l n v h = refusal-keeps (sparse1 t e l n v) (sparse2 t e l n v) (sparse3 t l n) v l (sparse t l n v) h
 
-pub dense-refusal-keeps : (t : Tri) (e : ℕ) (v : List Float) → (solveDense t e v .number ≡ 0 → ⊥) → solveDense t e v .values ≡ v
-unfolding solveDense
+pub dense-refusal-keeps : (t : Tri) (e : ℕ) (v : List Float) → (triSolveDense t e v .number ≡ 0 → ⊥) → triSolveDense t e v .values ≡ v
+unfolding triSolveDense
 dense-refusal-keeps t e v h = refusal-keeps (okTriangle t e (length v)) (dense2 t e v) true v [] (out (dense t v) [] (t .shape .size)) h .0
+
+pub solve-dense-refusal-keeps : (t : Tri) (e : ℕ) (u : Tri) (f : ℕ) (v : List Float) → (solveDense t e u f v .number ≡ 0 → ⊥) → solveDense t e u f v .values ≡ v
+unfolding solveDense
+solve-dense-refusal-keeps t e u f v h = refusal-keeps (factors1 t e u f v) (factors2 t e u f v) true v [] (out (dense u (dense t v)) [] (t .shape .size)) h .0
 
 -- ---- "cells past what is written never change": i is a cell past the triangle's places
 
@@ -122,8 +129,8 @@ past-by true false c v l s i h = (refl, refl)
 past-by true true false v l s i h = (refl, refl)
 past-by true true true v l s i h = h refl refl
 
-pub sparse-past : (t : Tri) (e : ℕ) (l : List ℕ) (n : ℕ) (v : List Float) (i : ℕ) → t .shape .size ≤ i → (solveSparse t e l n v .values ! i ≡ v ! i) × (solveSparse t e l n v .list # i ≡ l # i)
-unfolding solveSparse sparse
+pub sparse-past : (t : Tri) (e : ℕ) (l : List ℕ) (n : ℕ) (v : List Float) (i : ℕ) → t .shape .size ≤ i → (triSolveSparse t e l n v .values ! i ≡ v ! i) × (triSolveSparse t e l n v .list # i ≡ l # i)
+unfolding triSolveSparse sparse
 sparse-past t e l n v i g = past-by (sparse1 t e l n v) (sparse2 t e l n v) (sparse3 t l n) v l (sparse t l n v) i solved
   where
     solved : sparse1 t e l n v ≡ true → sparse3 t l n ≡ true → (sparse t l n v .values ! i ≡ v ! i) × (sparse t l n v .list # i ≡ l # i)
@@ -135,8 +142,18 @@ sparse-past t e l n v i g = past-by (sparse1 t e l n v) (sparse2 t e l n v) (spa
         let p : Places (t .shape .size) (w .count) (w .done) = places-reached (k .columns) (d .listed) refl in
         (sparse-same t v k i g (given l n) (reached (t .shape) l n fresh) p .same, grown-same (t .shape .size) _ _ (pat (given l n) l n) i (k .columns .small) g (grows-given (k .columns .small) d) p)
 
-pub dense-past : (t : Tri) (e : ℕ) (v : List Float) (i : ℕ) → t .shape .size ≤ i → solveDense t e v .values ! i ≡ v ! i
-unfolding solveDense dense
+pub dense-past : (t : Tri) (e : ℕ) (v : List Float) (i : ℕ) → t .shape .size ≤ i → triSolveDense t e v .values ! i ≡ v ! i
+unfolding triSolveDense dense
 dense-past t e v i g =
     past-by (okTriangle t e (length v)) (dense2 t e v) true v [] (out (dense t v) [] (t .shape .size)) i
     (λ a _. (dense-same t v (numbers-told t e v (told t e (length v) a)) i g (t .shape .lower) .same, refl)) .0
+
+pub solve-dense-past : (t : Tri) (e : ℕ) (u : Tri) (f : ℕ) (v : List Float) (i : ℕ) → t .shape .size ≤ i → u .shape .size ≤ i → solveDense t e u f v .values ! i ≡ v ! i
+unfolding solveDense dense
+solve-dense-past t e u f v i g h =
+    past-by (factors1 t e u f v) (factors2 t e u f v) true v [] (out (dense u (dense t v)) [] (t .shape .size)) i
+    (λ a _.
+    let o = both-true (okTriangle t e (length v)) (okTriangle u f (length v)) a in
+    let k = numbers-told t e v (told t e (length v) (o .0)) in
+    let m = numbers-kept (numbers-told u f v (told u f (length v) (o .1))) (length-dense t v) in
+    (dense-same u (dense t v) m i h (u .shape .lower) .same ∙ dense-same t v k i g (t .shape .lower) .same, refl)) .0

@@ -14,11 +14,12 @@ use Rattle.doubles.specs.Num.{f0}
 use Rattle.doubles.specs.Lists.{_!_, _#_}
 use Rattle.doubles.proofs.Loops.{keeps, keeps-down}
 use Rattle.lu_walk.specs.Walk.{State, many, kid, fresh, reached}
-use Rattle.lu_walk.proofs.Order.{Reach, here, Has, Ordered, walk-order}
+use Rattle.lu_walk.specs.Order.{Reach, here, Has, Ordered}
+use Rattle.lu_walk.proofs.Order.{walk-order}
 use Rattle.lu_solve.specs.Solve.{Tri, ownOf, offTurn, processCol, given, heldBy, zeroTurn, zeroed, backTurn, processed, sparse}
 use Rattle.lu_solve.proofs.Laws.{given-marks, unnamed}
 use Rattle.lu.proofs.Accepted.{accepted, at-zero}
-use Rattle.lu.specs.Result.{sparse1, sparse2, sparse3, solveSparse}
+use Rattle.lu.specs.Result.{sparse1, sparse2, sparse3, triSolveSparse}
 
 -- ---- a place that no column touches keeps its number
 
@@ -75,9 +76,9 @@ zeroed-at g n v i h l =
 
 -- ---- the theorem
 
-pub unvisited-zero : (t : Tri) (e : ℕ) (l : List ℕ) (n : ℕ) (v : List Float) (i : ℕ) → solveSparse t e l n v .number ≡ 0 → i < t .shape .size
-    → ((j : ℕ) → j < n → Reach (t .shape) (l # j) i → ⊥) → solveSparse t e l n v .values ! i ≡ f0
-unfolding solveSparse sparse
+pub unvisited-zero : (t : Tri) (e : ℕ) (l : List ℕ) (n : ℕ) (v : List Float) (i : ℕ) → triSolveSparse t e l n v .number ≡ 0 → i < t .shape .size
+    → ((j : ℕ) → j < n → Reach (t .shape) (l # j) i → ⊥) → triSolveSparse t e l n v .values ! i ≡ f0
+unfolding triSolveSparse sparse
 unvisited-zero t e l n v i q h far =
     at-zero (sparse1 t e l n v) (sparse2 t e l n v) (sparse3 t l n) v l (sparse t l n v) (λ r. r .values ! i ≡ f0) q solved
   where

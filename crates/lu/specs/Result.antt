@@ -57,12 +57,25 @@ sparse2 t e l n v = okNumbers (t .shape .size) e (t .vals) (t .hasDiag) (t .diag
 abbrev pub sparse3 : Tri → List ℕ → ℕ → Bool
 sparse3 t l n = okList (t .shape .size) l n
 
-unfoldable pub solveSparse : Tri → ℕ → List ℕ → ℕ → List Float → Result
-solveSparse t e l n v = lowest (sparse1 t e l n v) (sparse2 t e l n v) (sparse3 t l n) v l (sparse t l n v)
+unfoldable pub triSolveSparse : Tri → ℕ → List ℕ → ℕ → List Float → Result
+triSolveSparse t e l n v = lowest (sparse1 t e l n v) (sparse2 t e l n v) (sparse3 t l n) v l (sparse t l n v)
 
 -- a dense solve has no list: all places count, and none is refused
 abbrev pub dense2 : Tri → ℕ → List Float → Bool
 dense2 t e v = okNumbers (t .shape .size) e (t .vals) (t .hasDiag) (t .diag) && all (t .shape .size) (finiteAt v)
 
-unfoldable pub solveDense : Tri → ℕ → List Float → Result
-solveDense t e v = lowest (okTriangle t e (length v)) (dense2 t e v) true v [] (out (dense t v) [] (t .shape .size))
+unfoldable pub triSolveDense : Tri → ℕ → List Float → Result
+triSolveDense t e v = lowest (okTriangle t e (length v)) (dense2 t e v) true v [] (out (dense t v) [] (t .shape .size))
+
+-- LUFactors::solve_dense, 01's "solve_dense (no permutations)": the lower triangle t, then the upper one u, of the same size. The numbers in between are not
+-- tested, as in the shown text
+abbrev pub factors1 : Tri → ℕ → Tri → ℕ → List Float → Bool
+factors1 t e u f v = okTriangle t e (length v) && okTriangle u f (length v)
+
+abbrev pub factors2 : Tri → ℕ → Tri → ℕ → List Float → Bool
+factors2 t e u f v =
+    (okNumbers (t .shape .size) e (t .vals) (t .hasDiag) (t .diag) && okNumbers (u .shape .size) f (u .vals) (u .hasDiag) (u .diag))
+    && all (t .shape .size) (finiteAt v)
+
+unfoldable pub solveDense : Tri → ℕ → Tri → ℕ → List Float → Result
+solveDense t e u f v = lowest (factors1 t e u f v) (factors2 t e u f v) true v [] (out (dense u (dense t v)) [] (t .shape .size))

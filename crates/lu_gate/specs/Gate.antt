@@ -1,5 +1,5 @@
 -- The tests of a triangle solve. 01: "Refused, lowest first, nothing changed: 1 a bad size or start, an off-diagonal row too large or not below (lower) or
--- above (upper), a diagonal of 0; 2 a number not finite; 3 a listed place too large or repeated". lu/proofs says in words when each is given. Assumes nothing.
+-- above (upper), a diagonal of 0; 2 a number not finite; 3 a listed place too large or repeated". lu/specs/Conditions.antt says in words when each is given. Assumes nothing.
 use mathlib.Core.Bool.{Bool, true, false, not, _&&_, _||_}
 use mathlib.Core.List.{List}
 use Prim.Native.Nat.{ℕ, _+_, _<_, _≤_}
@@ -60,7 +60,7 @@ finiteAt x i = finite (x ! i)
 unfoldable pub okNumbers : ℕ → ℕ → List Float → Bool → List Float → Bool
 okNumbers n e x h d = all e (finiteAt x) && (not h || all n (finiteAt d))
 
--- the numbers of listed places that are in range
+-- the numbers of listed places that are in range: a sparse solve's 2 reads no other value (ours), since "Unlisted places count as 0.0"
 abbrev pub heldAt : ℕ → List ℕ → List Float → ℕ → Bool
 heldAt n l v k = not (ltb (l # k) n) || finite (v ! (l # k))
 

@@ -34,7 +34,7 @@ fn sizes_ok(
         & (size <= values)
 }
 
-// "Starts begin at 0, don't fall and end at the entry count".
+// The starts begin at 0, don't fall and end at the entry count.
 fn starts_ok(size: usize, entries: usize, starts: &[usize]) -> bool
     requires { ⌜ size < length (now starts) ⌝ }
     ensures { λ r. ⌜ r ≡ okStarts size entries (now (starts .entry)) ⌝ }

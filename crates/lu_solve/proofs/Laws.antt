@@ -14,12 +14,12 @@ use borrow.Author.Tests.{eqb-true, eqb-false}
 use Rattle.doubles.specs.Limits.{maxRows}
 use Rattle.doubles.specs.Loop.{run}
 use Rattle.doubles.specs.Lists.{_#_}
-use Rattle.doubles.proofs.Loops.{keeps}
+use Rattle.doubles.proofs.Loops.{keeps, keeps-down}
 use Rattle.sparse.specs.Scattered.{Pat, pat, touched, touchedBy, trues, Within}
 use Rattle.sparse.proofs.Laws.{trues-set, trues-below, trues-le, falses, none-set, no-both}
 use Rattle.lu_walk.specs.Walk.{Shape, State, many, fresh, reached, Columns, Fits, Listed}
 use Rattle.lu_walk.proofs.Laws.{Finished, fits-reached, finished-reached, fits-fresh, finished-fresh}
-use Rattle.lu_solve.specs.Solve.{Tri, ownOf, offTurn, processCol, given, markTurn, zeroed, zeroTurn, growTurn, processed, grown, out, sparse, Numbers, Places, Grows, Growable, Touchable, Distinct}
+use Rattle.lu_solve.specs.Solve.{Tri, ownOf, offTurn, processCol, denseBy, dense, given, markTurn, zeroed, zeroTurn, growTurn, processed, grown, out, sparse, Numbers, Places, Grows, Growable, Touchable, Distinct}
 
 -- ---- lengths
 
@@ -33,6 +33,14 @@ length-process t c v = length-off t c (ownOf t c v) (many (t .shape) c) (set v c
 pub length-zeroed : (g : List Bool) (n : ℕ) (v : List Float) → length (zeroed g n v) ≡ length v
 unfolding zeroed
 length-zeroed g n v = keeps (zeroTurn g) v (λ _ u. length u ≡ length v) n (λ j u h e. simp length-set e) refl n (le-refl n)
+
+pub length-dense : (t : Tri) (v : List Float) → length (dense t v) ≡ length v
+unfolding dense
+length-dense t v = by (t .shape .lower)
+  where
+    by : (b : Bool) → length (denseBy b t v) ≡ length v
+    by true = keeps (processCol t) v (λ _ u. length u ≡ length v) (t .shape .size) (λ c u h e. length-process t c u ∙ e) refl (t .shape .size) (le-refl (t .shape .size))
+    by false = keeps-down (processCol t) (λ u. length u ≡ length v) (t .shape .size) (λ c u h e. length-process t c u ∙ e) v refl
 
 -- what the numbers ask goes by the vector's length
 pub numbers-kept : {t : Tri} {u v : List Float} → Numbers t v → length u ≡ length v → Numbers t u

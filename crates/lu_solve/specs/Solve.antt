@@ -12,7 +12,7 @@ use Rattle.doubles.specs.Lists.{_!_, _#_}
 use Rattle.sparse.specs.Scattered.{Pat, pat, touched, trues}
 use Rattle.lu_walk.specs.Walk.{Shape, shape, State, fresh, many, kid, reached, Columns, Listed}
 
--- a triangle with its numbers; 01: "With a diagonal or without (all ones)"
+-- a triangle with its numbers. Without a diagonal (an exported call's with_diag is 0) it is all ones there, and `diag` isn't read (ours)
 pub record Tri : Type 0 where
   pub shape : Shape
   pub vals : List Float
@@ -51,7 +51,8 @@ markTurn l k m = set m (l # k) true
 unfoldable pub given : List ℕ → ℕ → List Bool
 given l n = run (markTurn l) n (replicate maxRows false)
 
--- 01: "Unlisted places count as 0.0", whatever they hold
+-- 01: "Unlisted places count as 0.0", whatever they hold. Every place of the triangle is written: one that is neither listed nor visited holds 0.0
+-- afterwards (ours)
 abbrev pub heldBy : Bool → Float → Float
 heldBy true x = x
 heldBy false x = f0

@@ -131,9 +131,9 @@ module _ {t : Shape} {p : ℕ} {s : State} (w : Walkable t p s) (new : getD (s .
           room = omega (arith, a .balance, plus, w .fits .counted, long, trues-le (u .marks));
         }
 
-    -- what the visit of the next child asks
-    pub asks : k < many t p → Walkable t (kid t p k) u
-    asks g = record { columns = w .columns; place = w .columns .inside p k (w .place) g; fits = opened .fits }
+    -- what the visit of a child asks
+    pub asks : (j : ℕ) → j < many t p → Walkable t (kid t p j) u
+    asks j g = record { columns = w .columns; place = w .columns .inside p j (w .place) g; fits = opened .fits }
 
     pub closed : many t p ≤ k → finish p u ≡ walk (t .size) t p s
     closed g = ap (finish p) (e ∙ ap (λ (j : ℕ). run (kidTurn t p) j (mark p s)) same) ∙ sym (walk-new (w .columns) p s (w .place) new)

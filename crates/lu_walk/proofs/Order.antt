@@ -1,35 +1,27 @@
 -- What the walk's order means. 01: "columns are walked from each listed place. The walk finishes every child of a place before the place itself; children come
--- in stored order, visited places once". `walk-order`, at the end, says so of the finished places, and that they are exactly what can be reached from the listed
--- ones. Assumes nothing.
+-- in stored order, visited places once". `walk-order`, at the end, says so of the finished places (specs/Order.antt), and that they are exactly what can be
+-- reached from the listed ones. Assumes nothing.
 use mathlib.Core.Path.{_≡_, refl, sym, ap, _∙_, subst}
-use mathlib.Core.List.{List}
+use mathlib.Core.List.{List, [], _∷_, _++_}
 use mathlib.Core.Bool.{Bool, true, false}
 use mathlib.Core.Logic.{_⊎_, inl, inr, ⊎-elim}
 use Prim.Native.Nat.{ℕ, zero, suc, _+_, _<_, _≤_}
 use native.Mathlib.Nat.{le-refl}
+use native.Mathlib.Numerals.{add-one}
 use native.Mathlib.Omega.{arith}
-use lib.ListN.{length, getD, set, length-set, replicate, length-replicate}
-use lib.Seq.{getD-set-same, getD-set-other}
+use lib.ListN.{length, getD, set, take, drop, length-set, length-take, length-drop, replicate, length-replicate}
+use lib.Seq.{getD-set-same, getD-set-other, getD-take, getD-drop, length-take-le, take-suc, take-suc-set, take-take}
 use Rattle.doubles.specs.Limits.{maxRows}
 use Rattle.doubles.specs.Loop.{run}
 use Rattle.doubles.specs.Lists.{_#_}
-use Rattle.doubles.proofs.Bools.{truth, same?, last?}
+use Rattle.doubles.proofs.Bools.{by-test, truth, same?, last?}
 use Rattle.doubles.proofs.Loops.{keeps}
 use Rattle.sparse.specs.Scattered.{trues}
 use Rattle.sparse.proofs.Laws.{trues-set, trues-le, falses, none-set, no-both}
 use Rattle.lu_walk.specs.Walk.{Shape, State, fresh, many, kid, mark, finish, walk, reached, left, Columns, Listed}
+use Rattle.lu_walk.specs.Order.{stored, finished, among, Walked, stop, again, first, Reach, here, down, Has, Ordered}
 use Rattle.lu_walk.proofs.Laws.{left-pos, left-le, walk-old}
-
--- q can be reached from p: it is p, or can be reached from a child of p
-pub data Reach (t : Shape) : ℕ → ℕ → Type 0 where
-  here : {p : ℕ} → Reach t p p
-  down : {p q : ℕ} (i : ℕ) → i < many t p → Reach t (kid t p i) q → Reach t p q
-
--- the place q is finished in s
-pub record Has (s : State) (q : ℕ) : Type 0 where
-  pub at : ℕ
-  pub below : at < s .count
-  pub is : s .done # at ≡ q
+use Rattle.lu_walk.proofs.Walked.{walked-same, walked-then, turned, among-at, among-where}
 
 -- what was finished stays where it was, and what was marked stays marked
 record Kept (s u : State) : Type 0 where
@@ -66,6 +58,21 @@ module _ (t : Shape) where
     apart : (q : ℕ) → U q → Has s q → ⊥
     once : (i j : ℕ) → i < s .count → j < s .count → s .done # i ≡ s .done # j → i ≡ j
     order : (i j : ℕ) → i < s .count → j < many t (s .done # i) → (b : ℕ) × (b < i) × (s .done # b ≡ kid t (s .done # i) j)
+
+  within : {e : ℕ} {U : ℕ → Type 0} {s : State} → Inv e U s → s .count ≤ length (s .done)
+  within {e} {U} {s} v = omega (arith, v .counted, trues-le (s .marks), v .long, v .room)
+
+  -- what is finished stands among the finished places, and nothing else does
+  has-among : {e : ℕ} {U : ℕ → Type 0} {s : State} {q : ℕ} → Inv e U s → Has s q → among q (finished s) ≡ true
+  has-among {e} {U} {s} {q} v h =
+      let at : finished s # (h .at) ≡ q = getD-take (s .count) (s .done) (h .at) 0 (h .below) ∙ h .is in
+      rw at at (among-at (finished s) (h .at) (omega (arith, h .below, length-take-le (s .count) (s .done) (within v))))
+
+  among-has : {e : ℕ} {U : ℕ → Type 0} {s : State} {q : ℕ} → Inv e U s → among q (finished s) ≡ true → Has s q
+  among-has {e} {U} {s} {q} v h =
+      let w = among-where q (finished s) h in
+      let below : w .0 < s .count = omega (arith, w .1, length-take-le (s .count) (s .done) (within v)) in
+      record { at = w .0; below = below; is = sym (getD-take (s .count) (s .done) (w .0) 0 below) ∙ w .2 }
 
   -- the open places with p
   abbrev With : (ℕ → Type 0) → ℕ → ℕ → Type 0
@@ -155,6 +162,7 @@ module _ (t : Shape) where
     kept : Kept s u
     has : Has u p
     reach : (q : ℕ) → getD (u .marks) q false ≡ true → (getD (s .marks) q false ≡ true) ⊎ Reach t p q
+    walked : Walked (stored t) (finished s) (p ∷ []) (finished u)
 
   -- every open place lies above p
   abbrev Above : (ℕ → Type 0) → ℕ → Type 0
@@ -164,16 +172,23 @@ module _ (t : Shape) where
   abbrev Walks : (ℕ → State → State) → ℕ → Type 1
   Walks f d = (e : ℕ) (U : ℕ → Type 0) (p : ℕ) (s : State) → Inv e U s → p < t .size → Above U p → left t p < d → Done e U p s (f p s)
 
+  -- the places g, which stand in ps
+  record Named (g : ℕ → ℕ) (ps : List ℕ) (n : ℕ) : Type 0 where
+    long : n ≤ length ps
+    names : (j : ℕ) → j < n → ps # j ≡ g j
+
   -- the first m of the places g are walked
-  record All (e : ℕ) (U : ℕ → Type 0) (g : ℕ → ℕ) (s : State) (m : ℕ) (u : State) : Type 0 where
+  record All (e : ℕ) (U : ℕ → Type 0) (g : ℕ → ℕ) (ps : List ℕ) (s : State) (m : ℕ) (u : State) : Type 0 where
     inv : Inv e U u
     kept : Kept s u
     has : (j : ℕ) → j < m → Has u (g j)
     reach : (q : ℕ) → getD (u .marks) q false ≡ true → (getD (s .marks) q false ≡ true) ⊎ ((j : ℕ) × (j < m) × Reach t (g j) q)
+    walked : Walked (stored t) (finished s) (take m ps) (finished u)
 
   -- one more of them
-  all-turn : (f : ℕ → State → State) (e : ℕ) (U : ℕ → Type 0) (g : ℕ → ℕ) (s : State) (m : ℕ) (u : State) → All e U g s m u → Done e U (g m) u (f (g m) u) → All e U g s (m + 1) (f (g m) u)
-  all-turn f e U g s m u a d =
+  all-turn : (f : ℕ → State → State) (e : ℕ) (U : ℕ → Type 0) (g : ℕ → ℕ) (ps : List ℕ) (s : State) (m : ℕ) (u : State) → m < length ps → ps # m ≡ g m
+      → All e U g ps s m u → Done e U (g m) u (f (g m) u) → All e U g ps s (m + 1) (f (g m) u)
+  all-turn f e U g ps s m u h i a d =
       record {
         inv = d .inv;
         kept = kept-trans (a .kept) (d .kept);
@@ -182,24 +197,38 @@ module _ (t : Shape) where
             (λ old. ⊎-elim (λ w. inl w) (λ w. inr (w .0, omega (arith, w .1), w .2)) (a .reach q old))
             (λ new. inr (m, omega arith, new))
             (d .reach q h);
+        walked = rw (add-one, take-suc ps m 0, i) (walked-then (a .walked) (d .walked));
       }
 
-  run-walks : (f : ℕ → State → State) (d : ℕ) → Walks f d → (e : ℕ) (U : ℕ → Type 0) (g : ℕ → ℕ) (n : ℕ) (s : State) → Inv e U s
-      → ((j : ℕ) → j < n → g j < t .size) → ((j : ℕ) → j < n → Above U (g j)) → ((j : ℕ) → j < n → left t (g j) < d) → All e U g s n (run (λ i. f (g i)) n s)
-  run-walks f d w e U g n s v inside above small =
-      keeps (λ i. f (g i)) s (All e U g s) n (λ j u h a. all-turn f e U g s j u a (w e U (g j) u (a .inv) (inside j h) (above j h) (small j h)))
-      (record { inv = v; kept = kept-refl s; has = λ j h. absurd (omega arith); reach = λ q h. inl h }) n (le-refl n)
+  run-walks : (f : ℕ → State → State) (d : ℕ) → Walks f d → (e : ℕ) (U : ℕ → Type 0) (g : ℕ → ℕ) (ps : List ℕ) (n : ℕ) → Named g ps n → (s : State) → Inv e U s
+      → ((j : ℕ) → j < n → g j < t .size) → ((j : ℕ) → j < n → Above U (g j)) → ((j : ℕ) → j < n → left t (g j) < d) → All e U g ps s n (run (λ i. f (g i)) n s)
+  run-walks f d w e U g ps n z s v inside above small =
+      keeps (λ i. f (g i)) s (All e U g ps s) n
+      (λ j u h a. all-turn f e U g ps s j u (omega (arith, z .long)) (z .names j h) a (w e U (g j) u (a .inv) (inside j h) (above j h) (small j h)))
+      (record { inv = v; kept = kept-refl s; has = λ j h. absurd (omega arith); reach = λ q h. inl h; walked = stop }) n (le-refl n)
 
   module _ (c : Columns t) where
+    -- the children of p stand in stored order
+    children : (p : ℕ) → p < t .size → Named (kid t p) (stored t p) (many t p)
+    children p h =
+        record {
+          long = simp (length-take, length-drop) (omega (arith, c .rise p h, c .ends p h));
+          names = λ j l. getD-take (many t p) (drop (t .starts # p) (t .rows)) j 0 l ∙ getD-drop (t .starts # p) (t .rows) j 0;
+        }
+
     -- one place: where a walk k deep is known of the places below it
     module _ (k : ℕ) (ih : Walks (walk k t) (suc k)) (e : ℕ) (U : ℕ → Type 0) (p : ℕ) (s : State) (v : Inv e U s) (lt : p < t .size) (above : Above U p)
         (small : left t p < suc (suc k)) where
+      done-before : getD (s .marks) p false ≡ true → Has s p
+      done-before m = ⊎-elim (λ h. h) (λ u. absurd (omega (arith, above p u))) (v .either p m)
+
       old : getD (s .marks) p false ≡ true → Done e U p s (walk (suc k) t p s)
       old m = rw (walk-old (suc k) t p s m) (record {
         inv = v;
         kept = kept-refl s;
-        has = ⊎-elim (λ h. h) (λ u. absurd (omega (arith, above p u))) (v .either p m);
+        has = done-before m;
         reach = λ q h. inl h;
+        walked = again (has-among v (done-before m)) stop;
       })
 
       inside : p < length (s .marks)
@@ -215,8 +244,8 @@ module _ (t : Shape) where
       end = run (λ i. walk k t (kid t p i)) (many t p) (mark p s)
 
       module _ (m : getD (s .marks) p false ≡ false) where
-        all : All (suc e) (With U p) (kid t p) (mark p s) (many t p) end
-        all = run-walks (walk k t) (suc k) ih (suc e) (With U p) (kid t p) (many t p) (mark p s) (mark-inv p v (omega (arith, lt, c .small)) m)
+        all : All (suc e) (With U p) (kid t p) (stored t p) (mark p s) (many t p) end
+        all = run-walks (walk k t) (suc k) ih (suc e) (With U p) (kid t p) (stored t p) (many t p) (children p lt) (mark p s) (mark-inv p v (omega (arith, lt, c .small)) m)
             (λ j h. c .inside p j lt h)
             (λ j h q u. ⊎-elim (λ w. omega (arith, c .falls p j lt h, above q w)) (λ w. rw w (c .falls p j lt h)) u)
             (λ j h. omega (arith, c .falls p j lt h, small))
@@ -230,18 +259,25 @@ module _ (t : Shape) where
             (λ w. inr (down (w .0) (w .1) (w .2)))
             (all .reach q h)
 
-        abbrev finished : State
-        finished = finish p end
+        walked-kids : Walked (stored t) (finished s) (stored t p) (finished end)
+        walked-kids = rw (take-take (many t p) (many t p) (drop (t .starts # p) (t .rows)) (le-refl (many t p))) at (all .walked)
 
-        fresh-done : Done e U p s finished
+        behind : finished (finish p end) ≡ finished end ++ (p ∷ [])
+        behind = rw (add-one (end .count)) (take-suc-set (end .done) (end .count) p (free p (all .inv) still not-U (all .has)))
+
+        unseen : among p (finished s) ≡ false
+        unseen = by-test (among p (finished s)) (λ h. absurd (unmarked v m (among-has v h))) (λ h. h)
+
+        fresh-done : Done e U p s (finish p end)
         fresh-done = record {
           inv = finish-inv p (all .inv) still not-U (all .has);
           kept = kept-trans mark-kept (kept-trans (all .kept) (finish-kept p (all .inv) still not-U (all .has)));
           has = finish-has p (all .inv) still not-U (all .has);
           reach = found;
+          walked = rw behind (first unseen walked-kids stop);
         }
 
-        unfolded : walk (suc k) t p s ≡ finished
+        unfolded : walk (suc k) t p s ≡ finish p end
         unfolding walk
         unfolded = rw m refl
 
@@ -274,21 +310,11 @@ module _ (t : Shape) where
       order = λ i j h g. absurd (omega arith);
     }
 
-    all-listed : (l : List ℕ) (n : ℕ) → Listed t l n → All 0 None (λ i. l # i) fresh n (reached t l n fresh)
+    all-listed : (l : List ℕ) (n : ℕ) → Listed t l n → All 0 None (λ i. l # i) l fresh n (reached t l n fresh)
     unfolding reached
     all-listed l n r =
-        run-walks (walk (t .size) t) (suc (t .size)) (walk-walks (t .size)) 0 None (λ i. l # i) n fresh begins (r .places) (λ j h q u. absurd u)
+        run-walks (walk (t .size) t) (suc (t .size)) (walk-walks (t .size)) 0 None (λ i. l # i) l n (record { long = r .listed-long; names = λ j h. refl }) fresh begins (r .places) (λ j h q u. absurd u)
         (λ j h. omega (arith, left-le t (l # j) (r .places j h)))
-
--- The finished places of a walk from the first n places of l.
-pub record Ordered (t : Shape) (l : List ℕ) (n : ℕ) (s : State) : Type 0 where
-  -- "The walk finishes every child of a place before the place itself": the j-th child of the i-th finished place stands at an earlier b
-  pub children-first : (i j : ℕ) → i < s .count → j < many t (s .done # i) → (b : ℕ) × (b < i) × (s .done # b ≡ kid t (s .done # i) j)
-  -- "visited places once"
-  pub none-twice : (i j : ℕ) → i < s .count → j < s .count → s .done # i ≡ s .done # j → i ≡ j
-  -- "columns are walked from each listed place": only what a listed place reaches, and all of it
-  pub only-reached : (i : ℕ) → i < s .count → (j : ℕ) × (j < n) × Reach t (l # j) (s .done # i)
-  pub all-reached : (j q : ℕ) → j < n → Reach t (l # j) q → Has s q
 
 module _ (t : Shape) (l : List ℕ) (n : ℕ) (c : Columns t) (r : Listed t l n) where
   abbrev ended : State
@@ -307,8 +333,16 @@ module _ (t : Shape) (l : List ℕ) (n : ℕ) (c : Columns t) (r : Listed t l n)
   walk-order =
       let a = all-listed t c l n r in
       record {
+        walked = a .walked;
         children-first = a .inv .order;
+        stored-order = λ i h ps q rs e.
+            turned (a .walked) i (omega arith) (omega (arith, length-take-le (ended .count) (ended .done) (within t (a .inv)))) ps q rs
+            (ap (stored t) (getD-take (ended .count) (ended .done) i 0 h) ∙ e);
         none-twice = a .inv .once;
         only-reached = λ i h. ⊎-elim (λ w. absurd (no-both (getD (fresh .marks) (ended .done # i) false) w (off t c (ended .done # i)))) (λ w. w) (a .reach (ended .done # i) (a .inv .marked i h));
         all-reached = λ j q h w. onward (a .has j h) w;
       }
+
+-- what the order leaves open: nothing
+pub order-settles : {t : Shape} {l : List ℕ} {n : ℕ} {s u : State} → Ordered t l n s → Ordered t l n u → finished s ≡ finished u
+order-settles o p = walked-same (o .walked) (p .walked)

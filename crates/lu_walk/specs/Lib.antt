@@ -1,2 +1,3 @@
--- A triangular matrix by columns, and the walk of it, as definitions.
+-- A triangular matrix by columns, the walk of it, and the order of that walk, as definitions.
 pub mod Walk
+pub mod Order

@@ -21,7 +21,7 @@ fn dense(
     values: &mut [f64],
 ) {
     words::text(b" dense");
-    let a = lu::solve_dense(
+    let a = lu::tri_solve_dense(
         lower,
         size,
         entries,
@@ -54,7 +54,7 @@ fn sparse(
     listed: usize,
     values: &mut [f64],
 ) -> bool {
-    let a = lu::solve_sparse(
+    let a = lu::tri_solve_sparse(
         lower,
         size,
         entries,

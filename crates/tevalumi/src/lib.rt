@@ -4,7 +4,7 @@ ghost use mathlib.Core.Bool.{true, false, not};
 ghost use mathlib.Core.List.{[]};
 ghost use lib.Dec.{eqb};
 ghost use Rattle.lu_solve.specs.Solve.{tri};
-ghost use Rattle.lu.specs.Result.{solveSparse, solveDense};
+ghost use Rattle.lu.specs.Result.{triSolveSparse, triSolveDense, solveDense};
 ghost use Rattle.sheet_rules.specs.Promises.{Opens, Edits};
 ghost use Rattle.sheet_rules.specs.Sheet.{planOf, keptOf, sheetOf};
 ghost use Rattle.sheet_rules.specs.Verdict.{verdict, verdictNumbers};
@@ -27,11 +27,11 @@ pub extern "C" fn tevalumi_lower_sparse(
     values: &mut [f64],
 ) -> face::TriAnswer
     ensures { λ r. ⌜ triResult r (now (values .exit)) (now (list .exit))
-        ≡ solveSparse (tri true size (now (starts .entry)) (now (rows .entry)) (now (vals .entry)) (not (eqb «with_diag» 0)) (now (diag .entry)))
+        ≡ triSolveSparse (tri true size (now (starts .entry)) (now (rows .entry)) (now (vals .entry)) (not (eqb «with_diag» 0)) (now (diag .entry)))
         entries (now (list .entry)) listed (now (values .entry)) ⌝ }
 {
     let has_diag = with_diag != 0;
-    let a = lu::solve_sparse(
+    let a = lu::tri_solve_sparse(
         true,
         size,
         entries,
@@ -61,11 +61,11 @@ pub extern "C" fn tevalumi_upper_sparse(
     values: &mut [f64],
 ) -> face::TriAnswer
     ensures { λ r. ⌜ triResult r (now (values .exit)) (now (list .exit))
-        ≡ solveSparse (tri false size (now (starts .entry)) (now (rows .entry)) (now (vals .entry)) (not (eqb «with_diag» 0)) (now (diag .entry)))
+        ≡ triSolveSparse (tri false size (now (starts .entry)) (now (rows .entry)) (now (vals .entry)) (not (eqb «with_diag» 0)) (now (diag .entry)))
         entries (now (list .entry)) listed (now (values .entry)) ⌝ }
 {
     let has_diag = with_diag != 0;
-    let a = lu::solve_sparse(
+    let a = lu::tri_solve_sparse(
         false,
         size,
         entries,
@@ -93,10 +93,10 @@ pub extern "C" fn tevalumi_lower_dense(
     values: &mut [f64],
 ) -> face::TriAnswer
     ensures { λ r. ⌜ triResult r (now (values .exit)) []
-        ≡ solveDense (tri true size (now (starts .entry)) (now (rows .entry)) (now (vals .entry)) (not (eqb «with_diag» 0)) (now (diag .entry))) entries (now (values .entry)) ⌝ }
+        ≡ triSolveDense (tri true size (now (starts .entry)) (now (rows .entry)) (now (vals .entry)) (not (eqb «with_diag» 0)) (now (diag .entry))) entries (now (values .entry)) ⌝ }
 {
     let has_diag = with_diag != 0;
-    let a = lu::solve_dense(
+    let a = lu::tri_solve_dense(
         true,
         size,
         entries,
@@ -122,10 +122,10 @@ pub extern "C" fn tevalumi_upper_dense(
     values: &mut [f64],
 ) -> face::TriAnswer
     ensures { λ r. ⌜ triResult r (now (values .exit)) []
-        ≡ solveDense (tri false size (now (starts .entry)) (now (rows .entry)) (now (vals .entry)) (not (eqb «with_diag» 0)) (now (diag .entry))) entries (now (values .entry)) ⌝ }
+        ≡ triSolveDense (tri false size (now (starts .entry)) (now (rows .entry)) (now (vals .entry)) (not (eqb «with_diag» 0)) (now (diag .entry))) entries (now (values .entry)) ⌝ }
 {
     let has_diag = with_diag != 0;
-    let a = lu::solve_dense(
+    let a = lu::tri_solve_dense(
         false,
         size,
         entries,
@@ -134,6 +134,49 @@ pub extern "C" fn tevalumi_upper_dense(
         vals,
         has_diag,
         diag,
+        values,
+    );
+    face::tri_answer(a)
+}
+
+// The lower triangle, then the upper one, of the same size.
+#[no_mangle]
+pub extern "C" fn tevalumi_solve_dense(
+    size: usize,
+    lower_entries: usize,
+    lower_starts: &[usize],
+    lower_rows: &[usize],
+    lower_vals: &[f64],
+    lower_with_diag: usize,
+    lower_diag: &[f64],
+    upper_entries: usize,
+    upper_starts: &[usize],
+    upper_rows: &[usize],
+    upper_vals: &[f64],
+    upper_with_diag: usize,
+    upper_diag: &[f64],
+    values: &mut [f64],
+) -> face::TriAnswer
+    ensures { λ r. ⌜ triResult r (now (values .exit)) []
+        ≡ solveDense (tri true size (now («lower_starts» .entry)) (now («lower_rows» .entry)) (now («lower_vals» .entry)) (not (eqb «lower_with_diag» 0)) (now («lower_diag» .entry))) «lower_entries»
+        (tri false size (now («upper_starts» .entry)) (now («upper_rows» .entry)) (now («upper_vals» .entry)) (not (eqb «upper_with_diag» 0)) (now («upper_diag» .entry))) «upper_entries» (now (values .entry)) ⌝ }
+{
+    let lower_has_diag = lower_with_diag != 0;
+    let upper_has_diag = upper_with_diag != 0;
+    let a = lu::solve_dense(
+        size,
+        lower_entries,
+        lower_starts,
+        lower_rows,
+        lower_vals,
+        lower_has_diag,
+        lower_diag,
+        upper_entries,
+        upper_starts,
+        upper_rows,
+        upper_vals,
+        upper_has_diag,
+        upper_diag,
         values,
     );
     face::tri_answer(a)

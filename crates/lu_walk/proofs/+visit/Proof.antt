@@ -10,6 +10,7 @@ use borrow.Fn.Kinds.{In}
 use borrow.Fn.PlainCycle.{Measures, is, falls, and}
 use Rattle.doubles.specs.Limits.{maxRows}
 use Rattle.doubles.specs.Loop.{run}
+use Rattle.doubles.specs.Lists.{_#_}
 use Rattle.doubles.proofs.Loops.{next}
 use Rattle.lu_walk.specs.Walk.{shape, state, kidTurn, leftBy}
 use Rattle.lu_walk.proofs.Laws.{walk-old, opened, asks, closed}
@@ -55,13 +56,12 @@ entry t a = search
 new : (t : ℕ) (a : Head t) → getD (entry t a .args .marks .now) (entry t a .args .place) false ≡ false
 new t a = a .before .before .before .if1 .left
 
--- the place is within its limits, and in a turn the entry is one of the lent rows
+-- the place is within its limits, and its column among the lent rows
 place-in : (t : ℕ) (s : Start t) → (s .args .place < maxRows) × (s .args .place + 1 < length (s .args .starts .now))
 place-in t s = (omega (arith, s .pre .1 .place, s .pre .1 .columns .small), omega (arith, s .pre .1 .place, s .pre .1 .columns .long))
 
-row-in : (t : ℕ) (a : Turn t) → getD (entry t (a .before) .args .starts .now) (entry t (a .before) .args .place) 0 + a .before .loop .k < length (entry t (a .before) .args .rows .now)
-row-in t a = let w = entry t (a .before) .pre .1 in
-    omega (arith, a .loop-test .taken, w .columns .ends (entry t (a .before) .args .place) (w .place), w .columns .rise (entry t (a .before) .args .place) (w .place))
+column-in : (t : ℕ) (s : Start t) → (s .args .starts .now # (s .args .place) ≤ s .args .starts .now # (s .args .place + 1)) × (s .args .starts .now # (s .args .place + 1) ≤ length (s .args .rows .now))
+column-in t s = (s .pre .1 .columns .rise _ (s .pre .1 .place), s .pre .1 .columns .ends _ (s .pre .1 .place))
 
 visit-element-copy-out-if1 : (t : ℕ) → visit-lts.Need-element-copy-out-if1 (visit-below t, visit.Post) (visit-at t) visit.Post visit-Inv-loop visit-μ-loop
 visit-element-copy-out-if1 t c = let s : Start t = search in omega (arith, s .pre .1 .place, s .pre .1 .columns .small)
@@ -95,22 +95,24 @@ unfolding run
 visit-loop-holds t c = (omega arith, refl)
 
 visit-add-child : (t : ℕ) → visit-lts.Need-add-child (visit-below t, visit.Post) (visit-at t) visit.Post visit-Inv-loop visit-μ-loop
-visit-add-child t c = let a : Turn t = search in omega (arith, row-in t a, entry t (a .before) .good .1 .1 .1 .0 .0)
+visit-add-child t c = let a : Turn t = search in omega (arith, a .loop-test .taken, column-in t (entry t (a .before)), entry t (a .before) .good .1 .1 .1 .0 .0)
 
 visit-mul-child : (t : ℕ) → visit-lts.Need-mul-child (visit-below t, visit.Post) (visit-at t) visit.Post visit-Inv-loop visit-μ-loop
-visit-mul-child t c = let a : Turn t = search in scaled-fits _ (length (entry t (a .before) .args .rows .now)) 8 (row-in t a) (entry t (a .before) .good .1 .1 .1 .0 .1)
+visit-mul-child t c =
+    let a : Turn t = search in
+    scaled-fits _ (length (entry t (a .before) .args .rows .now)) 8 (omega (arith, a .loop-test .taken, column-in t (entry t (a .before)))) (entry t (a .before) .good .1 .1 .1 .0 .1)
 
 visit-shared-slice-read-child : (t : ℕ) → visit-lts.Need-shared-slice-read-child (visit-below t, visit.Post) (visit-at t) visit.Post visit-Inv-loop visit-μ-loop
-visit-shared-slice-read-child t c = let a : Turn t = search in row-in t a
+visit-shared-slice-read-child t c = let a : Turn t = search in omega (arith, a .loop-test .taken, column-in t (entry t (a .before)))
 
 visit-visit-requires : (t : ℕ) → visit-lts.Need-visit-requires (visit-below t, visit.Post) (visit-at t) visit.Post visit-Inv-loop visit-μ-loop
 visit-visit-requires t c κs =
     let a : Turn t = search in
     let s = entry t (a .before) in
-    (rw (← s .pre .0) (s .pre .1 .columns .falls _ _ (s .pre .1 .place) (a .loop-test .taken)), asks (s .pre .1) (new t (a .before)) (a .before .loop .inv .1) (a .before .loop .inv .0) (a .loop-test .taken))
+    (rw (← s .pre .0) (s .pre .1 .columns .falls _ _ (s .pre .1 .place) (omega (arith, a .loop-test .taken))), asks (s .pre .1) (new t (a .before)) (a .before .loop .inv .1) (a .before .loop .inv .0) _ (omega (arith, a .loop-test .taken)))
 
 visit-add-k : (t : ℕ) → visit-lts.Need-add-k (visit-below t, visit.Post) (visit-at t) visit.Post visit-Inv-loop visit-μ-loop
-visit-add-k t c = let a : Turn t = search in omega (arith, row-in t a, entry t (a .before) .good .1 .1 .1 .0 .0)
+visit-add-k t c = let a : Turn t = search in omega (arith, a .loop-test .taken, column-in t (entry t (a .before)), entry t (a .before) .good .1 .1 .1 .0 .0)
 
 visit-loop-less : (t : ℕ) → visit-lts.Need-loop-less (visit-below t, visit.Post) (visit-at t) visit.Post visit-Inv-loop visit-μ-loop
 visit-loop-less t c = let a : Turn t = search in omega (arith, a .loop-test .taken)

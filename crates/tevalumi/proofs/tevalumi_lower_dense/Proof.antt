@@ -3,8 +3,8 @@ use borrow.Author.Needs.{needs}
 use Rattle.tevalumi.proofs.tevalumi_lower_dense.Statement.{statement}
 use Rattle.tevalumi.proofs.tevalumi_lower_dense.Tie as tie
 
-solve-dense-requires : tie.Need-solve-dense-requires
-solve-dense-requires c κs = search needs
+tri-solve-dense-requires : tie.Need-tri-solve-dense-requires
+tri-solve-dense-requires c κs = search needs
 
 tri-answer-requires : tie.Need-tri-answer-requires
 tri-answer-requires c κs = search needs
@@ -14,9 +14,9 @@ same-length c = search needs
 
 returns : tie.Need-returns
 returns c =
-    let s : tie.After-solve-dense = search in
-    rw (c .tri-answer .ensures) (s .solve-dense .ensures)
+    let s : tie.After-tri-solve-dense = search in
+    rw (c .tri-answer .ensures) (s .tri-solve-dense .ensures)
 
 pub tevalumi-lower-dense-spec : {M : Type 1} → statement M
 tevalumi-lower-dense-spec =
-    tie.close (tie.spec solve-dense-requires tri-answer-requires same-length returns)
+    tie.close (tie.spec tri-solve-dense-requires tri-answer-requires same-length returns)
