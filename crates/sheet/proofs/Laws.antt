@@ -22,7 +22,9 @@ module _ (s : Sheet) where
 
 -- what an edit that is not refused is ready for
 pub edited-so : (s : Sheet) (e : Edit) → editRefusal s e ≡ 0 → Ready s e × Today e
-edited-so s e w = let h = edit-so s e w in (record { sized = h .0 .sized; index = h .0 .index; number = h .1; sound = h .3 }, h .0 .today)
+edited-so s e w =
+    let h = edit-so s e w in
+    (record { sized = h .0 .sized; index = h .0 .index; number = h .1; sound = h .3 }, h .0 .today)
 
 -- v is the number handed in, as the machine hands it on
 module _ (s : Sheet) (k i j : ℕ) (v z : ℤ) (is : v ≡ z) where

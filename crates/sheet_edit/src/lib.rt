@@ -353,7 +353,8 @@ fn sound(
         & sheet_tests::kept_fine(rows, columns, r, d, c, b, counts)
 }
 
-// The edited cell as it is before the edit. No call of today reads it: it is for the journal of 02 (Ask 12), which stores an edit's "old number and new one".
+// The edited cell as it is before the edit. No call of today reads it: it is for the journal of 02 (Ask 12), which
+// stores an edit's "old number and new one".
 pub fn old_cell(
     e: Edit,
     rows: usize,

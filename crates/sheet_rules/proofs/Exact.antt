@@ -39,7 +39,8 @@ opening-only s (OpeningSays.crossed z l w) = rw (sizes-decide s .so-yes z, numbe
 opening-only s (OpeningSays.accepted z l h) = rw (sizes-decide s .so-yes z, numbers-decide (s .plan) .so-yes l, uncrossed-decides (s .plan) .so-yes h)
 
 -- what an accepted opening has passed
-opening-passed : (s : Sheet) {n : ℕ} → OpeningSays s n → n ≡ 0 → Sized s × Limits (s .plan) × (¬ Crossing (s .plan))
+opening-passed : (s : Sheet) {n : ℕ} → OpeningSays s n → n ≡ 0
+    → Sized s × Limits (s .plan) × (¬ Crossing (s .plan))
 opening-passed s (OpeningSays.size h) w = absurd (omega arith)
 opening-passed s (OpeningSays.number z h) w = absurd (omega arith)
 opening-passed s (OpeningSays.crossed z l h) w = absurd (omega arith)
@@ -111,7 +112,8 @@ module _ (s : Sheet) (e : Edit) where
   edit-only (EditSays.accepted w n c h k) = placed w ∙ rw (number-decides e (w .today .first) .so-yes n, both-decides s e (w .sized) (w .index) .so-yes c, sound-twice .so-yes (h, k))
 
 -- what an accepted edit has passed
-edit-passed : (s : Sheet) (e : Edit) {n : ℕ} → EditSays s e n → n ≡ 0 → Placed s e × NumberIn e × (¬ WouldCross (s .plan) e) × Sound e s × Sound e (applied s e)
+edit-passed : (s : Sheet) (e : Edit) {n : ℕ} → EditSays s e n → n ≡ 0
+    → Placed s e × NumberIn e × (¬ WouldCross (s .plan) e) × Sound e s × Sound e (applied s e)
 edit-passed s e (EditSays.unknown h) w = absurd (omega arith)
 edit-passed s e (EditSays.later h k) w = absurd (omega arith)
 edit-passed s e (EditSays.size h k) w = absurd (omega arith)
@@ -120,7 +122,8 @@ edit-passed s e (EditSays.crossed h n k) w = absurd (omega arith)
 edit-passed s e (EditSays.broken h n c k) w = absurd (omega arith)
 edit-passed s e (EditSays.accepted h n c k m) w = (h, n, c, k, m)
 
-pub edit-so : (s : Sheet) (e : Edit) → editRefusal s e ≡ 0 → Placed s e × NumberIn e × (¬ WouldCross (s .plan) e) × Sound e s × Sound e (applied s e)
+pub edit-so : (s : Sheet) (e : Edit) → editRefusal s e ≡ 0
+    → Placed s e × NumberIn e × (¬ WouldCross (s .plan) e) × Sound e s × Sound e (applied s e)
 edit-so s e w = edit-passed s e (edit-says s e) w
 
 -- ---- what a call leaves, by its answer

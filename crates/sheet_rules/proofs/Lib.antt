@@ -1,4 +1,5 @@
--- What the definitions mean. Meaning has what the calls promise, and is the file to start from; demand 3 is its `demand-3`. The theorems behind it, quoted words being 01's:
+-- What the definitions mean. Meaning has what the calls promise, demand 3 among it, and is the file to start from. The
+-- theorems behind it, each under 01's words for it where they are quoted:
 --     opening and edits leave a true sheet, which opening would leave as it is       Reached    opened-good, edit-good, opened-alike
 --     "14 is never given on a true sheet"                                            Reached    edit-never-14, verdict-never-14
 --     11 to 16 and each verdict, each exactly when its words hold                    Exact      opening-says, -only, edit-says, -only, verdict-says, -only

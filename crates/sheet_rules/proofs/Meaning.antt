@@ -1,5 +1,6 @@
--- What `open`, `edit` and `verdict` promise: the file to start from. Their contracts are `Opens`, `Edits` and `Judges` of specs/Promises.antt: s is the sheet as lent, t
--- as it is left. Here the theorems are said of any answer and any t that these allow. Assumes nothing.
+-- What `open`, `edit` and `verdict` promise: the file to start from. Their contracts are `Opens`, `Edits` and `Judges` of
+-- specs/Promises.antt: s is the sheet as lent, t as it is left. Here the theorems are said of any answer and any t that
+-- these allow. Assumes nothing.
 use mathlib.Core.Path.{_≡_, sym, _∙_, subst}
 use mathlib.Core.Logic.{_↔_}
 use mathlib.Core.Bool.{false}
@@ -23,7 +24,8 @@ use Rattle.sheet_rules.proofs.Floor.{gap-theorem, none-theorem}
 module _ {s t : Sheet} {n : ℕ} (o : Opens s n t) where
   -- 11, 12 or 13, or 0, exactly when 01's words for it hold and no earlier one's do
   pub opens-exactly : (m : ℕ) → (n ≡ m) ↔ OpeningSays s m
-  opens-exactly m = (λ w. subst (OpeningSays s) (sym (o .answers) ∙ w) (opening-says s), λ h. o .answers ∙ opening-only s h)
+  opens-exactly m =
+      (λ w. subst (OpeningSays s) (sym (o .answers) ∙ w) (opening-says s), λ h. o .answers ∙ opening-only s h)
 
   -- 01: "nothing changed" where it is refused
   pub opening-keeps : ¬ (n ≡ 0) → t ≡ s
@@ -34,7 +36,8 @@ module _ {s t : Sheet} {n : ℕ} (o : Opens s n t) where
 module _ {s t : Sheet} {e : Edit} {n : ℕ} (d : Edits s e n t) where
   -- 11 to 16, or 0, exactly when 01's words for it hold and no earlier one's do
   pub edits-exactly : (m : ℕ) → (n ≡ m) ↔ EditSays s e m
-  edits-exactly m = (λ w. subst (EditSays s e) (sym (d .answers) ∙ w) (edit-says s e), λ h. d .answers ∙ edit-only s e h)
+  edits-exactly m =
+      (λ w. subst (EditSays s e) (sym (d .answers) ∙ w) (edit-says s e), λ h. d .answers ∙ edit-only s e h)
 
   -- 01: "A refused edit changes nothing"
   pub edit-keeps : ¬ (n ≡ 0) → t ≡ s
@@ -51,16 +54,19 @@ module _ {s t : Sheet} {e : Edit} {n : ℕ} (d : Edits s e n t) where
 
 -- ---- a verdict: each, and 11 or 14, exactly when 01's words for it hold and no earlier one's do
 pub judges-exactly : {s : Sheet} {v : Verdict} → Judges s v → (w : Verdict) → (v ≡ w) ↔ VerdictSays s w
-judges-exactly {s} j w = (λ e. subst (VerdictSays s) (sym (j .answers) ∙ e) (verdict-says s), λ h. j .answers ∙ verdict-only s h)
+judges-exactly {s} j w =
+    (λ e. subst (VerdictSays s) (sym (j .answers) ∙ e) (verdict-says s), λ h. j .answers ∙ verdict-only s h)
 
 -- ---- demand 3
+-- what calls leave is a true sheet within its limits, and opening would accept it
 called-openable : {s : Sheet} → Called s → Openable s
 called-openable (Called.opened {s} o) = subst Openable (sym (o .left)) (opened-good s (sym (o .answers)))
 called-openable (Called.edited {s} e n h d) = subst Openable (sym (d .left)) (edit-good s e (called-openable h))
-called-openable (Called.reopened {s} n h o) = let k = called-openable h in subst Openable (sym (o .left ∙ opened-alike s k)) k
+called-openable (Called.reopened {s} n h o) =
+    let k = called-openable h in
+    subst Openable (sym (o .left ∙ opened-alike s k)) k
 
--- a sheet that was opened and edited in any order equals one worked out afresh, and where it shows a gap, no amounts, whole or fractional, that keep every row and bound
--- are cheaper by more than that gap
+-- whatever calls of `open` and `edit` there were, in any order, refused ones too: demand 3 holds of what they left
 pub demand-3 : {s : Sheet} → Called s → Demand3 s
 demand-3 {s} h =
     let k = called-openable h in

@@ -63,7 +63,10 @@ edit-good s e o = at (editRefusal s e) refl
     at zero w =
         let h = edit-so s e w in
         let i = h .0 .index in
-        record { good = applied-good s e i (h .1) (o .good); uncrossed = edited-uncrossed s e (o .good .sized) i (h .2) (o .uncrossed) }
+        record {
+          good = applied-good s e i (h .1) (o .good);
+          uncrossed = edited-uncrossed s e (o .good .sized) i (h .2) (o .uncrossed);
+        }
     at (suc n) w = o
 
 -- opening would accept it again
@@ -89,10 +92,10 @@ good-afresh s g = λ i. keptOf (r i) (d i) (c i) (b i) (n i)
     one v l e (suc k) h = absurd (omega arith)
 
     c : over (cost (s .plan) (x (s .plan)) ∷ []) (s .kept .C) ≡ s .kept .C
-    c = over-there (cost (s .plan) (x (s .plan)) ∷ []) (s .kept .C) (g .sized .C-fits) (one (cost (s .plan) (x (s .plan))) (s .kept .C) (t .C-true))
+    c = over-there (cost (s .plan) (x (s .plan)) ∷ []) (s .kept .C) (g .sized .C-fits) (one _ (s .kept .C) (t .C-true))
 
     b : over (floor (s .plan) ∷ []) (s .kept .B) ≡ s .kept .B
-    b = over-there (floor (s .plan) ∷ []) (s .kept .B) (g .sized .B-fits) (one (floor (s .plan)) (s .kept .B) (t .B-true))
+    b = over-there (floor (s .plan) ∷ []) (s .kept .B) (g .sized .B-fits) (one _ (s .kept .B) (t .B-true))
 
     counts : List ℤ
     counts = brokenRows (s .plan) ∷ outsideAmounts (s .plan) ∷ wrongSigns (s .plan) ∷ absentNeeded (s .plan) ∷ []

@@ -117,8 +117,8 @@ kindLimit k = getD (0 ∷ maxAmount ∷ maxCost ∷ maxBound ∷ maxBound ∷ ma
 unfoldable pub numberFine : Edit → Bool
 numberFine e = leb 8 (e .kind) || within (kindLimit (e .kind)) (e .number)
 
--- 13: "two present bounds would cross". Read as: kinds 3 and 4 alone bring a bound, so 13 looks at these kinds and at that column alone; what crosses in another
--- column is not this edit's
+-- 13: "two present bounds would cross". Read as: kinds 3 and 4 alone bring a bound, so 13 looks at these kinds and at
+-- that column alone; what crosses in another column is not this edit's
 unfoldable pub bothFine : Plan → Edit → Bool
 bothFine p e = not ((eqb (e .kind) 3 || eqb (e .kind) 4) && crossesAt (edited p e) (e .column))
 
@@ -132,13 +132,16 @@ rowFine p i = all (p .cols) (λ j. within maxCoefficient (a p i j))
 unfoldable pub soundAt : Edit → Sheet → Bool
 soundAt e s = arraysFine (s .plan) && (not (usesColumn (e .kind)) || columnFine (s .plan) (e .column)) && (not (usesRow (e .kind)) || rowFine (s .plan) (e .row)) && keptFine s
 
--- 14 after an edit that all else lets pass: the plan's own numbers keep their limits then, and the moved ones are left to test
+-- 14 after an edit that all else lets pass: the plan's own numbers keep their limits then, and the moved ones are left
+-- to test
 unfoldable pub movedFine : Sheet → Edit → Bool
 movedFine s e =
     let m = s .plan .rows in
     let n = s .plan .cols in
-    all m (λ i. within maxR (movedR s e i)) && all n (λ j. within maxD (movedD s e j)) && within maxC (movedC s e) && within maxB (movedB s e)
-    && countFine m (movedBroken s e) && countFine n (movedOutside s e) && countFine m (movedWrong s e) && countFine n (movedAbsent s e)
+    all m (λ i. within maxR (movedR s e i)) && all n (λ j. within maxD (movedD s e j))
+    && within maxC (movedC s e) && within maxB (movedB s e)
+    && countFine m (movedBroken s e) && countFine n (movedOutside s e)
+    && countFine m (movedWrong s e) && countFine n (movedAbsent s e)
 
 -- ---- the answer, 0 or a refusal's number, and what is lent afterwards. 01: "A refused edit changes nothing"
 abbrev pub editTests : Sheet → Edit → List Test

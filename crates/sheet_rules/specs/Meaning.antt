@@ -8,8 +8,8 @@ use Rattle.sheet_rules.specs.Promises.{Opens, Edits, Judges}
 use Rattle.sheet_rules.specs.declared.Edit.{Edit}
 use Rattle.sheet_rules.specs.declared.Verdict.the-variants.{Gap}
 
--- A sheet as calls leave it: an opening that was accepted, whatever was lent to it, and then edits and openings in any order, whatever they answered. A verdict leaves
--- the sheet as it is and needs no line
+-- A sheet as calls leave it: an opening that was accepted, whatever was lent to it, and then edits and openings in any
+-- order, whatever they answered. A verdict leaves the sheet as it is and needs no line
 pub data Called : Sheet → Type 0 where
   opened : {s t : Sheet} → Opens s 0 t → Called t
   edited : {s t : Sheet} (e : Edit) (answer : ℕ) → Called s → Edits s e answer t → Called t
@@ -21,5 +21,6 @@ pub record Demand3 (s : Sheet) : Type 0 where
   pub afresh : s .kept ≡ overKept (fresh (s .plan)) (s .kept)
   -- so an opening of it is accepted and changes no cell
   pub opens-alike : (answer : ℕ) (t : Sheet) → Opens s answer t → (answer ≡ 0) × (t ≡ s)
-  -- where the verdict shows a gap, it is a gap
+  -- where the verdict shows a gap, no amounts, whole or fractional, that keep every row and bound are cheaper than ours
+  -- by more than that gap
   pub gap-is : (g : ℤ) → Judges s (Gap g) → Gapped s g

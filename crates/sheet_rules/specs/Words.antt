@@ -179,16 +179,19 @@ pub record Keeps (p : Plan) (k : ℕ) (z : ℕ → ℤ) : Type 0 where
   pub lower-kept : (j : ℕ) → j < p .cols → lowerMark p j ≡ 1 → (pos k *ℤ lower p j) ≤ℤ z j
   pub upper-kept : (j : ℕ) → j < p .cols → upperMark p j ≡ 1 → z j ≤ℤ (pos k *ℤ upper p j)
 
--- 02: "no amounts, whole or fractional, keep every row and bound". Of k = 0 nothing is said: 0 / 0 is no amount, and `Keeps p 0` holds of zeros on every plan
+-- 02: "no amounts, whole or fractional, keep every row and bound". Of k = 0 nothing is said: 0 / 0 is no amount, and
+-- `Keeps p 0` holds of zeros on every plan
 abbrev pub NoneKeep : Plan → Type 0
 NoneKeep p = (k : ℕ) → 1 ≤ k → (z : ℕ → ℤ) → ¬ Keeps p k z
 
--- what demand 3 says of a shown gap g, which counts 1/1024 of a cost unit: the sheet's own amounts keep every row and bound, g isn't below 0, and no amounts z / k that
--- keep every row and bound are cheaper than ours by more than g: k * 1024 * (cost of ours - cost of z / k) is at most k * g
+-- what demand 3 says of a shown gap g, which counts 1/1024 of a cost unit: the sheet's own amounts keep every row and
+-- bound, g isn't below 0, and no amounts z / k that keep every row and bound are cheaper than ours by more than g:
+-- k * 1024 * (cost of ours - cost of z / k) is at most k * g
 pub record Gapped (s : Sheet) (g : ℤ) : Type 0 where
   pub plan : Keeps (s .plan) 1 (x (s .plan))
   pub not-below : pos 0 ≤ℤ g
-  pub no-cheaper : (k : ℕ) (z : ℕ → ℤ) → Keeps (s .plan) k z → (pos unit *ℤ (pos k *ℤ cost (s .plan) (x (s .plan)) -ℤ cost (s .plan) z)) ≤ℤ (pos k *ℤ g)
+  pub no-cheaper : (k : ℕ) (z : ℕ → ℤ) → Keeps (s .plan) k z
+      → (pos unit *ℤ (pos k *ℤ cost (s .plan) (x (s .plan)) -ℤ cost (s .plan) z)) ≤ℤ (pos k *ℤ g)
 
 -- ---- a true sheet within its sizes and limits; its present bounds may cross, since no limit speaks of that
 pub record Good (s : Sheet) : Type 0 where

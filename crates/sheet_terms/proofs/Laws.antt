@@ -44,8 +44,11 @@ turn N M n f k total t w few l small e q =
     record { add-fits = f-it; is = toZ-ofZ w64 (total +ℤ t) f-it ∙ ap (λ (z : ℤ). total +ℤ z) q ∙ sum-next f k total e }
 
 -- the first j of n products, of small numbers
-pub dot-small : (a b n j : ℕ) (l k : List ℤ) → n ≤ maxColumns → Small a n l → Small b n k → j ≤ n → natAbs (dot j (λ i. l ‼ i) (λ i. k ‼ i)) ≤ maxColumns * (a * b)
-dot-small a b n j l k few p q h = up-to maxColumns (a * b) j (λ i. l ‼ i *ℤ k ‼ i) (omega arith) (λ i w. mul-size (l ‼ i) (k ‼ i) a b (p .at i (omega arith)) (q .at i (omega arith)))
+pub dot-small : (a b n j : ℕ) (l k : List ℤ) → n ≤ maxColumns → Small a n l → Small b n k → j ≤ n
+    → natAbs (dot j (λ i. l ‼ i) (λ i. k ‼ i)) ≤ maxColumns * (a * b)
+dot-small a b n j l k few p q h =
+    up-to maxColumns (a * b) j (λ i. l ‼ i *ℤ k ‼ i) (omega arith)
+    (λ i w. mul-size (l ‼ i) (k ‼ i) a b (p .at i (omega arith)) (q .at i (omega arith)))
 
 -- a comparison that is neither Le nor Eq
 pub holds-other : (op : ℕ) (r b : ℤ) → (op ≡ 0 → ⊥) → (op ≡ 1 → ⊥) → holds op r b ≡ leZ b r
