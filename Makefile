@@ -2,7 +2,7 @@
 CARGO = CARGO_TARGET_DIR=$(CURDIR)/build/cargo cargo
 BIN = build/cargo/release
 
-.PHONY: test oracle plans triangles sheets replay-data driver checks bench bench-peers bench-profile
+.PHONY: test oracle plans triangles factors sheets replay-data driver checks bench bench-peers bench-profile
 
 # The gate: rt ci over every crate, then every Rust test and comparison. Its last line is `N passed, M failed`.
 test:
@@ -25,7 +25,7 @@ target/staticlib/libtevalumi.a: $(shell find crates crates.txt)
 	rt check $(shell sed -n 's/^tevalumi://p' crates.txt)
 	rt staticlib tevalumi
 
-# build/oracle: plans and triangles in, answer lines out (docs/EXCHANGE.md).
+# build/oracle: plans, triangles and pairs of them in, answer lines out (docs/EXCHANGE.md).
 oracle:
 	$(CARGO) build --release --offline --manifest-path oracle/Cargo.toml
 	cp $(BIN)/oracle build/oracle
@@ -39,6 +39,11 @@ plans: oracle
 triangles: oracle
 	$(BIN)/triangles > build/triangles.txt
 	$(BIN)/triangles --count
+
+# build/factors.txt: the seeded pairs of triangles, and the count of each answer.
+factors: oracle
+	$(BIN)/factors > build/factors.txt
+	$(BIN)/factors --count
 
 # build/sheets.txt: the seeded sheets with their edits, and what they reach.
 sheets:

@@ -87,7 +87,7 @@ TevalumiAnswer tevalumi_solve(
     double *objective, size_t objective_len);
 
 /* ---- Triangles ----
- * Solves a triangle that is stored by columns.
+ * Solves a triangle that is stored by columns, or two of them, one after the other.
  *
  * status  0 solved; refused, the lowest number that applies:
  *         1 a bad size or start, an array too short, an off-diagonal row too large or on the wrong
@@ -146,6 +146,31 @@ TriAnswer tevalumi_upper_dense(
     const double *vals, size_t vals_len,
     size_t with_diag,
     const double *diag, size_t diag_len,
+    double *values, size_t values_len);
+
+/* Solves the lower triangle for the values and then the upper one for what that gives, both of one size,
+ * as the dense calls do; a number between the two that isn't finite isn't refused. 1 and 2 look at both
+ * triangles and at the values; 3 isn't given. Each triangle has its own entries, 0 to 2,048.
+ * Read, for each triangle:
+ *   starts       size + 1: the entries of column j are starts[j] up to starts[j + 1]
+ *   rows, vals   its entries: off-diagonal rows below (lower) or above (upper), in any order
+ *   diag         size, read where its with_diag isn't 0; else the diagonal is all ones
+ * Written where solved:
+ *   values       size: before, the right side; afterwards the solution */
+TriAnswer tevalumi_solve_dense(
+    size_t size,
+    size_t lower_entries,
+    const size_t *lower_starts, size_t lower_starts_len,
+    const size_t *lower_rows, size_t lower_rows_len,
+    const double *lower_vals, size_t lower_vals_len,
+    size_t lower_with_diag,
+    const double *lower_diag, size_t lower_diag_len,
+    size_t upper_entries,
+    const size_t *upper_starts, size_t upper_starts_len,
+    const size_t *upper_rows, size_t upper_rows_len,
+    const double *upper_vals, size_t upper_vals_len,
+    size_t upper_with_diag,
+    const double *upper_diag, size_t upper_diag_len,
     double *values, size_t values_len);
 
 /* ---- The audit sheet ----

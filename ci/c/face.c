@@ -1,4 +1,5 @@
-/* The library's face as a C program sees it: one triangle, and night case N5's sheet with its edits. */
+/* The library's face as a C program sees it: triangles, and night case N5's sheet with its edits. */
+#include <math.h>
 #include <stdio.h>
 #include <string.h>
 
@@ -55,6 +56,38 @@ static void triangle(void) {
     double upper[] = {99.0, 8.0};
     a = tevalumi_upper_sparse(2, 1, ARRAY(upper_starts), ARRAY(upper_rows), ARRAY(vals), 1, ARRAY(diag), ARRAY(last), 1, ARRAY(upper));
     check(a.status == 0 && last[1] == 0 && upper[1] == 2.0 && upper[0] == -2.0, "an upper triangle");
+}
+
+#define LOWER 1, ARRAY(lower_starts), ARRAY(lower_rows), ARRAY(lower_vals)
+#define UPPER 1, ARRAY(upper_starts), ARRAY(upper_rows), ARRAY(upper_vals)
+#define ONES 0, NULL, 0
+
+/* [2 0; 2 4] times [1 0.5; 0 4] is [2 1; 2 17], which makes 8, 40 of 3, 2. Cells past the needed ones are marked. */
+static void factors(void) {
+    const size_t lower_starts[] = {0, 1, 1, 77}, lower_rows[] = {1, 77};
+    const double lower_vals[] = {2.0, 99.0}, lower_diag[] = {2.0, 4.0, 0.0};
+    const size_t upper_starts[] = {0, 0, 1}, upper_rows[] = {0};
+    const double upper_vals[] = {0.5}, upper_diag[] = {1.0, 4.0};
+    double values[] = {8.0, 40.0, 99.0};
+    TriAnswer a = tevalumi_solve_dense(2, LOWER, 1, ARRAY(lower_diag), UPPER, 1, ARRAY(upper_diag), ARRAY(values));
+    check(a.status == 0 && a.places == 2, "the answer of two triangles");
+    check(values[0] == 3.0 && values[1] == 2.0 && values[2] == 99.0, "their values, and the cell past them");
+
+    /* no diagonals lent: all ones */
+    double ones[] = {8.0, 20.0};
+    a = tevalumi_solve_dense(2, LOWER, ONES, UPPER, ONES, ARRAY(ones));
+    check(a.status == 0 && ones[0] == 6.0 && ones[1] == 4.0, "two diagonals of ones");
+    const size_t none[] = {0};
+    a = tevalumi_solve_dense(0, 0, ARRAY(none), NULL, 0, NULL, 0, ONES, 0, ARRAY(none), NULL, 0, NULL, 0, ONES, NULL, 0);
+    check(a.status == 0 && a.places == 0, "two triangles of size 0");
+
+    a = tevalumi_solve_dense(2, UPPER, ONES, UPPER, ONES, ARRAY(ones));
+    check(a.status == 1 && a.places == 0 && ones[0] == 6.0, "1 by the lower triangle, and nothing changed");
+    double infinite[] = {8.0, HUGE_VAL};
+    a = tevalumi_solve_dense(2, LOWER, ONES, UPPER, 1, upper_diag, 1, ARRAY(infinite));
+    check(a.status == 1 && infinite[0] == 8.0, "1 by the upper triangle's short diagonal, before 2");
+    a = tevalumi_solve_dense(2, LOWER, ONES, UPPER, ONES, ARRAY(infinite));
+    check(a.status == 2 && a.places == 0 && infinite[0] == 8.0, "2 by a value, and nothing changed");
 }
 
 /* N2's plan: costs -3, -1; bounds 0 to none, 0 to 2; x0 + x1 <= 4. */
@@ -149,6 +182,7 @@ static void edits(void) {
 
 int main(void) {
     triangle();
+    factors();
     sheet();
     edits();
     printf("%d passed, %d failed\n", passed, failed);

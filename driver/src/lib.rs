@@ -43,6 +43,7 @@ pub fn answers(block: &str, shown: Shown, rng: &mut Rng) -> Result<String, Strin
                 plans::line(&plan, &lengths, shown.state)
             }
             Item::Tri(tri) => triangles::line(&tri, rng),
+            Item::Factors(both) => triangles::factors_line(&both, rng),
         };
         out.push('\n');
     }

@@ -82,7 +82,7 @@ pub enum Verdict {
     Gap(i128),
 }
 
-/// "In size up to": both ends belong to it.
+/// "in size up to": both ends belong to it.
 pub fn within(number: i128, limit: i128) -> bool {
     -limit <= number && number <= limit
 }
@@ -376,8 +376,8 @@ fn edited_coefs_break(sheet: &Sheet, edit: Edit) -> bool {
     false
 }
 
-/// 14's test on one state of the sheet. "Any array but the coefficients": the kept R and D are
-/// such arrays too.
+/// 14's test on one state of the sheet. The kept R and D belong to "any array but the coefficients"
+/// too.
 pub fn state_breaks(sheet: &Sheet, edit: Edit) -> bool {
     short_arrays_break(sheet) || edited_coefs_break(sheet, edit) || kept_breaks(sheet, &sheet.kept)
 }
@@ -564,7 +564,7 @@ pub fn none_exists(sheet: &Sheet) -> bool {
 }
 
 /// 01: "not a plan if either of the first two counts isn't 0; else no floor if either of the last
-/// isn't; else gap = 1024*C - B. A verdict gives 11, or 14 where a kept number is over its size."
+/// isn't; else gap = 1024*C - B"; "A verdict gives 11, or 14 where a kept number is over its size."
 /// 02: "none exists" "takes precedence over the other verdicts".
 pub fn verdict(sheet: &Sheet) -> Verdict {
     if badly_sized(sheet) {

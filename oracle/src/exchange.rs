@@ -1,4 +1,4 @@
-//! The exchange text: plans and triangles in, answer lines out. All ours.
+//! The exchange text: plans, triangles and pairs of them in, answer lines out. All ours.
 //!
 //! Doubles are the 16 hex digits of their bits, whole numbers are decimal. The number of tokens on
 //! an array's line is the lent array's length; an array without a line has length 0.
@@ -9,12 +9,13 @@ use std::io::{self, BufRead};
 use crate::{
     answer::{Answer, Outcome, Rejected, State, PANICKED},
     plan::{Lent, Plan},
-    tri::{Tri, TriAnswer},
+    tri::{Factors, FactorsAnswer, Tri, TriAnswer},
 };
 
 pub enum Item {
     Plan(Plan),
     Tri(Tri),
+    Factors(Factors),
 }
 
 /// Reads block after block.
@@ -72,7 +73,19 @@ impl<R: BufRead> Reader<R> {
                 while self.field(|key, words| tri_field(&mut tri, key, words))? {}
                 Ok(Some(Item::Tri(tri)))
             }
-            _ => Err("a block begins with plan or tri".into()),
+            Some("lu") => {
+                let mut factors = Factors {
+                    id: word(words.next())?,
+                    ..Factors::default()
+                };
+                factors.upper.upper = true;
+                factors.set_size(whole(words.next())?);
+                factors.lower.entries = whole(words.next())?;
+                factors.upper.entries = whole(words.next())?;
+                while self.field(|key, words| factors_field(&mut factors, key, words))? {}
+                Ok(Some(Item::Factors(factors)))
+            }
+            _ => Err("a block begins with plan, tri or lu".into()),
         }
     }
 
@@ -155,6 +168,27 @@ fn tri_field(
     Ok(())
 }
 
+fn factors_field(
+    factors: &mut Factors,
+    key: &str,
+    words: &mut dyn Iterator<Item = &str>,
+) -> Result<(), String> {
+    let Factors { lower, upper, .. } = factors;
+    match key {
+        "lstarts" => lower.starts = wholes(words)?,
+        "lrows" => lower.rows = wholes(words)?,
+        "lvals" => lower.vals = doubles(words)?,
+        "ldiag" => lower.diag = Some(doubles(words)?),
+        "ustarts" => upper.starts = wholes(words)?,
+        "urows" => upper.rows = wholes(words)?,
+        "uvals" => upper.vals = doubles(words)?,
+        "udiag" => upper.diag = Some(doubles(words)?),
+        "values" => factors.values = doubles(words)?,
+        _ => return Err(format!("no line {} in two triangles", key)),
+    }
+    Ok(())
+}
+
 fn word(word: Option<&str>) -> Result<String, String> {
     word.map(str::to_string).ok_or("a word is missing".into())
 }
@@ -226,6 +260,31 @@ impl fmt::Display for Tri {
         }
         write_wholes_line(f, "list", &self.list)?;
         write_doubles_line(f, "lvals", &self.lvals)?;
+        writeln!(f, "end")
+    }
+}
+
+/// Two triangles in the exchange text.
+impl fmt::Display for Factors {
+    fn fmt(&self, f: &mut fmt::Formatter<'_>) -> fmt::Result {
+        let entries = (self.lower.entries, self.upper.entries);
+        writeln!(
+            f,
+            "lu {} {} {} {}",
+            self.id,
+            self.size(),
+            entries.0,
+            entries.1
+        )?;
+        for (side, tri) in [("l", &self.lower), ("u", &self.upper)] {
+            write_wholes_line(f, &format!("{}starts", side), &tri.starts)?;
+            write_wholes_line(f, &format!("{}rows", side), &tri.rows)?;
+            write_doubles_line(f, &format!("{}vals", side), &tri.vals)?;
+            if let Some(diag) = &tri.diag {
+                write_doubles_line(f, &format!("{}diag", side), diag)?;
+            }
+        }
+        write_doubles_line(f, "values", &self.values)?;
         writeln!(f, "end")
     }
 }
@@ -364,6 +423,15 @@ pub fn tri_answer_line(id: &str, answer: &TriAnswer) -> String {
     if answer.status == 0 {
         push_list(&mut line, "list", &answer.list);
         push_double_list(&mut line, "sparse", &answer.sparse);
+        push_double_list(&mut line, "dense", &answer.dense);
+    }
+    line
+}
+
+/// `ID STATUS` and, where STATUS is 0, `dense hex*`.
+pub fn factors_answer_line(id: &str, answer: &FactorsAnswer) -> String {
+    let mut line = format!("{} {}", id, answer.status);
+    if answer.status == 0 {
         push_double_list(&mut line, "dense", &answer.dense);
     }
     line

@@ -76,7 +76,7 @@ fn refuse(plan: &Plan, options: Options) -> Result<(), Outcome> {
         return Err(Outcome::BadNumber);
     }
 
-    // "3: a column number is too large or doesn't rise: the first bad entry, row by row, is the one
+    // 3: "a column number is too large or doesn't rise: the first bad entry, row by row, is the one
     // named, by row and place"
     for row in 0..plan.rows as usize {
         let cols = &plan.cols[row_range(plan, row)];
@@ -90,7 +90,7 @@ fn refuse(plan: &Plan, options: Options) -> Result<(), Outcome> {
     Ok(())
 }
 
-// "1: a size or the budget passes its limit, a lent array is too short, or the row starts don't
+// 1: "a size or the budget passes its limit, a lent array is too short, or the row starts don't
 // begin at 0, fall, or don't end at the entry count". No cell is read before the sizes are known.
 fn sizes_fit(plan: &Plan) -> bool {
     if plan.columns > limits::COLUMNS
@@ -122,7 +122,7 @@ fn sizes_fit(plan: &Plan) -> bool {
     starts[0] == 0 && starts.windows(2).all(|w| w[0] <= w[1]) && starts[rows] == plan.entries
 }
 
-// "2: NaN anywhere in the plan; an infinite cost, coefficient or right side; lower bound +inf, upper
+// 2: "NaN anywhere in the plan; an infinite cost, coefficient or right side; lower bound +inf, upper
 // -inf; tolerance outside 0 to 1; a comparison above 2". What stands past the needed length is no
 // part of the plan.
 fn numbers_fit(plan: &Plan, options: Options) -> bool {

@@ -13,6 +13,7 @@ pub mod families;
 pub mod fresh;
 pub mod gate;
 pub mod lu;
+pub mod lu_families;
 pub mod night;
 pub mod plan;
 pub mod rng;

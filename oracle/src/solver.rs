@@ -115,7 +115,7 @@ impl Solver {
             let min = orig_var_mins[v];
             let max = orig_var_maxs[v];
             if min > max {
-                // ours: "4: lower > upper, with the first such column".
+                // ours: 4: "lower > upper, with the first such column".
                 return Err(Outcome::CrossedBounds { column: v });
             }
 
@@ -191,7 +191,7 @@ impl Solver {
                 if is_tautological {
                     continue;
                 } else {
-                    // ours: "5: an empty row whose 0 op rhs is false, with the first such row".
+                    // ours: 5: "an empty row whose 0 op rhs is false, with the first such row".
                     return Err(Outcome::FalseEmptyRow { row });
                 }
             }
@@ -269,7 +269,7 @@ impl Solver {
 
         let cur_obj_val = obj_val;
 
-        // ours: "6: a start value, objective sum or start norm isn't finite". The lowest number
+        // ours: 6: "a start value, objective sum or start norm isn't finite". The lowest number
         // that applies is given, so 6 is settled for the whole plan before 7.
         let is_finite = |val: &f64| val.is_finite();
         if !nb_var_vals.iter().all(is_finite) || !basic_var_vals.iter().all(is_finite) {
@@ -282,7 +282,7 @@ impl Solver {
             return Err(Outcome::StartNotFinite(StartNumber::Norm));
         }
 
-        // ours: "7: a slack starts outside its bounds, no tolerance".
+        // ours: 7: "a slack starts outside its bounds, no tolerance".
         if !is_primal_feasible {
             return Err(Outcome::SlackOutside);
         }
@@ -465,7 +465,7 @@ impl Solver {
             }
         };
 
-        // ours: "21: budget spent and a column would enter". "Order: entering column (none: final
+        // ours: 21: "budget spent and a column would enter". "Order: entering column (none: final
         // check); budget; column solve; ..."
         if self.steps >= self.budget {
             return Err(Outcome::Spent);
@@ -591,7 +591,7 @@ impl Solver {
         }
 
         if let Some(row) = leaving_r {
-            // ours: "22: the next eta column doesn't fit the room left", before the row solve.
+            // ours: 22: "the next eta column doesn't fit the room left", before the row solve.
             self.check_eta_room()?;
 
             self.calc_row_coeffs(row);

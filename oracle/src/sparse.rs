@@ -20,7 +20,7 @@ impl SparseVec {
         self.values.clear();
     }
 
-    // ours: "22: the next eta column doesn't fit the room left" counts listed places.
+    // ours: 22: "the next eta column doesn't fit the room left" counts listed places.
     pub(crate) fn len(&self) -> usize {
         self.indices.len()
     }

@@ -1,8 +1,9 @@
-//! The triangle call: refusals 1 to 3 (ours), then tri_solve_sparse and tri_solve_dense as shown.
+//! The triangle calls: refusals 1 to 3 (ours), then tri_solve_sparse and tri_solve_dense as shown,
+//! and for two triangles solve_dense as shown.
 
 use crate::{
     limits,
-    lu::{tri_solve_dense, tri_solve_sparse, ScratchSpace, Triangle},
+    lu::{tri_solve_dense, tri_solve_sparse, LUFactors, ScratchSpace, Triangle},
     sparse::{SparseMat, TriangleMat},
 };
 
@@ -30,6 +31,32 @@ pub struct TriAnswer {
     /// The list afterwards, the values of the sparse solve and those of the dense one.
     pub list: Vec<usize>,
     pub sparse: Vec<f64>,
+    pub dense: Vec<f64>,
+}
+
+/// Two triangles as lent, of one size and without lists, and the numbers to solve for.
+#[derive(Clone, Debug, Default)]
+pub struct Factors {
+    pub id: String,
+    pub lower: Tri,
+    pub upper: Tri,
+    pub values: Vec<f64>,
+}
+
+impl Factors {
+    pub fn size(&self) -> u64 {
+        self.lower.size
+    }
+
+    pub fn set_size(&mut self, size: u64) {
+        self.lower.size = size;
+        self.upper.size = size;
+    }
+}
+
+#[derive(Clone, Debug)]
+pub struct FactorsAnswer {
+    pub status: u8,
     pub dense: Vec<f64>,
 }
 
@@ -77,6 +104,28 @@ pub fn solve(tri: &Tri) -> TriAnswer {
     }
 }
 
+/// "solve_dense (no permutations)".
+pub fn solve_dense(factors: &Factors) -> FactorsAnswer {
+    let status = factors_refusal(factors);
+    if status != 0 {
+        return FactorsAnswer {
+            status,
+            dense: vec![],
+        };
+    }
+
+    let size = factors.size() as usize;
+    let lu = LUFactors {
+        lower: triangle_mat(&factors.lower),
+        upper: triangle_mat(&factors.upper),
+        row_perm: None,
+        col_perm: None,
+    };
+    let mut dense = factors.values[..size].to_vec();
+    lu.solve_dense(&mut dense, &mut ScratchSpace::with_capacity(size));
+    FactorsAnswer { status, dense }
+}
+
 fn triangle_mat(tri: &Tri) -> TriangleMat {
     let size = tri.size as usize;
     let mut nondiag = SparseMat::new(size);
@@ -107,6 +156,21 @@ fn refusal(tri: &Tri) -> u8 {
         2
     } else if !list_fits(tri) {
         3
+    } else {
+        0
+    }
+}
+
+/// The same over both triangles and the numbers to solve for, each of which counts: no list is lent,
+/// so 3 isn't given. A number between the two solves isn't looked at.
+fn factors_refusal(factors: &Factors) -> u8 {
+    let both = [&factors.lower, &factors.upper];
+    if !both.into_iter().all(shape_fits) || (factors.values.len() as u64) < factors.size() {
+        1
+    } else if !both.into_iter().all(numbers_fit)
+        || !finite(&factors.values[..factors.size() as usize])
+    {
+        2
     } else {
         0
     }
@@ -153,10 +217,13 @@ fn shape_fits(tri: &Tri) -> bool {
     }
 }
 
+fn finite(vals: &[f64]) -> bool {
+    vals.iter().all(|val| val.is_finite())
+}
+
 // "2 a number not finite": off-diagonal, diagonal, and the numbers of listed places in range.
 fn numbers_fit(tri: &Tri) -> bool {
     let size = tri.size as usize;
-    let finite = |vals: &[f64]| vals.iter().all(|val| val.is_finite());
     finite(&tri.vals[..tri.entries as usize])
         && tri.diag.as_ref().is_none_or(|diag| finite(&diag[..size]))
         && tri

@@ -44,7 +44,11 @@ pub fn make(seed: u64, take: &mut dyn FnMut(Tri)) {
 }
 
 /// Off-diagonal entries by column, in stored order.
-fn from_columns(upper: bool, columns: &[Vec<(u64, f64)>], diag: Option<Vec<f64>>) -> Tri {
+pub(crate) fn from_columns(
+    upper: bool,
+    columns: &[Vec<(u64, f64)>],
+    diag: Option<Vec<f64>>,
+) -> Tri {
     let mut tri = Tri {
         upper,
         size: columns.len() as u64,
@@ -92,7 +96,7 @@ fn tiny(_: &mut Rng, sink: &mut Sink) {
                         if falling && columns.iter().all(|column| column.len() < 2) {
                             continue;
                         }
-                        // The first is "no diagonal: all ones".
+                        // The first is no diagonal: all ones.
                         let diag = diagonal.checked_sub(1).map(|mut rest| {
                             let mut diag = vec![];
                             for _ in 0..size {
@@ -131,17 +135,20 @@ fn lists(size: usize) -> Vec<Vec<u64>> {
     lists
 }
 
-/// A random triangle: rows in any order and repeated, once in `sparse` an entry.
-fn random(rng: &mut Rng, size: usize, sparse: usize, wild: bool) -> Tri {
-    let number = |rng: &mut Rng| match rng.below(if wild { 6 } else { 3 }) {
+/// A number that can be anything where it is `wild`, else of a middle size.
+pub(crate) fn number(rng: &mut Rng, wild: bool) -> f64 {
+    match rng.below(if wild { 6 } else { 3 }) {
         0 => rng.whole(5),
         1 => rng.whole(40) / 10.0,
         2 => rng.unit() - 0.5,
         3 => rng.sized(300, 1000),
         4 => rng.sized(-1000, -300),
         _ => rng.pick(&[0.0, -0.0, f64::MAX, -f64::MAX, 5e-324]),
-    };
-    let upper = rng.one_in(2);
+    }
+}
+
+/// A random triangle that lists nothing: rows in any order and repeated, once in `sparse` an entry.
+pub(crate) fn unlisted(rng: &mut Rng, upper: bool, size: usize, sparse: usize, wild: bool) -> Tri {
     let mut columns = vec![vec![]; size];
     let mut left = limits::TRI_ENTRIES as usize;
     for (col, column) in columns.iter_mut().enumerate() {
@@ -153,7 +160,7 @@ fn random(rng: &mut Rng, size: usize, sparse: usize, wild: bool) -> Tri {
         for _ in 0..rows.len() {
             if left > 0 && rng.one_in(sparse) {
                 let row = rng.pick(&rows);
-                column.push((row, number(rng)));
+                column.push((row, number(rng, wild)));
                 left -= 1;
             }
         }
@@ -161,20 +168,25 @@ fn random(rng: &mut Rng, size: usize, sparse: usize, wild: bool) -> Tri {
     let diag = if rng.one_in(2) {
         let mut diag = vec![];
         for _ in 0..size {
-            let val = number(rng);
+            let val = number(rng, wild);
             diag.push(if val == 0.0 { 1.0 } else { val });
         }
         Some(diag)
     } else {
         None
     };
+    from_columns(upper, &columns, diag)
+}
 
-    let mut tri = from_columns(upper, &columns, diag);
+/// A random triangle with a random list.
+fn random(rng: &mut Rng, size: usize, sparse: usize, wild: bool) -> Tri {
+    let upper = rng.one_in(2);
+    let mut tri = unlisted(rng, upper, size, sparse, wild);
     let mut places: Vec<u64> = (0..size as u64).collect();
     for _ in 0..rng.between(0, size) {
         let at = rng.below(places.len());
         tri.list.push(places.swap_remove(at));
-        tri.lvals.push(number(rng));
+        tri.lvals.push(number(rng, wild));
     }
     tri
 }
@@ -259,7 +271,7 @@ fn bad_shapes(rng: &mut Rng, sink: &mut Sink) {
     }
 }
 
-fn column_of(tri: &Tri, entry: usize) -> u64 {
+pub(crate) fn column_of(tri: &Tri, entry: usize) -> u64 {
     let after = tri.starts.iter().filter(|&&s| s <= entry as u64).count();
     after as u64 - 1
 }

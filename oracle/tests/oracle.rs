@@ -3,14 +3,15 @@
 use std::io::Cursor;
 
 use oracle::answer::{Answer, Outcome};
-use oracle::exchange::{answer_line, tri_answer_line, Extras, Item, Reader};
+use oracle::exchange::{answer_line, factors_answer_line, tri_answer_line, Extras, Item, Reader};
 use oracle::families;
 use oracle::fresh;
 use oracle::gate;
+use oracle::lu_families;
 use oracle::night;
 use oracle::plan::Plan;
 use oracle::shown::{Correction, Options};
-use oracle::tri::{self, Tri};
+use oracle::tri::{self, Factors, Tri};
 
 const STATE: Extras = Extras {
     state: true,
@@ -30,6 +31,7 @@ fn plans(text: &str) -> Vec<Plan> {
     let plan = |item| match item {
         Item::Plan(plan) => plan,
         Item::Tri(tri) => panic!("{} is a triangle", tri.id),
+        Item::Factors(both) => panic!("{} is two triangles", both.id),
     };
     items(text).into_iter().map(plan).collect()
 }
@@ -48,6 +50,7 @@ fn assert_answers(text: &str, answers: &str) {
                 answer_line(&plan.id, &gate::solve(plan, Options::default()), STATE)
             }
             Item::Tri(tri) => tri_answer_line(&tri.id, &tri::solve(tri)),
+            Item::Factors(both) => factors_answer_line(&both.id, &tri::solve_dense(both)),
         };
         assert_eq!(line, expected);
     }
@@ -88,6 +91,14 @@ fn fixed_triangles_as_kept() {
     assert_answers(
         include_str!("../fixed-tri.txt"),
         include_str!("../fixed-tri.answers"),
+    );
+}
+
+#[test]
+fn fixed_pairs_as_kept() {
+    assert_answers(
+        include_str!("../fixed-lu.txt"),
+        include_str!("../fixed-lu.answers"),
     );
 }
 
@@ -196,15 +207,20 @@ fn texts_come_back_as_they_were() {
         let text = plan.to_string();
         assert_eq!(plans(&text)[0].to_string(), text);
     });
-    let text = include_str!("../fixed-tri.txt");
-    let back: String = items(text)
-        .iter()
-        .map(|item| match item {
-            Item::Plan(plan) => plan.to_string(),
-            Item::Tri(tri) => tri.to_string(),
-        })
-        .collect();
-    assert_eq!(back, text);
+    for text in [
+        include_str!("../fixed-tri.txt"),
+        include_str!("../fixed-lu.txt"),
+    ] {
+        let back: String = items(text)
+            .iter()
+            .map(|item| match item {
+                Item::Plan(plan) => plan.to_string(),
+                Item::Tri(tri) => tri.to_string(),
+                Item::Factors(both) => both.to_string(),
+            })
+            .collect();
+        assert_eq!(back, text);
+    }
 }
 
 /// The same seed gives the same plans, another seed others; no two plans have one name.
@@ -235,6 +251,9 @@ fn malformed_text_is_an_error() {
         "plan a\nshort nothing 1\nend",
         "plan a\nwhat 1\nend",
         "tri a middle 1 0\nend",
+        "lu a 1 0\nend",
+        "lu a 1 0 0\nstarts 0 0\nend",
+        "lu a 1 0 0\nvalues 0\nend",
         "sheet a 1 1\nend",
     ] {
         let first = Reader::new(Cursor::new(text)).next();
@@ -319,4 +338,57 @@ fn the_order_of_subtraction_shows() {
     assert_eq!(answer.dense[2], 1.0 - 0.1 - 0.2);
     assert_eq!(answer.sparse[2], 1.0 - 0.2 - 0.1);
     assert_ne!(answer.dense[2], answer.sparse[2]);
+}
+
+/// "solve_dense (no permutations)" is the lower triangle's dense solve, then the upper one's. A
+/// number between the two that isn't finite goes on, though a triangle alone would refuse it.
+#[test]
+fn a_pair_is_one_dense_solve_after_the_other() {
+    let dense = |tri: &Tri, vals: &[f64]| {
+        tri::solve(&Tri {
+            list: (0..tri.size).collect(),
+            lvals: vals.to_vec(),
+            ..tri.clone()
+        })
+    };
+    let (mut same, mut refused) = (0, 0);
+    lu_families::make(1, &mut |pair: Factors| {
+        let answer = tri::solve_dense(&pair);
+        if answer.status != 0 {
+            return;
+        }
+        let size = pair.size() as usize;
+        let between = dense(&pair.lower, &pair.values[..size]);
+        let last = dense(&pair.upper, &between.dense);
+        if between.dense.iter().all(|val| val.is_finite()) {
+            // A NaN's payload is nobody's.
+            let one_nan = |vals: &[f64]| -> Vec<u64> {
+                let nan = f64::NAN.to_bits();
+                let one = |val: &f64| if val.is_nan() { nan } else { val.to_bits() };
+                vals.iter().map(one).collect()
+            };
+            assert_eq!(one_nan(&last.dense), one_nan(&answer.dense), "{}", pair.id);
+            same += 1;
+        } else {
+            assert_eq!(last.status, 2, "{}", pair.id);
+            refused += 1;
+        }
+    });
+    assert!(same > 8_000 && refused > 500, "{} {}", same, refused);
+}
+
+/// Each pair that was made to be refused is refused, and by the number that it was made for.
+#[test]
+fn a_pair_is_refused_by_its_cause() {
+    let mut seen = [0; 3];
+    lu_families::make(2, &mut |pair: Factors| {
+        let number = match pair.id.split_once('.') {
+            Some(("lu-shape" | "lu-both", _)) => 1,
+            Some(("lu-number", _)) => 2,
+            _ => 0,
+        };
+        assert_eq!(tri::solve_dense(&pair).status, number, "{}", pair.id);
+        seen[number as usize] += 1;
+    });
+    assert!(seen.into_iter().all(|count| count >= 500), "{:?}", seen);
 }

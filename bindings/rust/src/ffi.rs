@@ -169,3 +169,17 @@ call! {
         with_diag: usize, diag: &[f64], values: &mut [f64],
     ) -> TriAnswer
 }
+
+call! {
+    /// Solves a lower triangle and then an upper one for every place: writes the values.
+    fn tevalumi_solve_dense(
+        size: usize,
+        lower_entries: usize,
+        lower_starts: &[usize], lower_rows: &[usize], lower_vals: &[f64],
+        lower_with_diag: usize, lower_diag: &[f64],
+        upper_entries: usize,
+        upper_starts: &[usize], upper_rows: &[usize], upper_vals: &[f64],
+        upper_with_diag: usize, upper_diag: &[f64],
+        values: &mut [f64],
+    ) -> TriAnswer
+}

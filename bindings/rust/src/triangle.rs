@@ -24,6 +24,37 @@
 //! assert_eq!((list, values), ([0, 1], [2.0, -6.0]));
 //! # Ok::<(), tevalumi::triangle::Refusal>(())
 //! ```
+//!
+//! A matrix that is the product of a lower and an upper triangle is solved by one call:
+//!
+//! ```
+//! use tevalumi::triangle::{solve_dense, Triangle};
+//!
+//! // Lower: 1, 0 over 3, 1. Upper: 2, 4 over 0, 5. Their product: 2, 4 over 6, 17.
+//! let lower = Triangle {
+//!     upper: false,
+//!     size: 2,
+//!     entries: 1,
+//!     starts: &[0, 1, 1],
+//!     rows: &[1],
+//!     vals: &[3.0],
+//!     diag: None,
+//! };
+//! let upper = Triangle {
+//!     upper: true,
+//!     size: 2,
+//!     entries: 1,
+//!     starts: &[0, 0, 1],
+//!     rows: &[0],
+//!     vals: &[4.0],
+//!     diag: Some(&[2.0, 5.0]),
+//! };
+//! // 2 x0 + 4 x1 = 10, 6 x0 + 17 x1 = 40.
+//! let mut values = [10.0, 40.0];
+//! solve_dense(&lower, &upper, &mut values)?;
+//! assert_eq!(values, [1.0, 2.0]);
+//! # Ok::<(), tevalumi::triangle::Refusal>(())
+//! ```
 
 use crate::ffi;
 
@@ -141,6 +172,38 @@ impl Triangle<'_> {
             values,
         ))
     }
+}
+
+/// Solves the product of two triangles for the right side in the first `size` cells of `values`,
+/// which then hold the solution: the lower triangle first, then the upper one for what that gives.
+/// A number between the two that isn't finite goes on.
+///
+/// # Errors
+///
+/// [`Refusal::BadTriangle`] or [`Refusal::NotFinite`], the lower one first, over both triangles and
+/// the values. The first one too where `lower` is an upper triangle, `upper` isn't, or their sizes
+/// differ.
+pub fn solve_dense(lower: &Triangle, upper: &Triangle, values: &mut [f64]) -> Result<(), Refusal> {
+    if lower.upper || !upper.upper || lower.size != upper.size {
+        return Err(Refusal::BadTriangle);
+    }
+    let numbers = ffi::tevalumi_solve_dense(
+        lower.size,
+        lower.entries,
+        lower.starts,
+        lower.rows,
+        lower.vals,
+        usize::from(lower.diag.is_some()),
+        lower.diag.unwrap_or(&[]),
+        upper.entries,
+        upper.starts,
+        upper.rows,
+        upper.vals,
+        usize::from(upper.diag.is_some()),
+        upper.diag.unwrap_or(&[]),
+        values,
+    );
+    answer(numbers).map(drop)
 }
 
 fn answer(from: ffi::TriAnswer) -> Result<usize, Refusal> {

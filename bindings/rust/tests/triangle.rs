@@ -1,6 +1,6 @@
-//! The triangle calls: both triangles, both solves, the three refusals.
+//! The triangle calls: both triangles, both solves, the three refusals; and a pair of triangles.
 
-use tevalumi::triangle::{Refusal, Triangle};
+use tevalumi::triangle::{solve_dense, Refusal, Triangle};
 
 /// 2 x0 = 2, 3 x0 + 4 x1 = 11, 5 x1 + 8 x2 = 26: by columns, with a diagonal.
 const LOWER: Triangle = Triangle {
@@ -134,6 +134,93 @@ fn ones_on_the_diagonal_and_the_empty_triangle() {
     };
     assert_eq!(empty.solve_sparse(&mut [], 0, &mut []), Ok(0));
     assert_eq!(empty.solve_dense(&mut []), Ok(()));
+}
+
+/// The product of `LOWER` and `UPPER` is 16, 10, 0 over 24, 31, 12 over 0, 20, 31.
+#[test]
+fn a_pair_is_solved_one_after_the_other() {
+    let mut values = [36.0, 122.0, 133.0, 7.5];
+    solve_dense(&LOWER, &UPPER, &mut values).unwrap();
+    assert_eq!(values, [1.0, 2.0, 3.0, 7.5]);
+
+    let mut apart = [0.1, -0.3, 7.0];
+    let mut together = apart;
+    LOWER.solve_dense(&mut apart).unwrap();
+    UPPER.solve_dense(&mut apart).unwrap();
+    solve_dense(&LOWER, &UPPER, &mut together).unwrap();
+    assert_eq!(together.map(f64::to_bits), apart.map(f64::to_bits));
+}
+
+/// The lower solve leaves an infinity, which the upper triangle alone would refuse.
+#[test]
+fn what_overflows_between_goes_on() {
+    let lower = Triangle {
+        diag: Some(&[1e-300, 1.0, 1.0]),
+        ..LOWER
+    };
+    let mut values = [1e300, 1.0, 1.0];
+    solve_dense(&lower, &UPPER, &mut values).unwrap();
+    assert!(values.iter().all(|value| !value.is_finite()));
+
+    let mut apart = [1e300, 1.0, 1.0];
+    lower.solve_dense(&mut apart).unwrap();
+    assert_eq!(UPPER.solve_dense(&mut apart), Err(Refusal::NotFinite));
+}
+
+#[test]
+fn a_pair_is_refused_by_either_triangle() {
+    let refused = |lower: &Triangle, upper: &Triangle, values: [f64; 3]| {
+        let mut after = values;
+        let refusal = solve_dense(lower, upper, &mut after).unwrap_err();
+        assert_eq!(after.map(f64::to_bits), values.map(f64::to_bits));
+        refusal
+    };
+    let fine = [1.0; 3];
+    let infinite = [1.0, f64::INFINITY, 1.0];
+    let with = |upper: bool| match upper {
+        true => UPPER,
+        false => LOWER,
+    };
+    for side in [false, true] {
+        let bad = [
+            Triangle {
+                starts: &[0, 1, 2],
+                ..with(side)
+            },
+            Triangle {
+                rows: &[1, 1],
+                ..with(side)
+            },
+            Triangle {
+                diag: Some(&[2.0, 0.0, 8.0]),
+                ..with(side)
+            },
+            Triangle {
+                size: 2,
+                ..with(side)
+            },
+            with(!side),
+        ];
+        let pair = |triangle| match side {
+            true => (LOWER, triangle),
+            false => (triangle, UPPER),
+        };
+        for triangle in bad {
+            let (lower, upper) = pair(triangle);
+            // 1 comes before 2.
+            for values in [fine, infinite] {
+                assert_eq!(refused(&lower, &upper, values), Refusal::BadTriangle);
+            }
+        }
+        let (lower, upper) = pair(Triangle {
+            vals: &[3.0, f64::NAN],
+            ..with(side)
+        });
+        assert_eq!(refused(&lower, &upper, fine), Refusal::NotFinite);
+    }
+    assert_eq!(refused(&LOWER, &UPPER, infinite), Refusal::NotFinite);
+    let short = solve_dense(&LOWER, &UPPER, &mut [1.0; 2]);
+    assert_eq!(short, Err(Refusal::BadTriangle));
 }
 
 #[test]

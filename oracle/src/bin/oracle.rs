@@ -1,5 +1,5 @@
-//! Reads plans and triangles in the exchange text from standard input and writes an answer line
-//! for each.
+//! Reads plans, triangles and pairs of them in the exchange text from standard input and writes an
+//! answer line for each.
 //!
 //! oracle [--state] [--why] [--shown NAME]..
 //!
@@ -9,7 +9,7 @@
 use std::io::{self, BufWriter, Write};
 use std::process::ExitCode;
 
-use oracle::exchange::{answer_line, tri_answer_line, Extras, Item, Reader};
+use oracle::exchange::{answer_line, factors_answer_line, tri_answer_line, Extras, Item, Reader};
 use oracle::shown::{Correction, Options};
 use oracle::{gate, tri};
 
@@ -47,6 +47,7 @@ fn run() -> Result<(), String> {
         let line = match item? {
             Item::Plan(plan) => answer_line(&plan.id, &gate::solve(&plan, options), extras),
             Item::Tri(tri) => tri_answer_line(&tri.id, &tri::solve(&tri)),
+            Item::Factors(both) => factors_answer_line(&both.id, &tri::solve_dense(&both)),
         };
         writeln!(out, "{}", line).map_err(|err| err.to_string())?;
     }
