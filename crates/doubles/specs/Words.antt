@@ -1,11 +1,12 @@
--- Words that theorems about doubles use: the first largest of some, and a quotient beside a larger one. Assumes nothing.
+-- Words of theorems about doubles: the first largest of some, and a quotient beside a larger one. Assumes nothing.
 use mathlib.Core.Path.{_≡_}
 use mathlib.Core.Bool.{Bool, true, false}
 use Prim.Native.Nat.{ℕ, _<_}
 use lib.Ieee.{Float, lt, le}
 use Rattle.doubles.specs.Num.{_⊕_, _⊘_, finite}
 
--- 01: "strictly largest wins, first on a tie": of the indices below n that pass, k has the largest key, and none before it has one as large
+-- 01: "strictly largest wins, first on a tie": of the indices below n that pass, k has the largest key, and none
+-- before it has one as large
 pub record FirstLargest (test : ℕ → Bool) (key : ℕ → Float) (n k : ℕ) : Type 0 where
   pub inside : k < n
   pub passes : test k ≡ true

@@ -1,4 +1,5 @@
--- 01's table, 0 and 20 to 24: each is given exactly when its words hold of the state where the run ends, and there is one such state. Assumes nothing.
+-- 01's table, 0 and 20 to 24: each is given exactly when its words hold of the state where the run ends, and there is
+-- one such state. Assumes nothing.
 use mathlib.Core.Path.{_≡_, refl, sym, ap, _∙_, subst}
 use mathlib.Core.Bool.{Bool, true, false}
 use mathlib.Core.Logic.{_↔_, _⊎_, inl, inr, ⊎-elim}
@@ -133,25 +134,30 @@ module _ (P : Problem) (m : Memory) where
       go true q = rw (at-once q) (dual q)
       go false q = rw (q, endOf) (run-ends P q (P .plan .budget) (startState P (m .ws)) (omega arith))
 
-  end-only : (w : Stop) (t : State) → Reached P (startState P (m .ws)) t (P .plan .budget) → Ends P t w → endOf P m ≡ ended w t
+  end-only : (w : Stop) (t : State) → Reached P (startState P (m .ws)) t (P .plan .budget) → Ends P t w
+      → endOf P m ≡ ended w t
   unfolding endOf runOf startState
   end-only w t r h = go (dualFeasible (P .plan)) refl
     where
       go : (b : Bool) → dualFeasible (P .plan) ≡ b → endOf P m ≡ ended w t
       go true q =
           let x = dual-only q t w h in
-          let here : Steps P (startState P (m .ws)) 0 t = subst (λ (k : ℕ). Steps P (startState P (m .ws)) k t) (x .1) (r .by-steps) in
-          at-once q ∙ cc (x .0, steps-same P (startState P (m .ws)) none here)
+          let s = startState P (m .ws) in
+          let here : Steps P s 0 t = subst (λ (k : ℕ). Steps P s k t) (x .1) (r .by-steps) in
+          at-once q ∙ cc (x .0, steps-same P s none here)
       go false q =
-          let left : P .plan .budget ≡ t .steps + (P .plan .budget - t .steps) = omega (arith, r .within) in
-          rw (q, endOf) (goes-on P q (r .by-steps) (P .plan .budget) (P .plan .budget - t .steps) left ∙ ends-there P q (P .plan .budget - t .steps) t w (omega arith) h)
+          let left : ℕ = P .plan .budget - t .steps in
+          let sum : P .plan .budget ≡ t .steps + left = omega (arith, r .within) in
+          rw (q, endOf) (goes-on P q (r .by-steps) (P .plan .budget) left sum ∙ ends-there P q left t w (omega arith) h)
 
-  -- a run ends with w in t exactly when the rules' steps lead there within the budget and the words of that end hold there: no other state is so
-  pub end-exact : (w : Stop) (t : State) → (endOf P m ≡ ended w t) ↔ (Reached P (startState P (m .ws)) t (P .plan .budget) × Ends P t w)
-  end-exact w t = (
-    λ q. subst (λ (x : Ended). Reached P (startState P (m .ws)) (x .state) (P .plan .budget) × Ends P (x .state) (x .why)) q (end-reached P m, end-so),
-    λ h. end-only w t (h .0) (h .1),
-  )
+  abbrev EndsAs : Ended → Type 0
+  EndsAs e = Reached P (startState P (m .ws)) (e .state) (P .plan .budget) × Ends P (e .state) (e .why)
+
+  -- a run ends with w in t exactly when the rules' steps lead there within the budget and the words of that end hold
+  -- there: no other state is so
+  pub end-exact : (w : Stop) (t : State)
+      → (endOf P m ≡ ended w t) ↔ (Reached P (startState P (m .ws)) t (P .plan .budget) × Ends P t w)
+  end-exact w t = (λ q. subst EndsAs q (end-reached P m, end-so), λ h. end-only w t (h .0) (h .1))
 
 -- ---- the answers
 module _ (P : Problem) (s : State) where
@@ -169,7 +175,8 @@ module _ (P : Problem) (s : State) where
   line Stop·StoreFull h = store-full h
   line Stop·NotFinite h = not-finite h
 
-  checked-so : (c : Checked) → Checks P (valuesOf P (s .ws)) c → asRow (answerOf P (ended Finished s)) ≡ asRow (checkedAnswer s c)
+  checked-so : (c : Checked) → Checks P (valuesOf P (s .ws)) c
+      → asRow (answerOf P (ended Finished s)) ≡ asRow (checkedAnswer s c)
   unfolding answerOf
   checked-so c g = ap (λ x. asRow (checkedAnswer s x)) (final-check P (valuesOf P (s .ws)) c .1 g)
 
@@ -189,23 +196,23 @@ module _ (p : Plan) (m : Memory) where
   end-line = let e = endOf (problemOf p) m in line (problemOf p) (e .state) (e .why) (end-so (problemOf p) m)
 
   module _ (t : Told) (ran : (t .number ≡ 0) ⊎ (20 ≤ t .number)) where
-    abbrev Leads : Type 0
-    Leads = (s : State) × RunsTo p m s × Line (problemOf p) s t
-
-    exact : {r : Solved} → Case p m r → (asRow (r .answer) ≡ t) ↔ (NoneBelow 8 p m × Leads)
+    exact : {r : Solved} → Case p m r
+        → (asRow (r .answer) ≡ t) ↔ (NoneBelow 8 p m × ((s : State) × RunsTo p m s × Line (problemOf p) s t))
     unfolding close
     exact (refused k l h g n says) =
         (λ q. let e : t .number ≡ k = ap (λ (x : Told). x .number) (sym q) ∙ says .number in absurd (⊎-elim (λ z. omega arith) (λ z. omega arith) ran), λ s. absurd (s .0 k h g))
     exact (accepted n) = (
       λ q. (n, (reached p m, end-reached (problemOf p) m, subst (Line (problemOf p) (reached p m)) q end-line)),
       λ s.
-          let x = line-only (problemOf p) (s .1 .0) (s .1 .2) in
-          ap (λ (e : Ended). asRow (answerOf (problemOf p) e)) (end-only (problemOf p) m (x .0) (s .1 .0) (s .1 .1) (x .1)) ∙ x .2,
+          let P = problemOf p in
+          let x = line-only P (s .1 .0) (s .1 .2) in
+          ap (λ (e : Ended). asRow (answerOf P e)) (end-only P m (x .0) (s .1 .0) (s .1 .1) (x .1)) ∙ x .2,
     )
 
-    -- 01's table, 0 and 20 to 24: an answer with its number, objective, steps and place is given exactly when no refusal is called for and the rules' steps lead
-    -- within the budget to a state that its line holds of
-    pub answer-exact : (asRow (solvePlan p m .answer) ≡ t) ↔ (NoneBelow 8 p m × ((s : State) × RunsTo p m s × Line (problemOf p) s t))
+    -- 01's table, 0 and 20 to 24: an answer with its number, objective, steps and place is given exactly when no
+    -- refusal is called for and the rules' steps lead within the budget to a state that its line holds of
+    pub answer-exact : (asRow (solvePlan p m .answer) ≡ t)
+        ↔ (NoneBelow 8 p m × ((s : State) × RunsTo p m s × Line (problemOf p) s t))
     answer-exact = exact (cases p m)
 
 -- ---- what the lent memory holds afterwards

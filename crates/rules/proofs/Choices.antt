@@ -97,7 +97,8 @@ module _ (P : Problem) (w : Workspace) (e : Entering) (c : Sv) where
           λ q. absurd (not-both (all-by (soundAt P w (rises e) c) (c .pat .count) (λ k l. not-false _ (f .before k (omega arith) (omega arith)))) h) in
           ⊎-elim none (λ l. row-unsound (first (c .pat .count) bad) l (not-true _ (f .found l))) (eq-or-lt-of-le (f .upto))
 
-      go : (x : Bool) → infinite (otherVal P w (e .col)) ≡ x → (y : Bool) → finite (e .distance) ≡ y → (x || y) && soundRatios P w (rises e) c ≡ false → RatioUnsound P w e c
+      go : (x : Bool) → infinite (otherVal P w (e .col)) ≡ x → (y : Bool) → finite (e .distance) ≡ y
+          → (x || y) && soundRatios P w (rises e) c ≡ false → RatioUnsound P w e c
       go true a y b h = row h
       go false a true b h = row h
       go false a false b h = bad-distance a b
@@ -131,10 +132,14 @@ module _ (P : Problem) (w : Workspace) (e : Entering) (c : Sv) where
   some-outcome = go tested refl
     where
       none : ltb place (c .pat .count) ≡ false → NoCandidate P w (rises e) c (maxStep P w e c)
-      none h = stays-exactly P w (rises e) c (maxStep P w e c) .0 (omega (arith, within-list P w (rises e) c (maxStep P w e c), ltb-false place (c .pat .count) h))
+      none h =
+          stays-exactly P w (rises e) c (maxStep P w e c) .0
+          (omega (arith, within-list P w (rises e) c (maxStep P w e c), ltb-false place (c .pat .count) h))
 
-      found : RatioSound P w e c → (b : Bool) → ltb place (c .pat .count) ≡ b → (i : Bool) → infinite (otherVal P w (e .col)) ≡ i → (r : Ratio) × RatioGives P w e c r
-      found s true h i q = (_, exchanges s place (leaves-exactly P w (rises e) c (maxStep P w e c) place (ltb-true _ _ h) .0 refl))
+      found : RatioSound P w e c → (b : Bool) → ltb place (c .pat .count) ≡ b
+          → (i : Bool) → infinite (otherVal P w (e .col)) ≡ i → (r : Ratio) × RatioGives P w e c r
+      found s true h i q =
+          (_, exchanges s place (leaves-exactly P w (rises e) c (maxStep P w e c) place (ltb-true _ _ h) .0 refl))
       found s false h true q = (_, unbounded (s, none h, q))
       found s false h false q = (_, flips s (none h) q)
 
@@ -162,17 +167,21 @@ module _ (P : Problem) (w : Workspace) (e : Entering) (c : Sv) where
 
   -- The same with nothing of the passes in it, for a column that was chosen and has a finite value: no listed row of EPS or more in size has a finite bound ahead.
   pub unbounded-means : IsEntering P w e → finite (w .nbVarVals ! e .col) ≡ true
-      → ratio P w e c ≡ Unbounded ↔ ((infinite (otherVal P w (e .col)) ≡ true) × ((k : ℕ) → k < c .pat .count → Examined P w (rises e) c k → ⊥))
+      → ratio P w e c ≡ Unbounded
+      ↔ ((infinite (otherVal P w (e .col)) ≡ true) × ((k : ℕ) → k < c .pat .count → Examined P w (rises e) c k → ⊥))
   unbounded-means a v = (λ q. clear (unbounded-exactly .0 q), λ x. unbounded-exactly .1 (way x))
     where
-      clear : NoBound P w e c → (infinite (otherVal P w (e .col)) ≡ true) × ((k : ℕ) → k < c .pat .count → Examined P w (rises e) c k → ⊥)
+      clear : NoBound P w e c
+          → (infinite (otherVal P w (e .col)) ≡ true) × ((k : ℕ) → k < c .pat .count → Examined P w (rises e) c k → ⊥)
       clear x =
-          let far : maxStep P w e c ≡ +inf = none-keeps P w (rises e) c (e .distance) (x .0 .quotients) (x .1) ∙ a .distance-is ∙ infinite-distance _ _ (x .2) v in (
+          let kept = none-keeps P w (rises e) c (e .distance) (x .0 .quotients) (x .1) in
+          let far : maxStep P w e c ≡ +inf = kept ∙ a .distance-is ∙ infinite-distance _ _ (x .2) v in (
             x .2,
             λ k l y. not-both (finite-below _ (x .0 .quotients k l y)) (subst (λ t. lt (quotientOne P w (rises e) c k) t ≡ false) far (pass-one-means P w (rises e) c (e .distance) .smallest k l y)),
           )
 
-      way : (infinite (otherVal P w (e .col)) ≡ true) × ((k : ℕ) → k < c .pat .count → Examined P w (rises e) c k → ⊥) → NoBound P w e c
+      way : (infinite (otherVal P w (e .col)) ≡ true) × ((k : ℕ) → k < c .pat .count → Examined P w (rises e) c k → ⊥)
+          → NoBound P w e c
       way x = (
         record { distances = λ q. absurd (not-both (x .0) q); limits = λ k l y. absurd (x .1 k l y); quotients = λ k l y. absurd (x .1 k l y); steps = λ k l y. absurd (x .1 k l y) },
         λ k l y. x .1 k l (y .looked-at),

@@ -67,8 +67,14 @@ module _ (P : Problem) (s : State) (e : Entering) where
     where
       go : (x : PivotInfo) → Moves P s e x t → Flips t ⊎ Exchanges t
       go (Flip value diff) x =
-          inl (record { value = value; diff = diff; passes = true-by (λ f. x .numbers (flip-broken P s e c value diff .0 f)); after = x .after })
+          inl (record {
+            value = value;
+            diff = diff;
+            passes = true-by (λ f. x .numbers (flip-broken P s e c value diff .0 f));
+            after = x .after;
+          })
       go (Exchange value diff row coeff leaving) x =
+          let finite-all = true-by (λ f. x .numbers (exchange-broken P s e c value diff row coeff leaving .0 f)) in
           inr (record {
             value = value;
             diff = diff;
@@ -77,6 +83,6 @@ module _ (P : Problem) (s : State) (e : Entering) where
             leaving = leaving;
             leaves = row-listed P (s .ws) e c value diff row coeff leaving (x .chosen);
             fits = true-by (λ f. x .room (room s (c .pat .count) .0 f));
-            passes = both-true (listedFinite (rowCoeffsOf P s row) && listedFinite (helperOf P s c)) _ (true-by (λ f. x .numbers (exchange-broken P s e c value diff row coeff leaving .0 f))) .1;
+            passes = both-true (listedFinite (rowCoeffsOf P s row) && listedFinite (helperOf P s c)) _ finite-all .1;
             after = x .after;
           })

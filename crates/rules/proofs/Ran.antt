@@ -60,7 +60,8 @@ module _ (p : Plan) (m : Memory) where
   solved-closes = closes (cases p m)
 
   -- 01: "Answers 0 and 20 to 24 carry the objective and step count of that state"; "the workspace then holds the state after the last whole step"
-  pub solved-ran : (numberOf (solvePlan p m .answer) ≡ 0) ⊎ (20 ≤ numberOf (solvePlan p m .answer)) → Ran p m (solvePlan p m) (reached p m)
+  pub solved-ran : (numberOf (solvePlan p m .answer) ≡ 0) ⊎ (20 ≤ numberOf (solvePlan p m .answer))
+      → Ran p m (solvePlan p m) (reached p m)
   unfolding close memoryAfter
   solved-ran h =
       let P : Problem = problemOf p in

@@ -112,13 +112,15 @@ module _ (P : Problem) (s₀ : State) (budget : ℕ) where
   until-reaches (suc k) s r h = go (λ t u l. until-reaches k t u l) (choose P (s .ws)) refl
     where
       turn : ((t : State) → Steps P s₀ (t .steps) t → t .steps + k ≤ budget → StepsTo P s₀ budget (runs k t))
-          → (e : Entering) → choose P (s .ws) ≡ Enters e → (o : Outcome) → step P s e ≡ o → StepsTo P s₀ budget (runs (suc k) s)
+          → (e : Entering) → choose P (s .ws) ≡ Enters e → (o : Outcome) → step P s e ≡ o
+          → StepsTo P s₀ budget (runs (suc k) s)
       turn rest e c (moved i t) q =
           let n = step-counts P s e i t q in
           rw (c, q, until, next) (rest t (subst (λ (j : ℕ). Steps P s₀ j t) (sym n) (one-more e i r c q)) (omega arith))
       turn rest e c (stopped w) q = rw (c, q, until, next) (here r (omega arith))
 
-      go : ((t : State) → Steps P s₀ (t .steps) t → t .steps + k ≤ budget → StepsTo P s₀ budget (runs k t)) → (c : Choice) → choose P (s .ws) ≡ c → StepsTo P s₀ budget (runs (suc k) s)
+      go : ((t : State) → Steps P s₀ (t .steps) t → t .steps + k ≤ budget → StepsTo P s₀ budget (runs k t))
+          → (c : Choice) → choose P (s .ws) ≡ c → StepsTo P s₀ budget (runs (suc k) s)
       go rest Nothing c = rw (c, until, next) (here r (omega arith))
       go rest (Enters e) c = turn rest e c (step P s e) refl
 

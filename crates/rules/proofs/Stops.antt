@@ -1,4 +1,5 @@
--- 01, "One step": when a step isn't taken: Unbounded, no eta room, or a number that isn't finite, each exactly when its condition holds; and when it is. Assumes nothing.
+-- 01, "One step": when a step isn't taken: Unbounded, no eta room, or a number that isn't finite, each exactly when its
+-- condition holds; and when it is. Assumes nothing.
 use mathlib.Core.Path.{_≡_, refl, sym, ap, subst}
 use mathlib.Core.Bool.{Bool, true, false, _&&_, and-assoc}
 use mathlib.Core.Logic.{_↔_, _⊎_, inl, inr, ⊎-elim, Iff·rfl, Iff·trans}
@@ -13,7 +14,7 @@ use Rattle.rules.specs.Ratio.{ratio}
 use Rattle.rules.specs.Pivot.{storesFinite, flipFinite, etaFinite, exchangeFinite}
 use Rattle.rules.specs.Step.{Outcome, moved, stopped, unless, exchange, flip, pivot, step}
 use Rattle.rules.specs.Choices.{RatioGives}
-use Rattle.rules.specs.Conditions.{EntryBroken, StoreBroken, NoRoom, FlipBroken, ExchangeBroken, StoreFull, StepBroken, stateAfter, StopsWith, stepColumn, Stops, Moves}
+use Rattle.rules.specs.Conditions.{EntryBroken, StoreBroken, NoRoom, FlipBroken, ExchangeBroken, StoreFull, StepBroken, stateAfter, Chosen, StopsWith, stepColumn, Stops, Moves}
 use Rattle.rules.proofs.Choices.{ratio-exactly}
 use Rattle.rules.specs.declared.Entering.{Entering}
 use Rattle.rules.specs.declared.PivotInfo.{PivotInfo}
@@ -90,7 +91,9 @@ module _ (P : Problem) (s : State) (e : Entering) (c : Sv) where
   allFinite : PivotInfo → Bool
   allFinite (Flip value diff) = flipFinite P s e c value diff
   allFinite (Exchange value diff row coeff leaving) =
-      listedFinite (rowCoeffsOf P s row) && listedFinite (helperOf P s c) && exchangeFinite P s e c (rowCoeffsOf P s row) (helperOf P s c) value diff row coeff leaving
+      listedFinite (rowCoeffsOf P s row)
+      && listedFinite (helperOf P s c)
+      && exchangeFinite P s e c (rowCoeffsOf P s row) (helperOf P s c) value diff row coeff leaving
 
   no-room : (i : PivotInfo) → (hasRoom i ≡ false) ↔ StoreFull P s e c i
   unfolding hasRoom StoreFull
@@ -103,7 +106,9 @@ module _ (P : Problem) (s : State) (e : Entering) (c : Sv) where
   one-broken (Exchange value diff row coeff leaving) = exchange-broken value diff row coeff leaving
 
   -- "eta room; row solve; all new numbers; store"
-  in-order : (i : PivotInfo) → pivot P s e c i ≡ unless (hasRoom i) Stop·StoreFull (unless (allFinite i) Stop·NotFinite (moved i (stateAfter P s e c i)))
+  in-order : (i : PivotInfo)
+      → pivot P s e c i
+      ≡ unless (hasRoom i) Stop·StoreFull (unless (allFinite i) Stop·NotFinite (moved i (stateAfter P s e c i)))
   unfolding pivot flip exchange hasRoom allFinite stateAfter
   in-order (Flip value diff) = refl
   in-order (Exchange value diff row coeff leaving) = refl
@@ -111,30 +116,46 @@ module _ (P : Problem) (s : State) (e : Entering) (c : Sv) where
   pivot-full : (i : PivotInfo) → (pivot P s e c i ≡ stopped Stop·StoreFull) ↔ StoreFull P s e c i
   pivot-full i = rw (in-order i) (only (no-room i) (nor (one-broken i) (λ q. clash (cc)) taken))
 
-  pivot-broken : (i : PivotInfo) → (pivot P s e c i ≡ stopped Stop·NotFinite) ↔ ((¬ StoreFull P s e c i) × StepBroken P s e c i)
+  pivot-broken : (i : PivotInfo)
+      → (pivot P s e c i ≡ stopped Stop·NotFinite) ↔ ((¬ StoreFull P s e c i) × StepBroken P s e c i)
   pivot-broken i = rw (in-order i) (past (no-room i) (λ q. clash (cc)) (only (one-broken i) taken))
 
-  pivot-other : {w : Stop} (i : PivotInfo) → ¬ (stopped Stop·NotFinite ≡ stopped w) → ¬ (stopped Stop·StoreFull ≡ stopped w) → ¬ (pivot P s e c i ≡ stopped w)
+  pivot-other : {w : Stop} (i : PivotInfo) → ¬ (stopped Stop·NotFinite ≡ stopped w)
+      → ¬ (stopped Stop·StoreFull ≡ stopped w) → ¬ (pivot P s e c i ≡ stopped w)
   pivot-other i n f = rw (in-order i) (nor (no-room i) f (nor (one-broken i) n taken))
 
-  pivot-moves : {j : PivotInfo} {t : State} (i : PivotInfo) → (pivot P s e c i ≡ moved j t) ↔ ((¬ StoreFull P s e c i) × ((¬ StepBroken P s e c i) × (moved i (stateAfter P s e c i) ≡ moved j t)))
-  pivot-moves i = rw (in-order i) (past (no-room i) (λ q. clash (cc)) (past (one-broken i) (λ q. clash (cc)) Iff·rfl))
+  -- i is taken, and told as j and t
+  abbrev Taken : PivotInfo → State → PivotInfo → Type 0
+  Taken j t i = (¬ StoreFull P s e c i) × ((¬ StepBroken P s e c i) × (moved i (stateAfter P s e c i) ≡ moved j t))
+
+  pivot-moves : (j : PivotInfo) (t : State) (i : PivotInfo) → (pivot P s e c i ≡ moved j t) ↔ Taken j t i
+  pivot-moves j t i = rw (in-order i) (past (no-room i) (λ q. clash (cc)) (past (one-broken i) (λ q. clash (cc)) Iff·rfl))
 
 -- ---- after the ratio, said in the words G of what it gives
 abbrev after : (PivotInfo → Outcome) → Ratio → Outcome
 after f r = elim r [ Ratio·NotFinite ↦ stopped Stop·NotFinite | Ratio·Unbounded ↦ stopped Stop·Unbounded | Pivot i ↦ f i ]
 
 module _ {G : Ratio → Type 0} {r : Ratio} (gives : (x : Ratio) → (r ≡ x) ↔ G x) (f : PivotInfo → Outcome) where
-  after-broken : {X : PivotInfo → Type 0} → ((i : PivotInfo) → (f i ≡ stopped Stop·NotFinite) ↔ X i) → (after f r ≡ stopped Stop·NotFinite) ↔ (G Ratio·NotFinite ⊎ ((i : PivotInfo) × G (Pivot i) × X i))
+  -- the chosen step, of which X holds
+  abbrev ChosenBy : (PivotInfo → Type 0) → Type 0
+  ChosenBy X = (i : PivotInfo) × G (Pivot i) × X i
+
+  after-broken : {X : PivotInfo → Type 0} → ((i : PivotInfo) → (f i ≡ stopped Stop·NotFinite) ↔ X i)
+      → (after f r ≡ stopped Stop·NotFinite) ↔ (G Ratio·NotFinite ⊎ ChosenBy X)
   after-broken {X} e = go r refl
     where
-      go : (x : Ratio) → r ≡ x → (after f x ≡ stopped Stop·NotFinite) ↔ (G Ratio·NotFinite ⊎ ((i : PivotInfo) × G (Pivot i) × X i))
+      go : (x : Ratio) → r ≡ x → (after f x ≡ stopped Stop·NotFinite) ↔ (G Ratio·NotFinite ⊎ ChosenBy X)
       go Ratio·NotFinite q = (λ _. inl (gives _ .0 q), λ _. refl)
-      go Ratio·Unbounded q = (λ h. clash (cc), ⊎-elim (λ h. clash (cc (gives _ .1 h))) (λ h. clash (cc (gives _ .1 (h .1)))))
-      go (Pivot i) q =
-          (λ h. inr (i, gives _ .0 q, e i .0 h), ⊎-elim (λ h. clash (cc (gives _ .1 h))) (λ h. let z : h .0 ≡ i = cc (gives _ .1 (h .1)) in e i .1 (subst X z (h .2))))
+      go Ratio·Unbounded q =
+          (λ h. clash (cc), ⊎-elim (λ h. clash (cc (gives _ .1 h))) (λ h. clash (cc (gives _ .1 (h .1)))))
+      go (Pivot i) q = (
+        λ h. inr (i, gives _ .0 q, e i .0 h),
+        ⊎-elim (λ h. clash (cc (gives _ .1 h)))
+            (λ h. let z : h .0 ≡ i = cc (gives _ .1 (h .1)) in e i .1 (subst X z (h .2))),
+      )
 
-  after-unbounded : ((i : PivotInfo) → ¬ (f i ≡ stopped Stop·Unbounded)) → (after f r ≡ stopped Stop·Unbounded) ↔ G Ratio·Unbounded
+  after-unbounded : ((i : PivotInfo) → ¬ (f i ≡ stopped Stop·Unbounded))
+      → (after f r ≡ stopped Stop·Unbounded) ↔ G Ratio·Unbounded
   after-unbounded n = go r refl
     where
       go : (x : Ratio) → r ≡ x → (after f x ≡ stopped Stop·Unbounded) ↔ G Ratio·Unbounded
@@ -143,13 +164,17 @@ module _ {G : Ratio → Type 0} {r : Ratio} (gives : (x : Ratio) → (r ≡ x) �
       go (Pivot i) q = (λ h. absurd (n i h), λ h. clash (cc (gives _ .1 h)))
 
   -- any other outcome is the chosen step's
-  after-chosen : {X : PivotInfo → Type 0} {y : Outcome} → ¬ (stopped Stop·NotFinite ≡ y) → ¬ (stopped Stop·Unbounded ≡ y) → ((i : PivotInfo) → (f i ≡ y) ↔ X i) → (after f r ≡ y) ↔ ((i : PivotInfo) × G (Pivot i) × X i)
+  after-chosen : {X : PivotInfo → Type 0} {y : Outcome} → ¬ (stopped Stop·NotFinite ≡ y)
+      → ¬ (stopped Stop·Unbounded ≡ y) → ((i : PivotInfo) → (f i ≡ y) ↔ X i) → (after f r ≡ y) ↔ ChosenBy X
   after-chosen {X} {y} b u e = go r refl
     where
-      go : (x : Ratio) → r ≡ x → (after f x ≡ y) ↔ ((i : PivotInfo) × G (Pivot i) × X i)
+      go : (x : Ratio) → r ≡ x → (after f x ≡ y) ↔ ChosenBy X
       go Ratio·NotFinite q = (λ h. absurd (b h), λ h. clash (cc (gives _ .1 (h .1))))
       go Ratio·Unbounded q = (λ h. absurd (u h), λ h. clash (cc (gives _ .1 (h .1))))
-      go (Pivot i) q = (λ h. (i, gives _ .0 q, e i .0 h), λ h. let z : h .0 ≡ i = cc (gives _ .1 (h .1)) in e i .1 (subst X z (h .2)))
+      go (Pivot i) q = (
+        λ h. (i, gives _ .0 q, e i .0 h),
+        λ h. let z : h .0 ≡ i = cc (gives _ .1 (h .1)) in e i .1 (subst X z (h .2)),
+      )
 
 module _ (P : Problem) (s : State) (e : Entering) where
   abbrev c : Sv
@@ -158,10 +183,16 @@ module _ (P : Problem) (s : State) (e : Entering) where
   ratio-gives : (x : Ratio) → (ratio P (s .ws) e c ≡ x) ↔ RatioGives P (s .ws) e c x
   ratio-gives = ratio-exactly P (s .ws) e c
 
-  never-ends : (w : Stop) → ¬ (stopped Stop·NotFinite ≡ stopped w) → ¬ (stopped Stop·Unbounded ≡ stopped w) → ¬ (stopped Stop·StoreFull ≡ stopped w) → ¬ (step P s e ≡ stopped w)
+  -- any outcome but the column's own 23 and Unbounded
+  step-chosen : {X : PivotInfo → Type 0} {y : Outcome} → ¬ (stopped Stop·NotFinite ≡ y)
+      → ¬ (stopped Stop·Unbounded ≡ y) → ((i : PivotInfo) → (pivot P s e c i ≡ y) ↔ X i)
+      → (step P s e ≡ y) ↔ ((¬ EntryBroken c) × Chosen P s e c X)
   unfolding step
-  never-ends w b n f =
-      nor (entries c) b (λ q. after-chosen ratio-gives (pivot P s e c) {X = λ _. ⊥} b n (λ i. (pivot-other P s e c i b f, λ h. absurd h)) .0 q .2)
+  step-chosen b u x = past (entries c) b (after-chosen ratio-gives (pivot P s e c) b u x)
+
+  never-ends : (w : Stop) → ¬ (stopped Stop·NotFinite ≡ stopped w) → ¬ (stopped Stop·Unbounded ≡ stopped w)
+      → ¬ (stopped Stop·StoreFull ≡ stopped w) → ¬ (step P s e ≡ stopped w)
+  never-ends w b n f q = step-chosen {X = λ _. ⊥} b n (λ i. (pivot-other P s e c i b f, λ h. absurd h)) .0 q .1 .2
 
   -- 01, "One step": 20, 22 and 23 are given exactly when the order of a step comes to them
   pub step-stops : (w : Stop) → (step P s e ≡ stopped w) ↔ Stops P s e w
@@ -171,20 +202,20 @@ module _ (P : Problem) (s : State) (e : Entering) where
   step-stops Stop·Unbounded =
       past (entries c) (λ q. clash (cc))
       (after-unbounded ratio-gives (pivot P s e c) (λ i. pivot-other P s e c i (λ q. clash (cc)) (λ q. clash (cc))))
-  step-stops Stop·StoreFull = past (entries c) (λ q. clash (cc)) (after-chosen ratio-gives (pivot P s e c) (λ q. clash (cc)) (λ q. clash (cc)) (pivot-full P s e c))
+  step-stops Stop·StoreFull = step-chosen (λ q. clash (cc)) (λ q. clash (cc)) (pivot-full P s e c)
   step-stops Stop·NotFinite = also (entries c) (after-broken ratio-gives (pivot P s e c) (pivot-broken P s e c))
 
   -- and a step is taken exactly when nothing stops it: the one that the ratio gives, to the state that it stores
   pub moves-exactly : (i : PivotInfo) (t : State) → (step P s e ≡ moved i t) ↔ Moves P s e i t
-  unfolding step
-  moves-exactly i t =
-      Iff·trans
-      (past (entries c) (λ q. clash (cc)) (after-chosen ratio-gives (pivot P s e c) (λ q. clash (cc)) (λ q. clash (cc)) (pivot-moves P s e c)))
-      (λ h. by (h .0) (h .1 .0) (h .1 .1) (h .1 .2), λ x. (x .column, (i, x .chosen, (x .room, (x .numbers, ap (moved i) (sym (x .after)))))))
+  moves-exactly i t = Iff·trans (step-chosen (λ q. clash (cc)) (λ q. clash (cc)) (pivot-moves P s e c i t)) (to, from)
     where
-      by : ¬ EntryBroken c → (j : PivotInfo) → RatioGives P (s .ws) e c (Pivot j)
-          → (¬ StoreFull P s e c j) × ((¬ StepBroken P s e c j) × (moved j (stateAfter P s e c j) ≡ moved i t)) → Moves P s e i t
-      by a j g h =
-          let same : j ≡ i = cc (h .1 .1) in
-          let to : stateAfter P s e c j ≡ t = cc (h .1 .1) in
-          subst (λ (k : PivotInfo). Moves P s e k t) same (record { column = a; chosen = g; room = h .0; numbers = h .1 .0; after = sym to })
+      to : (¬ EntryBroken c) × Chosen P s e c (Taken P s e c i t) → Moves P s e i t
+      to h =
+          let x = h .1 .2 in
+          let same : h .1 .0 ≡ i = cc (x .1 .1) in
+          let there : stateAfter P s e c (h .1 .0) ≡ t = cc (x .1 .1) in
+          subst (λ (k : PivotInfo). Moves P s e k t) same
+          (record { column = h .0; chosen = h .1 .1; room = x .0; numbers = x .1 .0; after = sym there })
+
+      from : Moves P s e i t → (¬ EntryBroken c) × Chosen P s e c (Taken P s e c i t)
+      from x = (x .column, (i, x .chosen, (x .room, (x .numbers, ap (moved i) (sym (x .after))))))

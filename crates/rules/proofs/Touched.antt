@@ -205,7 +205,8 @@ module _ (P : Problem) (f : ProblemFits P) (s : State) (g : Fits P s) (c : Sv) (
       })
 
   -- every place of the row list is a touched place of the helper
-  pub row-in-helper : (k : ℕ) → k < rowCoeffsOf P s (listed c place) .pat .count → Touched (helperOf P s c) (listed (rowCoeffsOf P s (listed c place)) k)
+  pub row-in-helper : (k : ℕ) → k < rowCoeffsOf P s (listed c place) .pat .count
+      → Touched (helperOf P s c) (listed (rowCoeffsOf P s (listed c place)) k)
   unfolding rowCoeffsOf helperOf
   row-in-helper k l =
       let vs = s .ws .varStates in

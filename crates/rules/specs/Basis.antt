@@ -56,7 +56,8 @@ solveTransp h n s = factorSolveTransp (solveEtasTransp h n s)
 unfoldable pub colCoeffs : Problem → State → ℕ → Sv
 colCoeffs P s v = solve (s .ws .etas) (s .etaCount) (each (column P v) (λ e t. putAt t (e .at) (e .val)) blank)
 
--- ---- calc_row_coeffs: rows combined at the non-basic places, with the maps before the exchange, in a row's stored order with the slack's 1.0 last
+-- ---- calc_row_coeffs: rows combined at the non-basic places, with the maps before the exchange, in a row's stored
+-- order with the slack's 1.0 last
 unfoldable pub addEntry : ℕ → List ℕ → ℕ → Float → Sv → Sv
 addEntry n varStates v x s = elim (varStateOf n (varStates # v)) [ NonBasic c ↦ addAt s c x | Basic r ↦ s ]
 

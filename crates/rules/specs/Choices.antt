@@ -1,5 +1,5 @@
--- 01, "One step": what the choices of the entering column and of the step say, apart from the loops that make them. proofs/ shows that each is made exactly then.
--- Assumes nothing.
+-- 01, "One step": what the choices of the entering column and of the step say, apart from the loops that make them.
+-- proofs/ shows that each is made exactly then. Assumes nothing.
 use mathlib.Core.Path.{_≡_}
 use mathlib.Core.Bool.{Bool, true, false}
 use mathlib.Core.Logic.{_⊎_}
@@ -20,13 +20,15 @@ use Rattle.rules.specs.declared.Ratio.the-variants.{Pivot, Unbounded, No
 
 -- ---- the entering column
 
--- "Filter as shown": at its lower bound a column enters only with a price of at most -EPS, at its upper bound only with one of at least EPS
+-- "Filter as shown": at its lower bound a column enters only with a price of at most -EPS, at its upper bound only with
+-- one of at least EPS
 pub record MayEnter (f : NonBasicVarState) (price : Float) : Type 0 where
   pub lower : f .«at_min» ≡ true → le price (neg eps) ≡ true
   pub upper : f .«at_max» ≡ true → le eps price ≡ true
 
--- "The entering column travels with its price, score and distance"; "score is price * price / norm; strictly largest wins, first on a tie":
--- it passes the filter, no column that passes has a larger score, and none before it an equal one
+-- "The entering column travels with its price, score and distance"; "score is price * price / norm; strictly largest
+-- wins, first on a tie": it passes the filter, no column that passes has a larger score, and none before it an equal
+-- one
 pub record IsEntering (P : Problem) (w : Workspace) (e : Entering) : Type 0 where
   pub wins : FirstLargest (passesFilter w) (scoreAt w) (nOf P) (e .col)
   pub scores : lt -inf (scoreAt w (e .col)) ≡ true
@@ -62,7 +64,8 @@ pub record Examined (P : Problem) (w : Workspace) (up : Bool) (c : Sv) (k : ℕ)
   pub not-small : lt (sizeAt c k) eps ≡ false
   pub bounded : infinite (aheadAt P w up c k) ≡ false
 
--- "Pass one uses (limit + EPS) / size against the distance, strictly smaller": t is the smallest of the distance and the examined rows' quotients
+-- "Pass one uses (limit + EPS) / size against the distance, strictly smaller": t is the smallest of the distance and
+-- the examined rows' quotients
 pub record PassOne (P : Problem) (w : Workspace) (up : Bool) (c : Sv) (distance t : Float) : Type 0 where
   pub within : lt distance t ≡ false
   pub smallest : (k : ℕ) → k < c .pat .count → Examined P w up c k → lt (quotientOne P w up c k) t ≡ false
@@ -76,7 +79,8 @@ pub record Candidate (P : Problem) (w : Workspace) (up : Bool) (c : Sv) (maxStep
 abbrev pub NoCandidate : Problem → Workspace → Bool → Sv → Float → Type 0
 NoCandidate P w up c maxStep = (k : ℕ) → k < c .pat .count → ¬ Candidate P w up c maxStep k
 
--- "strictly largest size": the k-th listed row is a candidate, no candidate is larger in size, and none listed before it is as large
+-- "strictly largest size": the k-th listed row is a candidate, no candidate is larger in size, and none listed before
+-- it is as large
 abbrev pub Leaves : Problem → Workspace → Bool → Sv → Float → ℕ → Type 0
 Leaves P w up c maxStep k = FirstLargest (candidate P w up c maxStep) (sizeAt c) (c .pat .count) k
 
@@ -89,28 +93,39 @@ pub record Listed (c : Sv) (row : ℕ) : Type 0 where
 
 -- ---- what the ratio gives
 module _ (P : Problem) (w : Workspace) (e : Entering) (c : Sv) where
-  -- "A finite bound whose limit or quotient isn't finite gives 23, as does a finite other bound whose distance isn't finite, both in the ratio"
+  -- "A finite bound whose limit or quotient isn't finite gives 23, as does a finite other bound whose distance isn't
+  -- finite, both in the ratio"
   pub data RatioUnsound : Type 0 where
     bad-distance : infinite (otherVal P w (e .col)) ≡ false → finite (e .distance) ≡ false → RatioUnsound
-    bad-limit : (k : ℕ) → k < c .pat .count → Examined P w (rises e) c k → finite (limitAt P w (rises e) c k) ≡ false → RatioUnsound
-    bad-quotient : (k : ℕ) → k < c .pat .count → Examined P w (rises e) c k → finite (quotientOne P w (rises e) c k) ≡ false → RatioUnsound
-    bad-step : (k : ℕ) → k < c .pat .count → Examined P w (rises e) c k → finite (quotientTwo P w (rises e) c k) ≡ false → RatioUnsound
+    bad-limit : (k : ℕ) → k < c .pat .count → Examined P w (rises e) c k
+        → finite (limitAt P w (rises e) c k) ≡ false → RatioUnsound
+    bad-quotient : (k : ℕ) → k < c .pat .count → Examined P w (rises e) c k
+        → finite (quotientOne P w (rises e) c k) ≡ false → RatioUnsound
+    bad-step : (k : ℕ) → k < c .pat .count → Examined P w (rises e) c k
+        → finite (quotientTwo P w (rises e) c k) ≡ false → RatioUnsound
 
   pub record RatioSound : Type 0 where
     pub distances : infinite (otherVal P w (e .col)) ≡ false → finite (e .distance) ≡ true
-    pub limits : (k : ℕ) → k < c .pat .count → Examined P w (rises e) c k → finite (limitAt P w (rises e) c k) ≡ true
-    pub quotients : (k : ℕ) → k < c .pat .count → Examined P w (rises e) c k → finite (quotientOne P w (rises e) c k) ≡ true
-    pub steps : (k : ℕ) → k < c .pat .count → Examined P w (rises e) c k → finite (quotientTwo P w (rises e) c k) ≡ true
+    pub limits : (k : ℕ) → k < c .pat .count → Examined P w (rises e) c k
+        → finite (limitAt P w (rises e) c k) ≡ true
+    pub quotients : (k : ℕ) → k < c .pat .count → Examined P w (rises e) c k
+        → finite (quotientOne P w (rises e) c k) ≡ true
+    pub steps : (k : ℕ) → k < c .pat .count → Examined P w (rises e) c k
+        → finite (quotientTwo P w (rises e) c k) ≡ true
 
   -- pass one's step
   abbrev pub maxStep : Float
   maxStep = passOne P w (rises e) c (e .distance)
 
-  -- the entering column's difference where the k-th listed row leaves: that row's variable moves to the bound ahead
+  -- where the k-th listed row leaves, its variable moves to the bound ahead: the entering column's difference and value
   abbrev pub diffBy : ℕ → Float
   diffBy k = (w .basicVarVals ! listed c k ⊖ aheadAt P w (rises e) c k) ⊘ listedVal c k
 
-  -- "Unbounded is given exactly when no row is a candidate and the entering column's other bound is infinite"; no 23 came first
+  abbrev pub valueBy : ℕ → Float
+  valueBy k = w .nbVarVals ! e .col ⊕ diffBy k
+
+  -- "Unbounded is given exactly when no row is a candidate and the entering column's other bound is infinite"; no 23
+  -- came first
   abbrev pub NoBound : Type 0
   NoBound = RatioSound × NoCandidate P w (rises e) c maxStep × (infinite (otherVal P w (e .col)) ≡ true)
 
@@ -121,4 +136,4 @@ module _ (P : Problem) (w : Workspace) (e : Entering) (c : Sv) where
     flips : RatioSound → NoCandidate P w (rises e) c maxStep → infinite (otherVal P w (e .col)) ≡ false
         → RatioGives (Pivot (Flip (otherVal P w (e .col)) (otherVal P w (e .col) ⊖ w .nbVarVals ! e .col)))
     exchanges : RatioSound → (k : ℕ) → Leaves P w (rises e) c maxStep k
-        → RatioGives (Pivot (Exchange (w .nbVarVals ! e .col ⊕ diffBy k) (diffBy k) (listed c k) (listedVal c k) (aheadAt P w (rises e) c k)))
+        → RatioGives (Pivot (Exchange (valueBy k) (diffBy k) (listed c k) (listedVal c k) (aheadAt P w (rises e) c k)))

@@ -159,7 +159,8 @@ NoneBelow k p m = (j : ℕ) → j < k → ¬ Gives j p m
 abbrev pub FirstBad : Plan → ℕ → ℕ → Type 0
 FirstBad p i k = FirstWith (p .rows) (BadRow p) i × FirstWith (length (rowCols p i)) (Bad p i) k
 
--- the place that refusal k names: "the first bad entry, row by row, is the one named, by row and place", "the first such column", "the first such row", and none for the others
+-- the place that refusal k names: "the first bad entry, row by row, is the one named, by row and place", "the first
+-- such column", "the first such row", and none for the others
 unfoldable pub Names : ℕ → Plan → Place → Type 0
 Names zero p l = l ≡ nowhere
 Names (suc zero) p l = l ≡ nowhere
@@ -239,7 +240,8 @@ module _ (P : Problem) (s : State) (e : Entering) (c : Sv) where
   -- what is stored
   unfoldable pub stateAfter : PivotInfo → State
   stateAfter (Flip value diff) = flipped P s e c value diff
-  stateAfter (Exchange value diff row pivot leaving) = exchanged P s e c (rowCoeffsOf P s row) (helperOf P s c) value diff row pivot leaving
+  stateAfter (Exchange value diff row pivot leaving) =
+      exchanged P s e c (rowCoeffsOf P s row) (helperOf P s c) value diff row pivot leaving
 
   -- the ratio gives a step of which X holds
   abbrev pub Chosen : (PivotInfo → Type 0) → Type 0
@@ -251,7 +253,8 @@ module _ (P : Problem) (s : State) (e : Entering) (c : Sv) where
   StopsWith Stop·Spent = ⊥
   StopsWith Stop·Unbounded = (¬ EntryBroken c) × RatioGives P (s .ws) e c Ratio·Unbounded
   StopsWith Stop·StoreFull = (¬ EntryBroken c) × Chosen StoreFull
-  StopsWith Stop·NotFinite = EntryBroken c ⊎ RatioGives P (s .ws) e c Ratio·NotFinite ⊎ Chosen (λ i. (¬ StoreFull i) × StepBroken i)
+  StopsWith Stop·NotFinite =
+      EntryBroken c ⊎ RatioGives P (s .ws) e c Ratio·NotFinite ⊎ Chosen (λ i. (¬ StoreFull i) × StepBroken i)
 
   -- the step i is taken, to t: none of these stops it
   pub record MovesBy (i : PivotInfo) (t : State) : Type 0 where
@@ -289,7 +292,9 @@ Halts P s w = (e : Entering) × Goes P s e × (s .steps < P .plan .budget) × St
 
 unfoldable pub Ends : Problem → State → Stop → Type 0
 -- "If dual feasible, Optimal is reached at once with 0 steps"; else "entering column (none: final check)"
-Ends P s Finished = ((dualFeasible (P .plan) ≡ true) × (s .steps ≡ 0)) ⊎ ((dualFeasible (P .plan) ≡ false) × (choose P (s .ws) ≡ Nothing))
+Ends P s Finished =
+    ((dualFeasible (P .plan) ≡ true) × (s .steps ≡ 0))
+    ⊎ ((dualFeasible (P .plan) ≡ false) × (choose P (s .ws) ≡ Nothing))
 -- "budget spent and a column would enter"
 Ends P s Stop·Spent = (e : Entering) × Goes P s e × (s .steps ≡ P .plan .budget)
 Ends P s Stop·Unbounded = Halts P s Stop·Unbounded

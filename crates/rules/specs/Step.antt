@@ -27,8 +27,8 @@ pub data Outcome : Type 0 where
 abbrev pub unless : Bool → Stop → Outcome → Outcome
 unless b w o = elim b [ true ↦ o | false ↦ stopped w ]
 
--- "eta room; row solve; all new numbers; store". The "row and helper entries" of 23 are those of row_coeffs and sq_norms_update_helper: the vectors solved on the way,
--- the unit vector's among them, aren't tested.
+-- "eta room; row solve; all new numbers; store". The "row and helper entries" of 23 are those of row_coeffs and
+-- sq_norms_update_helper; the vectors solved on the way, the unit vector's among them, aren't tested.
 unfoldable pub exchange : Problem → State → Entering → Sv → Float → Float → ℕ → Float → Float → Outcome
 exchange P s e c value diff row pivot leaving =
     let r = rowCoeffsOf P s row in

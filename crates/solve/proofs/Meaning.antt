@@ -18,6 +18,7 @@ use Rattle.rules.specs.declared.Stop.{Stop}
 use Rattle.rules.specs.declared.Checked.the-variants.{Passed}
 use Rattle.rules.proofs.Refusals.{refusal-exact, refusal-says}
 use Rattle.rules.proofs.Answers.{at-once, end-exact, answer-exact, optimal-writes, values-left}
+use Rattle.rules.proofs.Steps.{steps-same}
 use Rattle.rules.proofs.Ran.{solved-closes, solved-ran}
 
 -- what the contract of `solve` says of an answer and the memory afterwards
@@ -27,6 +28,19 @@ Promised p m r = r ≡ solvePlan p m
 -- no refusal
 abbrev pub NotRefused : Solved → Type 0
 NotRefused r = (numberOf (r .answer) ≡ 0) ⊎ (20 ≤ numberOf (r .answer))
+
+-- The state where a run ends, `reached p m`: exactly the one that the rules' own steps lead to from the start within the
+-- budget and where the words of an end hold.
+pub last-exactly : (p : Plan) (m : Memory) (t : State)
+    → (t ≡ reached p m) ↔ (RunsTo p m t × ((w : Stop) × Ends (problemOf p) t w))
+last-exactly p m t =
+    let P = problemOf p in
+    let f = endOf P m in (
+      λ q.
+          let h = end-exact P m (f .why) (f .state) .0 refl in
+          subst (λ (s : State). RunsTo p m s × ((w : Stop) × Ends P s w)) (sym q) (h .0, (f .why, h .1)),
+      λ h. ap (λ (x : Ended). x .state) (sym (end-exact P m (h .1 .0) t .1 (h .0, h .1 .1))),
+    )
 
 module _ (p : Plan) (m : Memory) (r : Solved) (e : Promised p m r) where
   -- 01: "Any two results allowed by a promise are shown equal": the answer and every lent cell
@@ -45,20 +59,12 @@ module _ (p : Plan) (m : Memory) (r : Solved) (e : Promised p m r) where
 
   -- ---- the other answers
 
-  -- 0 and 20 to 24, each with its objective, steps and place, exactly when no refusal is called for and the rules' own steps lead from the start, within the budget, to a
-  -- state that its line of the table holds of
-  pub answers-exactly : (t : Told) → (t .number ≡ 0) ⊎ (20 ≤ t .number) → (asRow (r .answer) ≡ t) ↔ (NoneBelow 8 p m × ((s : State) × RunsTo p m s × Line (problemOf p) s t))
-  answers-exactly t h =
-      subst (λ (x : Solved). (asRow (x .answer) ≡ t) ↔ (NoneBelow 8 p m × ((s : State) × RunsTo p m s × Line (problemOf p) s t))) (sym e) (answer-exact p m t h)
-
-  -- there is one such state, `reached p m`: exactly where these steps lead and a run ends
-  pub last-exactly : (t : State) → (t ≡ reached p m) ↔ (RunsTo p m t × ((w : Stop) × Ends (problemOf p) t w))
-  last-exactly t =
-      let P = problemOf p in
-      let f = endOf P m in (
-        λ q. let h = end-exact P m (f .why) (f .state) .0 refl in subst (λ (s : State). RunsTo p m s × ((w : Stop) × Ends P s w)) (sym q) (h .0, (f .why, h .1)),
-        λ h. ap (λ (x : Ended). x .state) (sym (end-exact P m (h .1 .0) t .1 (h .0, h .1 .1))),
-      )
+  -- 0 and 20 to 24, each with its objective, steps and place, exactly when no refusal is called for and the rules' own
+  -- steps lead from the start, within the budget, to a state that its line of the table holds of. By `last-exactly` that
+  -- is the state `reached p m`, and no other.
+  pub answers-exactly : (t : Told) → (t .number ≡ 0) ⊎ (20 ≤ t .number)
+      → (asRow (r .answer) ≡ t) ↔ (NoneBelow 8 p m × ((s : State) × RunsTo p m s × Line (problemOf p) s t))
+  answers-exactly t h = rw e (answer-exact p m t h)
 
   -- 01: "Status 0 is Optimal and writes values, slacks last": the values of the state that was reached, and they pass the final check
   pub optimal-passes : numberOf (r .answer) ≡ 0 → (written p (r .memory) ≡ valuesOf (problemOf p) (reached p m .ws)) × Checks (problemOf p) (written p (r .memory)) Passed
@@ -70,7 +76,8 @@ module _ (p : Plan) (m : Memory) (r : Solved) (e : Promised p m r) where
   pub values-stay : ¬ (numberOf (r .answer) ≡ 0) → r .memory .values ≡ m .values
   values-stay = subst (λ (x : Solved). ¬ (numberOf (x .answer) ≡ 0) → x .memory .values ≡ m .values) (sym e) (values-left p m)
 
-  -- 01: "Answers 0 and 20 to 24 carry the objective and step count of that state"; "the workspace then holds the state after the last whole step"
+  -- 01: "Answers 0 and 20 to 24 carry the objective and step count of that state"; "the workspace then holds the state
+  -- after the last whole step"
   pub ran : NotRefused r → Ran p m r (reached p m)
   ran = subst (λ (x : Solved). NotRefused x → Ran p m x (reached p m)) (sym e) (solved-ran p m)
 
@@ -78,27 +85,42 @@ module _ (p : Plan) (m : Memory) (r : Solved) (e : Promised p m r) where
     abbrev pub steps : ℕ
     steps = asRow (r .answer) .steps
 
+    -- no other state is behind the answer
+    pub last-only : (t : State) → Ran p m r t → t ≡ reached p m
+    last-only t x =
+        let s = startState (problemOf p) (m .ws) in
+        let count : reached p m .steps ≡ t .steps = sym (ran h .steps-told) ∙ x .steps-told in
+        steps-same (problemOf p) s (x .reached .by-steps)
+        (subst (λ (k : ℕ). Steps (problemOf p) s k (reached p m)) count (ran h .reached .by-steps))
+
     -- the state and why the run ends there settle the answer and every lent cell
-    pub end-settles : (w : Stop) (t : State) → RunsTo p m t → Ends (problemOf p) t w → r ≡ close (problemOf p) m (ended w t)
+    pub end-settles : (w : Stop) (t : State) → RunsTo p m t → Ends (problemOf p) t w
+        → r ≡ close (problemOf p) m (ended w t)
     end-settles w t a b =
         let none = answers-exactly (asRow (r .answer)) h .0 refl .0 in
         e ∙ solved-closes p m none ∙ ap (close (problemOf p) m) (end-exact (problemOf p) m w t .1 (a, b))
 
     -- 01: "If dual feasible, Optimal is reached at once with 0 steps (ours), after the final check"
     pub dual-at-once : dualFeasible p ≡ true
-        → let s = startState (problemOf p) (m .ws) in (reached p m ≡ s) × (steps ≡ 0) × (r .answer ≡ checkedAnswer s (finalCheck (problemOf p) (valuesOf (problemOf p) (s .ws))))
+        → let P = problemOf p in
+        let s = startState P (m .ws) in
+        (reached p m ≡ s) × (steps ≡ 0) × (r .answer ≡ checkedAnswer s (finalCheck P (valuesOf P (s .ws))))
     unfolding startState close answerOf
     dual-at-once d =
         let P = problemOf p in
         let q = at-once P m d in
         let start : reached p m ≡ startState P (m .ws) = ap (λ (x : Ended). x .state) q in
-        let ends = end-exact P m _ _ .0 q in
-        (start, ran h .steps-told ∙ ap (λ (s : State). s .steps) start, ap (λ (x : Solved). x .answer) (end-settles _ _ (ends .0) (ends .1)))
+        let ends = end-exact P m _ _ .0 q in (
+          start,
+          ran h .steps-told ∙ ap (λ (s : State). s .steps) start,
+          ap (λ (x : Solved). x .answer) (end-settles _ _ (ends .0) (ends .1)),
+        )
 
     -- 01: "The step count in the answer is the number of steps the rules took", each step the rules' own, and at most the budget
     pub steps-taken : Steps (problemOf p) (startState (problemOf p) (m .ws)) steps (reached p m) × (steps ≤ p .budget)
     steps-taken =
-        subst (λ (k : ℕ). Steps (problemOf p) (startState (problemOf p) (m .ws)) k (reached p m) × (k ≤ p .budget)) (sym (ran h .steps-told)) (ran h .reached .by-steps, ran h .reached .within)
+        subst (λ (k : ℕ). Steps (problemOf p) (startState (problemOf p) (m .ws)) k (reached p m) × (k ≤ p .budget))
+        (sym (ran h .steps-told)) (ran h .reached .by-steps, ran h .reached .within)
 
     -- demand 2: the two maps are each other's inverse, in the workspace that is handed back
     pub maps-inverse : Maps (problemOf p) (r .memory .ws)
@@ -111,7 +133,8 @@ module _ (p : Plan) (m : Memory) (r : Solved) (e : Promised p m r) where
     -- 01: "After k steps the store has at most k columns and k times the row count of entries"
     pub store-bounded : (reached p m .etaCount ≤ steps) × (etaUsed (reached p m) ≤ steps * mOf (problemOf p))
     store-bounded =
-        subst (λ (k : ℕ). (reached p m .etaCount ≤ k) × (etaUsed (reached p m) ≤ k * mOf (problemOf p))) (sym (ran h .steps-told)) (ran h .bounded .columns, ran h .bounded .entries)
+        subst (λ (k : ℕ). (reached p m .etaCount ≤ k) × (etaUsed (reached p m) ≤ k * mOf (problemOf p)))
+        (sym (ran h .steps-told)) (ran h .bounded .columns, ran h .bounded .entries)
 
     -- 01: "cells past what is written never change"
     pub tails-stay : LentTails (problemOf p) m (r .memory) (reached p m)
