@@ -40,7 +40,7 @@ pub(crate) struct TriAnswer {
     pub places: usize,
 }
 
-/// What `tevalumi_verdict` answers: kind 0 is not a plan, 1 no floor, 2 a gap.
+/// What `tevalumi_verdict` answers: kind 0 is not a plan, 1 no floor, 2 a gap, 3 none exists.
 #[repr(C)]
 #[derive(Clone, Copy, Debug)]
 pub(crate) struct SheetVerdict {

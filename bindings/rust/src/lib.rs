@@ -14,6 +14,7 @@ sheet in whole numbers that bounds how much cheaper any other plan could be.
 |---|---|
 | this one | programs that use minilp: the same [`Problem`], [`LinearExpr`], [`Solution`] |
 | [`sheet`] | whoever must say, after a bad night, whether a plan was the cheapest one |
+| [`why`] | whoever must say why there was no plan at all |
 | [`raw`], [`triangle`] | firmware: the library's calls over lent memory, without allocation |
 
 # Example
@@ -96,6 +97,7 @@ mod problem;
 pub mod raw;
 pub mod sheet;
 pub mod triangle;
+pub mod why;
 
 pub use problem::{
     ComparisonOp, Error, LinearExpr, LinearTerm, OptimizationDirection, Problem, Solution,

@@ -1,4 +1,5 @@
-//! The command-line program: `tevalumi solve FILE`, `tevalumi audit FILE`, `tevalumi night`.
+//! The command-line program: `tevalumi solve FILE`, `tevalumi audit FILE`, `tevalumi why FILE`,
+//! `tevalumi night`.
 
 mod cli;
 

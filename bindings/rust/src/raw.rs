@@ -518,6 +518,10 @@ pub enum Verdict {
     /// many 1/1024 of a cost unit. Never below 0 on a sheet that was opened and only edited by
     /// these calls.
     Gap(i64),
+    /// No amounts, whole or fractional, keep every row and bound: all costs are 0, every multiplier
+    /// has the right sign, no price needs a bound that is absent, and the floor is above 0. It is
+    /// said whatever the amounts are.
+    NoneExists,
 }
 
 /// A sheet's arrays, lent to be opened and edited.
@@ -698,6 +702,7 @@ impl SheetRef<'_> {
         Ok(match verdict.kind {
             0 => Verdict::NotAPlan,
             1 => Verdict::NoFloor,
+            3 => Verdict::NoneExists,
             _ => Verdict::Gap(verdict.value),
         })
     }

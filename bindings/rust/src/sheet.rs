@@ -85,6 +85,7 @@ impl fmt::Display for Verdict {
                 "No plan, whole or fractional, is cheaper than this one by more than {}.",
                 Parts(*gap)
             ),
+            Verdict::NoneExists => f.write_str("No plan exists, whole or fractional."),
         }
     }
 }

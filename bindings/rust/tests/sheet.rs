@@ -204,6 +204,8 @@ fn edits_in_long_runs() {
                     assert!(gap >= 0);
                     assert_eq!(gap, 1024 * sheet.cost() - sheet.floor());
                 }
+                // Costs are seldom all 0 here; tests/why.rs asks for it.
+                Verdict::NoneExists => assert!(sheet.floor() > 0),
             }
         }
     }

@@ -12,6 +12,7 @@ pub enum Command {
     Version,
     Solve(Request),
     Audit(Request),
+    Why(Request),
     Night(Night),
 }
 
@@ -38,6 +39,7 @@ tevalumi: small linear programs, solved and audited by a library whose every fun
 
 usage: tevalumi solve FILE    solve a plan and print its values
        tevalumi audit FILE    solve a plan in whole numbers and say how much cheaper another could be
+       tevalumi why FILE      say why a plan in whole numbers has no solution
        tevalumi night         the bundled frost night, once with each set of costs
        tevalumi COMMAND --help
 
@@ -83,7 +85,8 @@ Solves the plan in FILE as `tevalumi solve` does, rounds its amounts to whole nu
 ties to even) and its prices to multipliers of 1/1024, opens the audit sheet with them, and prints
 the sheet and its verdict. The verdict is the sheet's: a proposal that was rounded badly only makes
 it worse, never prettier. A plan with a number that isn't whole or is over the sheet's limits is
-said to be so, and no sheet is shown.
+said to be so, and no sheet is shown. Where the plan isn't solved and the sheet shows that none
+exists, it says why, as `tevalumi why` does.
 
 limits: coefficients 4,096, costs 2^20, right sides 2^31, bounds and amounts 2^16, multipliers 1,024
 
@@ -91,6 +94,23 @@ options: --format, --max, --min, --relax, --budget, --tol, --json as for `tevalu
 
 exit status: 0 Optimal, whatever the verdict; 1 refused (answers 1 to 7); 3 not solved (answers 20
              to 24); 2 the command line or the file is wrong, or the plan isn't in whole numbers
+";
+
+pub const HELP_WHY: &str = "\
+usage: tevalumi why [OPTIONS] FILE
+
+Looks for the reason why the plan in FILE has no solution: a multiplier for each row, so that the
+rows together ask for more than the bounds leave. The audit sheet is opened with them and with all
+costs 0, and where its verdict is that no plan exists, whole or fractional, the rows and columns
+that count are printed. Nothing else is taken for a reason, so a plan without one may have a
+solution or none. Numbers must be whole and within the sheet's limits; costs aren't looked at.
+
+limits: coefficients 4,096, right sides 2^31, bounds 2^16
+
+options: --format, --max, --min, --relax, --json as for `tevalumi solve`
+
+exit status: 0 no plan exists; 3 that isn't shown; 1 refused (answers 1 to 4); 2 the command line or
+             the file is wrong, or the plan isn't in whole numbers
 ";
 
 pub const HELP_NIGHT: &str = "\
@@ -111,11 +131,12 @@ pub type Usage = String;
 
 pub fn parse(args: &[OsString]) -> Result<Command, Usage> {
     let Some((command, rest)) = args.split_first() else {
-        return Err("expected a command: solve, audit or night".to_string());
+        return Err("expected a command: solve, audit, why or night".to_string());
     };
     let help = match command.to_str() {
         Some("solve") => HELP_SOLVE,
         Some("audit") => HELP_AUDIT,
+        Some("why") => HELP_WHY,
         Some("night") => HELP_NIGHT,
         Some("--help" | "-h") => return Ok(Command::Help(HELP)),
         Some("--version" | "-V") => return Ok(Command::Version),
@@ -127,7 +148,7 @@ pub fn parse(args: &[OsString]) -> Result<Command, Usage> {
         }
         _ => {
             return Err(format!(
-                "expected solve, audit or night, found `{}`",
+                "expected solve, audit, why or night, found `{}`",
                 text(command)
             ))
         }
@@ -138,6 +159,7 @@ pub fn parse(args: &[OsString]) -> Result<Command, Usage> {
     match command.to_str() {
         Some("night") => night(rest).map(Command::Night),
         Some("audit") => request(rest, false).map(Command::Audit),
+        Some("why") => request(rest, false).map(Command::Why),
         _ => request(rest, true).map(Command::Solve),
     }
 }

@@ -15,13 +15,21 @@ const UNIT: f64 = 1024.0;
 /// Opens the sheet of a solved plan. The error is a sentence that names the first number that
 /// doesn't fit.
 pub fn open(plan: &Plan, solved: &Solved) -> Result<Sheet, String> {
-    let mut figures = figures(plan)?;
+    let mut figures = figures(plan, Costs::Own)?;
     propose(plan, solved, &mut figures)?;
     Sheet::open(&figures).map_err(|refusal| format!("the sheet isn't opened: {refusal}"))
 }
 
+/// Which costs a sheet is opened with.
+#[derive(Clone, Copy, Debug, PartialEq)]
+pub enum Costs {
+    Own,
+    /// The plan's own aren't looked at.
+    Zero,
+}
+
 /// The plan's own numbers, in the order of the sheet's arrays.
-fn figures(plan: &Plan) -> Result<Figures, String> {
+pub fn figures(plan: &Plan, costs: Costs) -> Result<Figures, String> {
     let (rows, columns) = (plan.rows, plan.columns);
     let column = |what: &str, j: usize| format!("the {what} of column {}", plan.column_name(j));
     let bounds = |what: &str, bounds: &[f64]| -> Result<Vec<Option<i64>>, String> {
@@ -33,8 +41,11 @@ fn figures(plan: &Plan) -> Result<Figures, String> {
         present.collect()
     };
     let coefs = coefs(plan)?;
-    let costs = plan.costs[..columns].iter().enumerate();
-    let costs = costs.map(|(j, &x)| whole(x, limits::SHEET_COST, || column("cost", j)));
+    let own = plan.costs[..columns].iter().enumerate();
+    let costs = own.map(|(j, &x)| match costs {
+        Costs::Own => whole(x, limits::SHEET_COST, || column("cost", j)),
+        Costs::Zero => Ok(0),
+    });
     let rights = plan.rhs[..rows].iter().enumerate();
     let rights = rights.map(|(i, &x)| {
         whole(x, limits::SHEET_RIGHT, || {
@@ -198,6 +209,7 @@ fn totals(plan: &Plan, sheet: &Sheet) -> String {
             out += &format!("{:<9}  {}\n", "gap", of_1024(gap));
         }
         Verdict::NoFloor | Verdict::NotAPlan => out += &format!("{:<9}  none\n", names[1]),
+        Verdict::NoneExists => out += &format!("{:<9}  {}\n", names[1], of_1024(floor)),
     }
     if plan.constant != 0.0 {
         out += &format!(
@@ -238,6 +250,7 @@ pub fn verdict(plan: &Plan, sheet: &Sheet) -> String {
                 (sheet.amounts_out(), "amount is out of its bounds", "amounts are out of their bounds"),
             ])
         ),
+        Verdict::NoneExists => Verdict::NoneExists.to_string(),
     }
 }
 
@@ -253,6 +266,7 @@ pub fn as_json(plan: &Plan, sheet: &Sheet) -> String {
         Verdict::Gap(gap) => ("gap", gap.to_string()),
         Verdict::NoFloor => ("no floor", "null".to_string()),
         Verdict::NotAPlan => ("not a plan", "null".to_string()),
+        Verdict::NoneExists => ("none exists", "null".to_string()),
     };
     let list = |of: &dyn Fn(usize) -> i64, n: usize| {
         let numbers: Vec<String> = (0..n).map(|k| of(k).to_string()).collect();

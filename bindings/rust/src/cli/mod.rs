@@ -11,6 +11,7 @@ pub mod report;
 pub mod show;
 pub mod source;
 pub mod text;
+pub mod why;
 
 use std::ffi::{OsStr, OsString};
 use std::io;
@@ -31,9 +32,17 @@ pub struct Outcome {
     pub exit: u8,
 }
 
+/// What is done with each plan of a file.
+#[derive(Clone, Copy, Debug, PartialEq)]
+enum Task {
+    Solve,
+    Audit,
+    Why,
+}
+
 /// `read` gives a file's content; `-` is standard input.
 pub fn run(args: &[OsString], read: &dyn Fn(&OsStr) -> io::Result<Vec<u8>>) -> Outcome {
-    let (request, audit) = match args::parse(args) {
+    let (request, task) = match args::parse(args) {
         Ok(Command::Help(text)) => return said(text.to_string()),
         Ok(Command::Version) => return said(format!("tevalumi {}\n", env!("CARGO_PKG_VERSION"))),
         Ok(Command::Night(options)) => {
@@ -42,8 +51,9 @@ pub fn run(args: &[OsString], read: &dyn Fn(&OsStr) -> io::Result<Vec<u8>>) -> O
                 Err(what) => wrong(format!("a bundled plan isn't solved: {what}")),
             }
         }
-        Ok(Command::Solve(request)) => (request, false),
-        Ok(Command::Audit(request)) => (request, true),
+        Ok(Command::Solve(request)) => (request, Task::Solve),
+        Ok(Command::Audit(request)) => (request, Task::Audit),
+        Ok(Command::Why(request)) => (request, Task::Why),
         Err(usage) => return wrong(format!("{usage}\nTry `tevalumi --help`.")),
     };
     let file = shown(&request.file.to_string_lossy());
@@ -52,7 +62,7 @@ pub fn run(args: &[OsString], read: &dyn Fn(&OsStr) -> io::Result<Vec<u8>>) -> O
         Err(error) => return wrong(format!("{file}: can't be read: {error}")),
     };
     match source::read(&bytes, request.format, request.relax) {
-        Ok(plans) => answer(&file, plans, &request, audit),
+        Ok(plans) => answer(&file, plans, &request, task),
         Err(Fault { line: 0, what }) => wrong(format!("{file}: {what}")),
         Err(Fault { line, what }) => wrong(format!("{file}:{line}: {what}")),
     }
@@ -74,13 +84,18 @@ fn wrong(what: String) -> Outcome {
 }
 
 /// Each plan in turn. The exit status of several is 2 if one has it, else the largest.
-fn answer(file: &str, plans: Vec<Plan>, request: &Request, audit: bool) -> Outcome {
+fn answer(file: &str, plans: Vec<Plan>, request: &Request, task: Task) -> Outcome {
     let mut all = Outcome::default();
     for mut plan in plans {
         plan.budget = request.budget.unwrap_or(plan.budget);
         plan.tolerance = request.tolerance.unwrap_or(plan.tolerance);
         plan.turn(request.maximise.unwrap_or(plan.maximise));
-        let one = one(file, &plan, request, audit);
+        let one = one(&plan, request, task).unwrap_or_else(|what| {
+            wrong(format!(
+                "{file}: plan {} isn't in whole numbers within the sheet's limits: {what}",
+                shown(&plan.name)
+            ))
+        });
         if !(request.json || all.out.is_empty() || one.out.is_empty()) {
             all.out.push('\n');
         }
@@ -94,38 +109,58 @@ fn answer(file: &str, plans: Vec<Plan>, request: &Request, audit: bool) -> Outco
     all
 }
 
-fn one(file: &str, plan: &Plan, request: &Request, audit: bool) -> Outcome {
+/// The error is a sentence that names the first number that doesn't fit the sheet.
+fn one(plan: &Plan, request: &Request, task: Task) -> Result<Outcome, String> {
     let solved = engine::solve(plan);
-    let exit = report::exit(solved.answer.status);
-    let sheet = match audit && solved.answer.status == Status::Optimal {
-        true => Some(audit::open(plan, &solved)),
-        false => None,
-    };
+    let status = solved.answer.status;
+    let exit = report::exit(status);
     let name = request.file.to_string_lossy();
-    let out = match (&sheet, request.json) {
-        (Some(Err(what)), _) => {
-            return wrong(format!(
-                "{file}: plan {} isn't in whole numbers within the sheet's limits: {what}",
-                shown(&plan.name)
-            ))
+    let json = |more: &str| report::as_json(&name, plan, &solved, request.bits, more);
+    // 1 to 4 say that there are no rows and bounds to look at.
+    let looks = !matches!(status.number(), 1..=4);
+
+    let (out, exit) = match task {
+        Task::Audit if status == Status::Optimal => {
+            let sheet = audit::open(plan, &solved)?;
+            let out = match request.json {
+                true => json(&audit::as_json(plan, &sheet)),
+                false => {
+                    report::head(plan, &solved, false)
+                        + &audit::tables(plan, &sheet)
+                        + &format!("\n{}\n", audit::verdict(plan, &sheet))
+                }
+            };
+            (out, exit)
         }
-        (Some(Ok(sheet)), true) => {
-            let more = audit::as_json(plan, sheet);
-            report::as_json(&name, plan, &solved, false, &more)
+        Task::Why if looks => {
+            let looked = why::look(plan)?;
+            let out = match request.json {
+                true => json(&looked.as_json()),
+                false => report::title(plan) + &looked.text(plan),
+            };
+            (out, looked.exit())
         }
-        (Some(Ok(sheet)), false) => {
-            report::head(plan, &solved, false)
-                + &audit::tables(plan, sheet)
-                + &format!("\n{}\n", audit::verdict(plan, sheet))
-        }
-        (None, true) => report::as_json(&name, plan, &solved, request.bits, ""),
-        (None, false) => {
-            report::head(plan, &solved, request.bits) + &report::values(plan, &solved, request.bits)
+        Task::Solve | Task::Audit | Task::Why => {
+            // An audit says why there is no plan, where that is shown.
+            let why = match task == Task::Audit && looks {
+                true => why::look(plan).ok().filter(|looked| looked.exit() == 0),
+                false => None,
+            };
+            let out = match (request.json, why) {
+                (true, None) => json(""),
+                (true, Some(why)) => json(&why.as_json()),
+                (false, None) => {
+                    report::head(plan, &solved, request.bits)
+                        + &report::values(plan, &solved, request.bits)
+                }
+                (false, Some(why)) => report::head(plan, &solved, false) + &why.text(plan),
+            };
+            (out, exit)
         }
     };
-    Outcome {
+    Ok(Outcome {
         out,
         err: String::new(),
         exit,
-    }
+    })
 }

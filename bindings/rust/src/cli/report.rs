@@ -15,9 +15,8 @@ pub fn exit(status: Status) -> u8 {
     }
 }
 
-/// The plan, the status in a sentence, and where there is one the objective.
-pub fn head(plan: &Plan, solved: &Solved, with_bits: bool) -> String {
-    let answer = &solved.answer;
+/// The plan's name and sizes, and what the reader left out.
+pub fn title(plan: &Plan) -> String {
     let mut out = format!(
         "plan       {}: {}, {}, {}, {}\n",
         if plan.name.is_empty() {
@@ -37,6 +36,13 @@ pub fn head(plan: &Plan, solved: &Solved, with_bits: bool) -> String {
     for note in &plan.notes {
         out += &format!("note       {note}\n");
     }
+    out
+}
+
+/// The plan, the status in a sentence, and where there is one the objective.
+pub fn head(plan: &Plan, solved: &Solved, with_bits: bool) -> String {
+    let answer = &solved.answer;
+    let mut out = title(plan);
     out += &format!(
         "status     {}, {}\n",
         answer.status.number(),

@@ -227,6 +227,98 @@ fn not_in_whole_numbers() {
     }
 }
 
+/// Two tunnels ask for 9 ms each, the air has 15, and what north sends takes air twice.
+fn too_little_air() -> Vec<u8> {
+    mps(
+        " G north\n G south\n L air\n L spare\n",
+        " x c 1 north 1\n x air 2\n y c 1 south 1\n y air 1\n z c 1.5 air 1\n z spare 1\n",
+        " RHS north 9 south 9\n RHS air 15 spare 4\n",
+        " UP B x 40\n",
+    )
+}
+
+/// The rows and columns that count, and the sheet's own sentence. Costs aren't looked at.
+#[test]
+fn why_there_is_no_plan() {
+    let told = run(&["why", "t.mps"], &too_little_air());
+    let wanted = "\
+plan       t: 3 columns, 4 rows, 6 entries, minimise
+
+row        right side  multiplier
+north  >=           9         2.0
+south  >=           9         1.0
+air    <=          15        -1.0
+
+column  lower  upper  price
+z           0   none    1.0
+
+floor      12.0
+
+With all costs 0 every plan costs 0, and none costs less than the floor.
+No plan exists, whole or fractional.
+";
+    assert_eq!((told.out.as_str(), told.exit), (wanted, 0));
+    let told = run(&["why", "t.mps", "--json"], &too_little_air());
+    assert!(told.out.contains(
+        ",\"why\":{\"multipliers_1024\":[2048,1024,-1024,0],\"prices_1024\":[0,0,1024],\"floor_1024\":12288,\"verdict\":\"none exists\",\"sentence\":\"No plan exists, whole or fractional.\"}}\n"
+    ), "{}", told.out);
+}
+
+/// An audit says so too, behind the status; its exit status is the answer's.
+#[test]
+fn an_audit_says_why() {
+    let told = run(&["audit", "t.mps"], &too_little_air());
+    assert!(
+        told.out.contains("\nstatus     7, refused: row north"),
+        "{}",
+        told.out
+    );
+    assert!(told
+        .out
+        .ends_with("less than the floor.\nNo plan exists, whole or fractional.\n"));
+    assert_eq!(told.exit, 1);
+    let told = run(&["audit", "t.mps", "--json"], &too_little_air());
+    assert!(told.out.contains("\"verdict\":\"none exists\""));
+
+    // An empty row that is false is a reason by itself.
+    let empty = mps(" L r\n L empty\n", " x c 1 r 1\n", " RHS empty -1\n", "");
+    let told = run(&["audit", "t.mps"], &empty);
+    assert!(
+        told.out.contains("\nempty  <=          -1        -1.0\n"),
+        "{}",
+        told.out
+    );
+}
+
+/// Nothing is said that the sheet doesn't show.
+#[test]
+fn no_reason() {
+    // 7 all the same: the start is no plan, but 1 is.
+    let some = mps(" G r\n", " x c 1 r 1\n", " RHS r 1\n", "");
+    let told = run(&["why", "t.mps"], &some);
+    let wanted = "\
+plan       t: 1 column, 1 row, 1 entry, minimise
+
+Some amounts, whole or fractional, keep every row and bound.
+";
+    assert_eq!((told.out.as_str(), told.exit), (wanted, 3));
+    let told = run(&["audit", "t.mps"], &some);
+    assert!(told.out.ends_with("There may be a plan all the same.\n"));
+    let told = run(&["why", "t.mps", "--json"], &some);
+    assert!(told.out.contains(",\"why\":{\"verdict\":null,"));
+
+    let crossed = mps(" L r\n", " x c 1 r 1\n", "", " LO B x 3\n UP B x 2\n");
+    let told = run(&["why", "t.mps"], &crossed);
+    assert!(told.out.contains("4, refused: column x"), "{}", told.out);
+    assert_eq!(told.exit, 1);
+
+    let halves = mps(" G r\n", " x c 1 r 0.5\n", " RHS r 1\n", " UP B x 1\n");
+    let told = run(&["why", "t.mps"], &halves);
+    assert_eq!(told.err, "tevalumi: t.mps: plan t isn't in whole numbers within the sheet's limits: the coefficient of column x in row r is 0.5\n");
+    let told = run(&["audit", "t.mps"], &halves);
+    assert_eq!(told.exit, 1);
+}
+
 #[test]
 fn names_are_harmless() {
     let file = mps(" L r\n", " \u{1b}[31mx\" c 1 r 1\n", "", "");

@@ -85,6 +85,9 @@ fn exit_statuses() {
         (&["solve", "-"], &endless, 3),
         (&["solve", "-", "--budget", "1"], N2, 3),
         (&["audit", "-", "--budget", "1"], N2, 3),
+        (&["why", "-"], &refused, 0),
+        (&["why", "-"], N2, 3),
+        (&["why", "-", "--bits"], "", 2),
         (&["solve", "-", "--tol", "2"], N2, 1),
         (&["solve", "-"], "NAME N2\nROWS\n", 2),
         (&["solve", "/no/such/file"], "", 2),
@@ -109,7 +112,7 @@ fn exit_statuses() {
 
 #[test]
 fn help_for_each() {
-    for command in ["solve", "audit", "night"] {
+    for command in ["solve", "audit", "why", "night"] {
         let output = start(&[command, "--help"], "");
         assert_eq!(output.status.code(), Some(0));
         let usage = format!("usage: tevalumi {command}");

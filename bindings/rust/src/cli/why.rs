@@ -1,0 +1,148 @@
+//! Why a plan has no solution, as the sheet has it. The multipliers are looked for by the crate and
+//! need no trust: what is said is the sheet's verdict.
+
+use tevalumi::sheet::{Sheet, Verdict};
+use tevalumi::why::{proposal, reason, Reason};
+use tevalumi::ComparisonOp;
+
+use super::audit::{figures, Costs};
+use super::plan::Plan;
+use super::show::{of_1024, quoted, Side, Table};
+
+/// What a look for a reason gives.
+pub enum Looked {
+    /// The sheet says that no plan exists.
+    Shown(Box<Sheet>),
+    SomePlan,
+    /// Nothing was found that the sheet takes for a reason.
+    NotShown,
+}
+
+/// The error is a sentence that names the first number that doesn't fit the sheet.
+pub fn look(plan: &Plan) -> Result<Looked, String> {
+    let figures = figures(plan, Costs::Zero)?;
+    let mults = match reason(&figures) {
+        Reason::Multipliers(mults) => mults,
+        Reason::SomePlan => return Ok(Looked::SomePlan),
+        Reason::GivenUp => return Ok(Looked::NotShown),
+    };
+    let sheet = Sheet::open(&proposal(&figures, mults))
+        .map_err(|refusal| format!("the sheet isn't opened: {refusal}"))?;
+    Ok(match sheet.verdict() {
+        Verdict::NoneExists => Looked::Shown(Box::new(sheet)),
+        _ => Looked::NotShown,
+    })
+}
+
+impl Looked {
+    /// 0 where it is shown, else that of a plan that isn't solved.
+    pub fn exit(&self) -> u8 {
+        match self {
+            Looked::Shown(_) => 0,
+            Looked::SomePlan | Looked::NotShown => 3,
+        }
+    }
+
+    pub fn sentence(&self) -> String {
+        match self {
+            Looked::Shown(sheet) => sheet.verdict().to_string(),
+            Looked::SomePlan => {
+                "Some amounts, whole or fractional, keep every row and bound.".to_string()
+            }
+            Looked::NotShown => {
+                "No multipliers were found that show why, so there may be a plan or none."
+                    .to_string()
+            }
+        }
+    }
+
+    /// The rows and columns that count, the floor, and the sentence.
+    pub fn text(&self, plan: &Plan) -> String {
+        match self {
+            Looked::Shown(sheet) => format!(
+                "{}{}\nfloor      {}\n\nWith all costs 0 every plan costs 0, and none costs less than the floor.\n{}\n",
+                rows(plan, sheet),
+                columns(plan, sheet),
+                of_1024(sheet.floor()),
+                self.sentence()
+            ),
+            Looked::SomePlan | Looked::NotShown => format!("\n{}\n", self.sentence()),
+        }
+    }
+
+    /// What a solve's JSON has beside it.
+    pub fn as_json(&self) -> String {
+        let sentence = quoted(&self.sentence());
+        let Looked::Shown(sheet) = self else {
+            return format!(",\"why\":{{\"verdict\":null,\"sentence\":{sentence}}}");
+        };
+        let list = |of: &dyn Fn(usize) -> i64, n: usize| {
+            let numbers: Vec<String> = (0..n).map(|k| of(k).to_string()).collect();
+            numbers.join(",")
+        };
+        [
+            format!(
+                ",\"why\":{{\"multipliers_1024\":[{}]",
+                list(&|i| sheet.multiplier(i), sheet.rows())
+            ),
+            format!(
+                ",\"prices_1024\":[{}]",
+                list(&|j| sheet.price(j), sheet.columns())
+            ),
+            format!(",\"floor_1024\":{}", sheet.floor()),
+            format!(",\"verdict\":\"none exists\",\"sentence\":{sentence}}}"),
+        ]
+        .concat()
+    }
+}
+
+/// The rows whose multiplier isn't 0.
+fn rows(plan: &Plan, sheet: &Sheet) -> String {
+    let mut table = Table::new(&[
+        ("row", Side::Left),
+        ("", Side::Left),
+        ("right side", Side::Right),
+        ("multiplier", Side::Right),
+    ]);
+    for i in (0..sheet.rows()).filter(|&i| sheet.multiplier(i) != 0) {
+        let sign = match sheet.op(i) {
+            ComparisonOp::Le => "<=",
+            ComparisonOp::Eq => "=",
+            ComparisonOp::Ge => ">=",
+        };
+        table.row(vec![
+            plan.row_name(i),
+            sign.to_string(),
+            sheet.right(i).to_string(),
+            of_1024(sheet.multiplier(i)),
+        ]);
+    }
+    format!("\n{table}")
+}
+
+/// The columns whose price isn't 0: it is the lower bound that counts where it is above 0, else the
+/// upper one.
+fn columns(plan: &Plan, sheet: &Sheet) -> String {
+    let mut table = Table::new(&[
+        ("column", Side::Left),
+        ("lower", Side::Right),
+        ("upper", Side::Right),
+        ("price", Side::Right),
+    ]);
+    let bound = |bound: Option<i64>| bound.map_or("none".to_string(), |b| b.to_string());
+    let some: Vec<usize> = (0..sheet.columns())
+        .filter(|&j| sheet.price(j) != 0)
+        .collect();
+    if some.is_empty() {
+        return String::new();
+    }
+    for j in some {
+        table.row(vec![
+            plan.column_name(j),
+            bound(sheet.lower(j)),
+            bound(sheet.upper(j)),
+            of_1024(sheet.price(j)),
+        ]);
+    }
+    format!("\n{table}")
+}
