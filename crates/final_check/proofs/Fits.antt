@@ -33,12 +33,6 @@ module _ (P : Problem) (f : ProblemFits P) where
         placed = λ v h. record { has-cell = omega (arith, l .varStates-long); vals-long = l .nbVarVals-long; cell-fits = omega (arith, m .variable v h .cell, l .basicVarVals-long) };
       }
 
-  row-reads : (r : ℕ) → r < mOf P → RowReads P r
-  row-reads r h = record { entries = fits-read P f .row r h; has-rhs = omega (arith, f .kept r h .inside, f .plan .rhs-long) }
-
-  pub fits-rows : RowsRead P
-  fits-rows = record { room = few; row = row-reads }
-
   pub fits-checkable : Checkable (checkedBy P)
   fits-checkable =
       let row : (r : ℕ) → r < mOf P → P .kept # r < length (P .plan .ops) = λ r h. omega (arith, f .kept r h .inside, f .plan .ops-long) in
@@ -47,5 +41,5 @@ module _ (P : Problem) (f : ProblemFits P) where
           lower = record { bounds-long = f .plan .lowers-long; row-inside = row };
           upper = record { bounds-long = f .plan .uppers-long; row-inside = row };
         };
-        rows = record { room = few; row = λ r h. let q = row-reads r h in record { entries = q .entries; has-rhs = q .has-rhs } };
+        rows = record { room = few; row = λ r h. record { entries = fits-read P f .row r h; has-rhs = omega (arith, f .kept r h .inside, f .plan .rhs-long) } };
       }

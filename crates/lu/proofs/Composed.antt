@@ -1,5 +1,5 @@
 -- What `lu::solve_dense` is: the two public solves of one triangle, one after the other. Assumes nothing.
-use mathlib.Core.Path.{_≡_, refl, sym, ap, _∙_, subst}
+use mathlib.Core.Path.{_≡_, refl, sym, ap, _∙_}
 use mathlib.Core.Bool.{Bool, true, false, _&&_}
 use mathlib.Core.List.{List, []}
 use Prim.Native.Nat.{ℕ, _<_}
@@ -9,7 +9,7 @@ use lib.Ieee.{Float}
 use Rattle.doubles.specs.Num.{finite}
 use Rattle.doubles.specs.Loop.{all}
 use Rattle.doubles.specs.Lists.{_!_}
-use Rattle.doubles.proofs.Loops.{both-true, all-at, all-by}
+use Rattle.doubles.proofs.Loops.{both-true, all-by}
 use Rattle.lu_solve.specs.Solve.{Tri, Out, out, dense}
 use Rattle.lu_solve.proofs.Laws.{length-dense}
 use Rattle.lu_gate.specs.Gate.{okTriangle, okNumbers, finiteAt}

@@ -18,7 +18,7 @@ use Rattle.doubles.proofs.Bools.{by-test, never, last?}
 use Rattle.doubles.proofs.Loops.{keeps}
 use Rattle.sparse.specs.Scattered.{Pat, pat, touched, touchedBy}
 use Rattle.sparse.proofs.Laws.{no-both}
-use Rattle.lu_walk.specs.Walk.{Shape, fresh, reached}
+use Rattle.lu_walk.specs.Walk.{fresh, reached}
 use Rattle.lu_walk.specs.Order.{finished, among, Reach, here}
 use Rattle.lu_walk.proofs.Laws.{fits-reached, fits-fresh}
 use Rattle.lu_walk.proofs.Walked.{among-at, among-where}

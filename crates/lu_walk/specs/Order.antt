@@ -27,6 +27,7 @@ among p (q ∷ l) = eqb p q || among p l
 -- `Walked kids l ps m`: where the places l are finished, the walks of the places ps, one after the other, leave the places m finished. `kids p` are the
 -- children of p, in stored order.
 pub data Walked (kids : ℕ → List ℕ) : List ℕ → List ℕ → List ℕ → Type 0 where
+  -- no place is left
   stop : {l : List ℕ} → Walked kids l [] l
   -- "visited places once": p is finished already
   again : {l ps m : List ℕ} {p : ℕ} → among p l ≡ true → Walked kids l ps m → Walked kids l (p ∷ ps) m

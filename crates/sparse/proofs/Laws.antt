@@ -2,21 +2,21 @@
 use mathlib.Core.Path.{_≡_, refl, sym, ap, _∙_, subst}
 use mathlib.Core.Bool.{Bool, true, false}
 use mathlib.Core.List.{List, [], _∷_, _++_}
-use Prim.Native.Nat.{ℕ, zero, suc, _+_, _<_, _≤_}
+use Prim.Native.Nat.{ℕ, zero, suc, _<_, _≤_}
 use native.Mathlib.Nat.{le-of-suc-le-suc, not-suc-le-zero, le-refl}
 use native.Mathlib.Numerals.{add-one}
 use native.Mathlib.Omega.{arith}
-use lib.ListN.{length, getD, set, take, drop, length-set, drop-of-length-le, replicate, length-replicate, getD-replicate}
-use lib.Seq.{length-take-le, take-suc-set, getD-set-same, getD-set-other, set-set, set-comm, set-getD, getD-take, drop-cons, ext-getD}
+use lib.ListN.{length, getD, set, take, length-set, replicate, length-replicate, getD-replicate}
+use lib.Seq.{length-take-le, take-suc-set, getD-set-same, getD-set-other, set-set, set-comm, set-getD, getD-take}
 use lib.Ieee.{Float, nan}
 use lib.Dec.{eqb}
 use borrow.Author.Tests.{eqb-true, eqb-false}
 use Rattle.doubles.specs.Num.{f0}
-use Rattle.doubles.specs.Lists.{_!_, _#_}
+use Rattle.doubles.specs.Lists.{_#_}
 use Rattle.doubles.specs.Limits.{places}
 use Rattle.doubles.specs.Loop.{run}
 use Rattle.doubles.proofs.Loops.{keeps}
-use Rattle.sparse.specs.Scattered.{Pat, pat, Sv, blank, touched, touchedBy, trues, Built, Wf, Good, Below, Within, listed, putAt, putTurn, loaded, clearTurn, cleared}
+use Rattle.sparse.specs.Scattered.{Pat, pat, Sv, blank, touched, touchedBy, trues, Built, Wf, Good, Below, Within, listed, putAt, putTurn, loaded}
 
 -- ---- the count of the marks
 
@@ -265,73 +265,6 @@ module _ {n : ℕ} (at : List ℕ) (xs : List Float) (m : ℕ) (w : Within n m a
   pub good-loaded : (s : Sv) → Good n s → Good n (loaded at xs m s)
   unfolding loaded
   good-loaded s g = good-loading s g m (le-refl m)
-
--- what holds while a vector is cleared: the listed places that are left are those marked
-pub record Clearing (n : ℕ) (l : List ℕ) (k : ℕ) (s : Sv) : Type 0 where
-  pub vals-long : length (s .vals) ≡ n
-  pub marks-long : length (s .pat .marks) ≡ n
-  pub list-long : length (s .pat .list) ≡ n
-  pub left : Built (drop k l) (s .pat .marks)
-  pub zeros : (j : ℕ) → j < n → getD (s .pat .marks) j false ≡ false → s .vals ! j ≡ f0
-
--- a place unmarked and set to 0.0
-zeros-clear : (v : List Float) (m : List Bool) (i j : ℕ) (b : Bool) → eqb j i ≡ b → i < length v → (getD m j false ≡ false → v ! j ≡ f0)
-    → getD (set m i false) j false ≡ false → set v i f0 ! j ≡ f0
-zeros-clear v m i j true e h z f = ap (λ (k : ℕ). set v i f0 ! k) (eqb-true j i e) ∙ getD-set-same v i f0 nan h
-zeros-clear v m i j false e h z f =
-    getD-set-other v i j f0 nan (eqb-false j i e) ∙ z (sym (getD-set-other m i j false false (eqb-false j i e)) ∙ f)
-
-module _ {n : ℕ} (s : Sv) (g : Good n s) where
-  abbrev lst : List ℕ
-  lst = take (s .pat .count) (s .pat .list)
-
-  clearing-turn : (k : ℕ) (t : Sv) → k < s .pat .count → Clearing n lst k t → Clearing n lst (k + 1) (clearTurn (s .pat .list) k t)
-  unfolding Built
-  clearing-turn k t h p =
-      let b = subst (λ (l : List ℕ). Built l (t .pat .marks)) (drop-cons lst k 0 (omega (arith, used-long (s .pat) (g .wf)))) (p .left) in
-      record {
-        vals-long = simp length-set (p .vals-long);
-        marks-long = simp length-set (p .marks-long);
-        list-long = p .list-long;
-        left = subst (λ (i : ℕ). Built (drop (k + 1) lst) (set (t .pat .marks) i false)) (getD-take (s .pat .count) (s .pat .list) k 0 h)
-            (subst (λ (j : ℕ). Built (drop j lst) (set (t .pat .marks) (getD lst k 0) false)) (sym (add-one k)) (b .2));
-        zeros = λ j l f. zeros-clear (t .vals) (t .pat .marks) (s .pat .list # k) j (eqb j (s .pat .list # k)) refl
-            (omega (arith, p .vals-long, wf-listed (s .pat) (g .wf) k h)) (λ u. p .zeros j l u) f;
-      }
-
-  pub clearing : (k : ℕ) → k ≤ s .pat .count → Clearing n lst k (run (clearTurn (s .pat .list)) k s)
-  clearing k h =
-      keeps (clearTurn (s .pat .list)) s (Clearing n lst) (s .pat .count) clearing-turn
-      (record { vals-long = g .vals-long; marks-long = g .wf .marks-long; list-long = g .wf .list-long; left = g .wf .built; zeros = g .zeros }) k h
-
-  pub good-cleared : Good n (cleared s)
-  unfolding cleared Built
-  good-cleared =
-      let p = clearing (s .pat .count) (le-refl (s .pat .count)) in
-      record {
-        vals-long = p .vals-long;
-        wf = record {
-          marks-long = p .marks-long;
-          list-long = p .list-long;
-          within = omega arith;
-          built = subst (λ (l : List ℕ). Built l (run (clearTurn (s .pat .list)) (s .pat .count) s .pat .marks))
-              (drop-of-length-le lst {i = s .pat .count} (omega (arith, used-long (s .pat) (g .wf)))) (p .left);
-        };
-        zeros = p .zeros;
-      }
-
-  -- `clear` leaves every place 0.0 and unmarked
-  pub cleared-blank : (cleared s .vals ≡ replicate n f0) × (cleared s .pat .marks ≡ replicate n false)
-  unfolding cleared
-  cleared-blank =
-      let t = cleared s in
-      let h = good-cleared in
-      let off = none-set (t .pat .marks) (wf-count (t .pat) (h .wf)) in (
-        ext-getD nan (t .vals) (replicate n f0) (h .vals-long ∙ sym (length-replicate n f0))
-            (λ j l. let d : j < n = omega (arith, h .vals-long) in h .zeros j d (off j) ∙ sym (getD-replicate n j f0 nan d)),
-        ext-getD false (t .pat .marks) (replicate n false) (h .wf .marks-long ∙ sym (length-replicate n false))
-            (λ j l. let d : j < n = omega (arith, h .wf .marks-long) in off j ∙ sym (getD-replicate n j false false d)),
-      )
 
 -- what fresh arrays hold is in order, and lists nothing
 pub good-blank : Good places blank

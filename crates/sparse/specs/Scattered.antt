@@ -67,26 +67,12 @@ putTurn at xs k s = putAt s (at # k) (xs ! k)
 unfoldable pub loaded : List ℕ → List Float → ℕ → Sv → Sv
 loaded at xs n s = run (putTurn at xs) n s
 
--- `clear`: the listed places set back to 0.0 and unmarked, and the list emptied. The list is read as it was
-abbrev pub clearTurn : List ℕ → ℕ → Sv → Sv
-clearTurn l k s = svOf (set (s .vals) (l # k) f0) (pat (set (s .pat .marks) (l # k) false) (s .pat .list) (s .pat .count))
-
-unfoldable pub cleared : Sv → Sv
-cleared s = let t = run (clearTurn (s .pat .list)) (s .pat .count) s in sv (t .vals) (t .pat .marks) (t .pat .list) 0
-
 -- `sq_norm`: 01: "Sums start at 0.0 and follow entry or listed order"
 abbrev pub squareTurn : Sv → ℕ → Float → Float
 squareTurn s k t = t ⊕ listedVal s k ⊗ listedVal s k
 
 unfoldable pub sqNorm : Sv → Float
 sqNorm s = run (squareTurn s) (s .pat .count) f0
-
--- `to_sparse_vec`: the listed values, in order, over the front of an array
-abbrev pub copyTurn : Sv → ℕ → List Float → List Float
-copyTurn s k l = set l k (listedVal s k)
-
-unfoldable pub copied : Sv → List Float → List Float
-copied s l = run (copyTurn s) (s .pat .count) l
 
 -- ---- what is always true of a vector
 

@@ -7,7 +7,7 @@ ghost use mathlib.Core.List.{List};
 ghost use Prim.Native.Nat.{_<_, _≤_};
 ghost use lib.ListN.{length};
 ghost use Rattle.doubles.specs.Limits.{places};
-ghost use Rattle.sparse.specs.Scattered.{pat, sv, touched, putAt, addAt, subAt, loaded, cleared, sqNorm, copied, Wf, Good, Within};
+ghost use Rattle.sparse.specs.Scattered.{pat, sv, touched, putAt, addAt, subAt, loaded, sqNorm, Wf, Good, Within};
 
 // 01: "A touched list grows at first touch". The new count is returned.
 pub fn touch(
@@ -106,26 +106,6 @@ pub fn load(
     c
 }
 
-// The listed places are set back to 0.0 and unmarked. The count after it is 0.
-pub fn clear(
-    values: &mut [f64; doubles::PLACES],
-    marks: &mut [bool; doubles::PLACES],
-    list: &[usize; doubles::PLACES],
-    count: usize,
-)
-    requires { ⌜ Good places (sv (now values) (now marks) (now list) count) ⌝ }
-    ensures { λ _. ⌜ sv (now (values .exit)) (now (marks .exit)) (now (list .entry)) 0
-        ≡ cleared (sv (now (values .entry)) (now (marks .entry)) (now (list .entry)) count) ⌝ }
-{
-    let mut k = 0;
-    while k < count {
-        let i = list[k];
-        values[i] = 0.0;
-        marks[i] = false;
-        k += 1;
-    }
-}
-
 // 01: "Sums start at 0.0 and follow entry or listed order". It reads no marks: they may be any.
 pub fn sq_norm(
     values: &[f64; doubles::PLACES],
@@ -143,22 +123,4 @@ pub fn sq_norm(
         k += 1;
     }
     sum
-}
-
-// `to_sparse_vec`: the listed values, in listed order, over the front of `out`.
-pub fn copy_out(
-    values: &[f64; doubles::PLACES],
-    list: &[usize; doubles::PLACES],
-    count: usize,
-    out: &mut [f64; doubles::PLACES],
-)
-    requires { ⌜ (count ≤ places) × Within places count (now list) ⌝ }
-    ensures { λ _. ⌜ ((m : List Bool) → now (out .exit) ≡ copied (sv (now (values .entry)) m (now (list .entry)) count) (now (out .entry))) ⌝ }
-{
-    let mut k = 0;
-    while k < count {
-        let i = list[k];
-        out[k] = values[i];
-        k += 1;
-    }
 }

@@ -10,7 +10,7 @@ use Rattle.doubles.specs.Loop.{all}
 use Rattle.lu_solve.specs.Solve.{tri, out, dense}
 use Rattle.lu_solve.proofs.Laws.{numbers-kept, length-dense}
 use Rattle.lu_gate.specs.Gate.{okTriangle, okNumbers, finiteAt}
-use Rattle.lu_gate.proofs.Laws.{Told, told, numbers-told}
+use Rattle.lu_gate.proofs.Laws.{told, numbers-told}
 use Rattle.lu.specs.Result.{solved, solveDense}
 use Rattle.lu.proofs.solve_dense.Statement.{statement}
 use Rattle.lu.proofs.solve_dense.Tie as tie
