@@ -41,7 +41,7 @@ typedef struct {
     size_t within;
 } TevalumiAnswer;
 
-/* columns 0 to 128, rows 0 to 64, entries 0 to 2,048, budget 0 to 10,000, tolerance 0 to 1.
+/* columns 0 to 128, rows 0 to 96, entries 0 to 2,048, budget 0 to 10,000, tolerance 0 to 1.
  * Read:
  *   costs, lowers, uppers          columns cells; a bound may be -inf or +inf
  *   starts                         rows + 1: the entries of row i are starts[i] up to starts[i + 1]
@@ -99,7 +99,7 @@ typedef struct {
     size_t places;
 } TriAnswer;
 
-/* size 0 to 64, entries 0 to 2,048.
+/* size 0 to 96, entries 0 to 4,560.
  * Read:
  *   starts       size + 1: the entries of column j are starts[j] up to starts[j + 1]
  *   rows, vals   entries: off-diagonal rows below (lower) or above (upper), in any order
@@ -174,7 +174,7 @@ TriAnswer tevalumi_solve_dense(
     double *values, size_t values_len);
 
 /* ---- The audit sheet ----
- * rows 0 to 64, columns 0 to 128, whole numbers, with their limits in size.
+ * rows 0 to 96, columns 0 to 128, whole numbers, with their limits in size.
  *   coefs                      rows * columns, row by row; 4,096
  *   costs                      columns; 2^20
  *   lowers, uppers             columns; 2^16; 0 where the bound is absent

@@ -12,7 +12,7 @@
 #define LEN(a) (sizeof(a) / sizeof((a)[0]))
 #define ARRAY(a) (a), LEN(a)
 
-enum { STACK = 1 << 20, PAINT = 0x5a, COLUMNS = 128, ROWS = 64, ENTRIES = 2048, ETA_COLUMNS = 256, ETA_ENTRIES = 4096 };
+enum { STACK = 1 << 20, PAINT = 0x5a, COLUMNS = 128, ROWS = 96, ENTRIES = 2048, ETA_COLUMNS = 256, ETA_ENTRIES = 4096 };
 
 static int passed;
 static int failed;
@@ -36,19 +36,19 @@ static void *solve(void *answer) {
     return NULL;
 }
 
-/* A chain of 64 places: the walk is as deep as it can be. */
+/* A chain of as many places as there may be: the walk is as deep as it can be. */
 static void *triangle(void *answer) {
-    static size_t starts[65], rows[63], list[64];
-    static double vals[63], values[64];
-    for (size_t j = 0; j < 63; j++) {
+    static size_t starts[ROWS + 1], rows[ROWS - 1], list[ROWS];
+    static double vals[ROWS - 1], values[ROWS];
+    for (size_t j = 0; j < ROWS - 1; j++) {
         starts[j] = j;
         rows[j] = j + 1;
         vals[j] = 1;
     }
-    starts[63] = starts[64] = 63;
+    starts[ROWS - 1] = starts[ROWS] = ROWS - 1;
     values[0] = 1;
-    TriAnswer a = tevalumi_lower_sparse(64, 63, ARRAY(starts), ARRAY(rows), ARRAY(vals), 0, NULL, 0, ARRAY(list), 1, ARRAY(values));
-    *(int *)answer = a.status == 0 && a.places == 64;
+    TriAnswer a = tevalumi_lower_sparse(ROWS, ROWS - 1, ARRAY(starts), ARRAY(rows), ARRAY(vals), 0, NULL, 0, ARRAY(list), 1, ARRAY(values));
+    *(int *)answer = a.status == 0 && a.places == ROWS;
     return NULL;
 }
 

@@ -210,10 +210,12 @@ fn largest() -> Plan {
         tolerance: 1e-6,
         ..Draft::default()
     };
-    for i in 0..64 {
-        let entry = |k: usize| (k * 4 + i % 4, 1.0 + ((i * k) % 5) as f64);
+    for i in 0..96 {
+        // 32 rows of 22 entries, then 64 of 21: 2,048.
+        let many = if i < 32 { 22 } else { 21 };
+        let entry = |k: usize| (k * 5 + i % 23, 1.0 + ((i * k) % 5) as f64);
         draft.rows.push(oracle::families::Row {
-            entries: (0..32).map(entry).collect(),
+            entries: (0..many).map(entry).collect(),
             op: 0,
             rhs: 100.0 + i as f64,
         });
@@ -229,7 +231,7 @@ fn largest() -> Plan {
 fn every_limit_and_one_past_it() {
     let plan = largest();
     let sizes = (plan.columns, plan.rows, plan.entries, plan.budget);
-    assert_eq!(sizes, (128, 64, 2048, 10_000));
+    assert_eq!(sizes, (128, 96, 2048, 10_000));
     let told = told(&plan);
     assert!(told.starts_with("largest 0 "), "{told}");
     assert_eq!(line(&plan, &Lengths::needed(&plan), true), told);
@@ -240,7 +242,7 @@ fn every_limit_and_one_past_it() {
         let length = needed(&plan, name) + 1;
         lend(&mut longer, name, length);
     }
-    longer.starts[65] = 2048;
+    longer.starts[97] = 2048;
     let past: [fn(&mut Plan, u64); 4] = [
         |plan, more| plan.columns = plan.columns.saturating_add(more),
         |plan, more| plan.rows = plan.rows.saturating_add(more),

@@ -143,7 +143,7 @@ fn kinds_come_before_lengths() {
 
 #[test]
 fn every_limit_and_one_past_it() {
-    for (rows, columns) in [(64, 128), (64, 0), (0, 128), (0, 0)] {
+    for (rows, columns) in [(96, 128), (96, 0), (0, 128), (0, 0)] {
         let mut sheet = Sheet {
             rows,
             columns,

@@ -51,6 +51,8 @@ pub struct Scale {
     pub edges: u64,
     pub sizes: u64,
     pub full: u64,
+    /// 65 to 96 rows.
+    pub tall: u64,
     pub wrecks: u64,
     /// Sheets without costs, on which no plan exists, or nearly.
     pub nones: u64,
@@ -71,6 +73,7 @@ pub const WHOLE: Scale = Scale {
     edges: 120,
     sizes: 200,
     full: 60,
+    tall: 320,
     wrecks: 150,
     nones: 2500,
     short: 0,
@@ -88,6 +91,7 @@ pub const FIXED: Scale = Scale {
     edges: 3,
     sizes: 0,
     full: 0,
+    tall: 0,
     wrecks: 4,
     nones: 0,
     short: 0,
@@ -1315,12 +1319,12 @@ fn limits_script(rng: &mut Rng, id: String) -> Block {
     script.block
 }
 
-/// The largest floor a true sheet can have: 2^61 + 2^57 + 2^53, with all 64 rows and 128 columns.
+/// The largest floor a true sheet can have: 3 * 2^60 + 3 * 2^56 + 2^53, with all 96 rows and 128 columns.
 fn floor_script(rng: &mut Rng, id: String) -> Block {
-    let (m, n) = (64usize, 128usize);
+    let (m, n) = (rf::ROWS as usize, rf::COLUMNS as usize);
     let mut s = Sheet {
-        rows: 64,
-        columns: 128,
+        rows: rf::ROWS,
+        columns: rf::COLUMNS,
         ..Sheet::default()
     };
     s.lend_kept();
@@ -1351,8 +1355,8 @@ fn floor_script(rng: &mut Rng, id: String) -> Block {
         let number = rng.pick(&[limit, -limit, 0, limit - 1, 1 - limit]);
         let edit = Edit {
             kind,
-            row: rng.below(64),
-            column: rng.below(128),
+            row: rng.below(rf::ROWS),
+            column: rng.below(rf::COLUMNS),
             number,
         };
         script.edit(edit);
@@ -1645,9 +1649,9 @@ pub fn blocks(seed: u64, scale: &Scale, see: &mut dyn FnMut(Block)) {
             0 => (0, rng.range(1, 9) as usize),
             1 => (rng.range(1, 9) as usize, 0),
             2 if k % 10 == 2 => (0, 0),
-            2 => (rng.pick(&[0, 1, 64]), rng.pick(&[0, 1, 128])),
+            2 => (rng.pick(&[0, 1, 96]), rng.pick(&[0, 1, 128])),
             3 => (rng.range(1, 16) as usize, rng.range(1, 24) as usize),
-            _ => (rng.range(1, 64) as usize, rng.range(1, 128) as usize),
+            _ => (rng.range(1, 96) as usize, rng.range(1, 128) as usize),
         };
         see(sized_script(&mut rng, format!("size{k}"), m, n, scale));
     }
@@ -1655,10 +1659,15 @@ pub fn blocks(seed: u64, scale: &Scale, see: &mut dyn FnMut(Block)) {
         see(sized_script(
             &mut rng(9, k),
             format!("full{k}"),
-            64,
-            128,
+            rf::ROWS as usize,
+            rf::COLUMNS as usize,
             scale,
         ));
+    }
+    for k in 0..scale.tall {
+        let mut rng = rng(13, k);
+        let (m, n) = (rng.range(65, 96) as usize, rng.range(1, 6) as usize);
+        see(sized_script(&mut rng, format!("tall{k}"), m, n, scale));
     }
     for k in 0..scale.wrecks {
         see(wreck_script(&mut rng(11, k), format!("wreck{k}")));

@@ -5,8 +5,8 @@
 //! Sums are worked out from scratch (`fresh`); an edit moves kept cells by the change in their
 //! terms as 01 says (`moved`), because on a damaged sheet the two differ.
 
-/// 01: "Same row and column limits" as a plan: 64 rows, 128 columns.
-pub const ROWS: u64 = 64;
+/// 01: "Same row and column limits" as a plan: 02 raises 64 rows to 96; 128 columns.
+pub const ROWS: u64 = 96;
 pub const COLUMNS: u64 = 128;
 
 /// 01: "coefficients in size up to 4,096, costs 2^20, right sides 2^31, finite bounds and amounts

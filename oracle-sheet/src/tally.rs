@@ -277,7 +277,8 @@ impl Tally {
             (0, _) => "sheets of 0 rows",
             (_, 0) => "sheets of 0 columns",
             (1, 1) => "sheets of 1 row and 1 column",
-            (64, 128) => "sheets of 64 rows and 128 columns",
+            (96, 128) => "sheets of 96 rows and 128 columns",
+            (65.., _) => "sheets of 65 rows or more",
             _ => "sheets of other sizes",
         };
         self.add(name);
@@ -608,8 +609,8 @@ fn limit_marks(sheet: &Sheet, is_true: bool, marks: &mut Vec<&'static str>) {
         "true sheets with both R and C at their sizes",
         r && kept.c.abs() == rf::KEPT_C,
     );
-    // 128 columns of D * bound, 64 rows of Y * rhs.
-    let largest = (1i128 << 61) + (1 << 57) + (1 << 53);
+    // 128 columns of D * bound, 96 rows of Y * rhs.
+    let largest = (3i128 << 60) + (3 << 56) + (1 << 53);
     see(
         "true sheets with B at the most it can be",
         kept.b.abs() == largest,
@@ -779,7 +780,8 @@ pub fn targets() -> Vec<(String, Wanted)> {
     want("sheets with longer arrays", 100);
     want("sheets whose bound passes an absent one's 0", 100);
     want("sheets of 1 row and 1 column", 100);
-    want("sheets of 64 rows and 128 columns", 100);
+    want("sheets of 96 rows and 128 columns", 100);
+    want("sheets of 65 rows or more", 300);
     want("sheets of 0 rows", 20);
     want("sheets of 0 columns", 20);
     want("sheets of 0 rows and 0 columns", 10);

@@ -381,14 +381,14 @@ fn dropped(rng: &mut Rng, sink: &mut Sink) {
     }
 }
 
-/// 64 rows and 128 columns, up to 2,048 entries.
-fn big_draft(rng: &mut Rng, coef: &mut dyn FnMut(&mut Rng) -> f64) -> Draft {
+/// Some rows and 128 columns, up to 2,048 entries.
+fn big_draft(rng: &mut Rng, rows: u64, coef: &mut dyn FnMut(&mut Rng) -> f64) -> Draft {
     let mut draft = Draft::new();
     for _ in 0..limits::COLUMNS {
         let upper = rng.pick(&[INF, INF, INF, 4.0, 50.0]);
         draft.column(rng.whole(20), 0.0, upper);
     }
-    for _ in 0..limits::ROWS {
+    for _ in 0..rows {
         let mut entries = random_entries(draft.columns(), rng, 5, coef);
         entries.truncate((limits::ENTRIES as usize).saturating_sub(draft.entries()));
         let op = rng.pick(&[LE, LE, LE, LE, GE]);
@@ -398,14 +398,42 @@ fn big_draft(rng: &mut Rng, coef: &mut dyn FnMut(&mut Rng) -> f64) -> Draft {
     draft
 }
 
+/// Some rows and few columns, some rows of them empty.
+fn tall_draft(rng: &mut Rng, rows: usize) -> Draft {
+    let mut draft = Draft::new();
+    let columns = rng.between(1, 12);
+    for _ in 0..columns {
+        let upper = rng.pick(&[INF, INF, 7.0]);
+        draft.column(rng.whole(9), 0.0, upper);
+    }
+    for _ in 0..rows {
+        let entries = random_entries(columns, rng, 3, &mut |rng| rng.whole(9));
+        let slack = rng.between(0, 40) as f64;
+        draft.row_inside(entries, rng.pick(&[LE, LE, EQ, GE]), slack);
+    }
+    draft
+}
+
 fn big(rng: &mut Rng, sink: &mut Sink) {
     for _ in 0..110 {
-        let draft = big_draft(rng, &mut |rng| 1.0 + rng.whole(9).abs());
+        let draft = big_draft(rng, limits::ROWS, &mut |rng| 1.0 + rng.whole(9).abs());
         sink.draft(&draft);
     }
     for _ in 0..110 {
-        let draft = big_draft(rng, &mut |rng| rng.whole(9) + rng.unit());
+        let draft = big_draft(rng, limits::ROWS, &mut |rng| rng.whole(9) + rng.unit());
         sink.draft(&draft);
+    }
+    // What 02 adds: 65 to 96 rows.
+    for rows in 65..=limits::ROWS {
+        for _ in 0..12 {
+            let draft = big_draft(rng, rows, &mut |rng| 1.0 + rng.whole(9).abs());
+            sink.draft(&draft);
+        }
+        for _ in 0..24 {
+            let mut draft = tall_draft(rng, rows as usize);
+            draft.budget = rng.pick(&[limits::BUDGET, limits::BUDGET, 3]);
+            sink.draft(&draft);
+        }
     }
 }
 
@@ -457,7 +485,7 @@ fn limits_and_past(rng: &mut Rng, sink: &mut Sink) {
         for columns in [0, 1, 127, 128, 129] {
             sink.draft(&sized_draft(rng, columns, 2, columns.min(20)));
         }
-        for rows in [0, 1, 63, 64, 65] {
+        for rows in [0, 1, 64, 65, 95, 96, 97] {
             sink.draft(&sized_draft(rng, 3, rows, rows.min(20)));
         }
         for entries in [0, 1, 2047, 2048, 2049] {
@@ -797,7 +825,7 @@ fn spent(rng: &mut Rng, sink: &mut Sink) {
 
 /// 22 by entries: many rows, so that each exchange adds many entries.
 fn store_entries(rng: &mut Rng, sink: &mut Sink) {
-    let make = || big_draft(rng, &mut |rng| rng.whole(9) + rng.unit());
+    let make = || big_draft(rng, limits::ROWS, &mut |rng| rng.whole(9) + rng.unit());
     search(30, sink, make, |outcome, _| {
         outcome == Outcome::NoRoom(Room::Entries)
     });

@@ -105,7 +105,7 @@ pub fn solve(plan: &Plan) -> Answer {
 /// Refusal 1.
 fn too_large_or_short(plan: &Plan) -> bool {
     let (columns, rows, entries) = (plan.columns, plan.rows, plan.entries);
-    if columns > 128 || rows > 64 || entries > 2048 || plan.budget > 10_000 {
+    if columns > 128 || rows > 96 || entries > 2048 || plan.budget > 10_000 {
         return true;
     }
 

@@ -37,14 +37,14 @@ pub enum ComparisonOp {
     Ge,
 }
 
-/// 01's limits, each named once.
+/// 01's limits with 02's numbers, each named once.
 pub mod limits {
     pub const COLUMNS: u64 = 128;
-    pub const ROWS: u64 = 64;
+    pub const ROWS: u64 = 96;
     pub const ENTRIES: u64 = 2_048;
     pub const BUDGET: u64 = 10_000;
     pub const ETA_COLUMNS: u64 = 256;
     pub const ETA_ENTRIES: u64 = 4_096;
-    pub const TRI_PLACES: u64 = 64;
-    pub const TRI_ENTRIES: u64 = 2_048;
+    pub const TRI_PLACES: u64 = 96;
+    pub const TRI_ENTRIES: u64 = 4_560;
 }

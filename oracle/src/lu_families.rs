@@ -110,7 +110,7 @@ fn tuples(of: &[f64], length: usize) -> Vec<Vec<f64>> {
         .collect()
 }
 
-/// Sizes 0 to 64, each 100 times, either triangle dense or sparse.
+/// Every size, each 100 times, either triangle dense or sparse.
 fn sizes(rng: &mut Rng, sink: &mut Sink) {
     for size in 0..=limits::TRI_PLACES as usize {
         for index in 0..100 {
@@ -129,10 +129,11 @@ fn sizes(rng: &mut Rng, sink: &mut Sink) {
     }
 }
 
-/// 64 places, and 2,000 or more entries in each triangle; some have all 2,048, by repeated rows.
+/// 96 places, and all 4,560 entries in each triangle, or some fewer and then up to all by repeated rows.
 fn full(rng: &mut Rng, sink: &mut Sink) {
     let size = limits::TRI_PLACES as usize;
     for index in 0..60 {
+        let size = size - usize::from(index % 4 == 0);
         let mut factors = random(rng, size, [1, 1], false);
         if index % 4 == 0 {
             for tri in [&mut factors.lower, &mut factors.upper] {
@@ -475,11 +476,11 @@ impl Survey {
             }
         }
         let entries = factors.lower.entries.min(factors.upper.entries);
-        if factors.size() == limits::TRI_PLACES && entries >= 2_000 {
-            self.tick("64 places and 2,000 entries in each");
+        if factors.size() == limits::TRI_PLACES && entries > 4_500 {
+            self.tick("96 places and over 4,500 entries in each");
         }
         if entries == limits::TRI_ENTRIES {
-            self.tick("2,048 entries in each");
+            self.tick("4,560 entries in each");
         }
         if not_finite(&after_lower(factors)) {
             self.tick("a number between that isn't finite");
@@ -531,8 +532,8 @@ impl Survey {
             (500, "lower sparse"),
             (500, "upper dense"),
             (500, "upper sparse"),
-            (50, "64 places and 2,000 entries in each"),
-            (10, "2,048 entries in each"),
+            (40, "96 places and over 4,500 entries in each"),
+            (10, "4,560 entries in each"),
             (500, "a number between that isn't finite"),
             (500, "a NaN result"),
             (500, "an infinite result"),

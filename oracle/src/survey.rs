@@ -57,7 +57,10 @@ impl Survey {
         }
 
         if plan.rows == limits::ROWS && plan.columns == limits::COLUMNS && answer.state.is_some() {
-            self.count("64 rows and 128 columns");
+            self.count("96 rows and 128 columns");
+        }
+        if plan.rows > 64 && answer.state.is_some() {
+            self.count("runs with 65 to 96 rows");
         }
         if answer.steps > 60 {
             self.count("runs of over 60 steps");
@@ -128,7 +131,8 @@ impl Survey {
             (100, "24 by a column"),
             (100, "24 by a slack"),
             (100, "24 by a row"),
-            (200, "64 rows and 128 columns"),
+            (200, "96 rows and 128 columns"),
+            (1_000, "runs with 65 to 96 rows"),
             (200, "runs of over 60 steps"),
             (1_000, "runs with dropped rows"),
             (100_000, "family tiny"),

@@ -191,7 +191,7 @@ fn random(rng: &mut Rng, size: usize, sparse: usize, wild: bool) -> Tri {
     tri
 }
 
-/// Sizes 0 to 64, each 120 times.
+/// Every size, each 120 times.
 fn sizes(rng: &mut Rng, sink: &mut Sink) {
     for size in 0..=limits::TRI_PLACES as usize {
         for index in 0..120 {
@@ -202,13 +202,13 @@ fn sizes(rng: &mut Rng, sink: &mut Sink) {
     }
 }
 
-/// 64 places and 2,000 or more entries: every column's rows, some in any order, some repeated.
+/// 96 places and 4,560 entries, all that there is room for: every column's rows, some in any order, some repeated.
 fn full(rng: &mut Rng, sink: &mut Sink) {
     let size = limits::TRI_PLACES as usize;
     for _ in 0..110 {
         let mut tri = random(rng, size, 1, false);
-        // All 2,016 places below or above the diagonal are drawn, up to 2,048 may be stored.
-        assert!(tri.entries >= 2_000);
+        // As many are drawn as there are places below or above the diagonal, and that many may be stored.
+        assert!(tri.entries == limits::TRI_ENTRIES);
         if tri.list.is_empty() {
             tri.list.push(rng.below(size) as u64);
             tri.lvals.push(1.0);
@@ -225,8 +225,8 @@ fn bad_shapes(rng: &mut Rng, sink: &mut Sink) {
         let col = rng.below(size);
         let entry = rng.below(tri.entries as usize);
         match index % 14 {
-            0 => tri.size = rng.pick(&[65, 66, 1 << 32, u64::MAX]),
-            1 => tri.entries = rng.pick(&[2049, 1 << 32, u64::MAX]),
+            0 => tri.size = rng.pick(&[limits::TRI_PLACES + 1, limits::TRI_PLACES + 2, 1 << 32, u64::MAX]),
+            1 => tri.entries = rng.pick(&[limits::TRI_ENTRIES + 1, 1 << 32, u64::MAX]),
             2 => tri.starts[0] = rng.pick(&[1, u64::MAX]),
             3 => tri.starts[col] = rng.pick(&[tri.entries + 1, u64::MAX]),
             4 => *tri.starts.last_mut().unwrap() -= 1,
@@ -323,7 +323,7 @@ fn bad_lists(rng: &mut Rng, sink: &mut Sink) {
         }
         let at = rng.below(tri.list.len());
         if index % 2 == 0 {
-            tri.list[at] = rng.pick(&[tri.size, tri.size + 1, 64, 1 << 32, u64::MAX]);
+            tri.list[at] = rng.pick(&[tri.size, tri.size + 1, limits::TRI_PLACES, 1 << 32, u64::MAX]);
             tri.lvals[at] = rng.pick(&[1.0, f64::NAN]);
         } else {
             tri.list[at] = tri.list[(at + 1) % tri.list.len()];
@@ -353,8 +353,14 @@ impl Survey {
             return;
         }
         *self.sizes.entry(tri.size).or_default() += 1;
-        if tri.size == limits::TRI_PLACES && tri.entries >= 2_000 {
-            count("64 places and 2,000 entries");
+        if tri.size == limits::TRI_PLACES && tri.entries == limits::TRI_ENTRIES {
+            count("96 places and 4,560 entries");
+        }
+        if tri.entries > 2_048 {
+            count("over 2,048 entries");
+        }
+        if tri.size > 64 {
+            count("65 to 96 places");
         }
         for col in 0..tri.size as usize {
             let rows = &tri.rows[tri.starts[col] as usize..tri.starts[col + 1] as usize];
@@ -397,7 +403,9 @@ impl Survey {
             ("refusal 1", 1_000),
             ("refusal 2", 1_000),
             ("refusal 3", 1_000),
-            ("64 places and 2,000 entries", 100),
+            ("96 places and 4,560 entries", 100),
+            ("over 2,048 entries", 300),
+            ("65 to 96 places", 1_000),
             ("a repeated row", 1_000),
             ("a NaN result", 100),
             ("an infinite result", 100),

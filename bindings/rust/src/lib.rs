@@ -44,7 +44,7 @@ Change `use minilp::…` to `use tevalumi::…`. What differs:
 
 | minilp 0.2.2 | here |
 |---|---|
-| any size | at most 128 variables, 64 constraints and 2,048 terms, else error 1 |
+| any size | at most 128 variables, 96 constraints and 2,048 terms, else error 1 |
 | any start | each constraint must hold where the variables start (below), else error 7 |
 | runs until it is done | at most [`Problem::set_budget`] steps (10,000 unless set), else error 21 |
 | no check of the result | every value and constraint is checked within [`Problem::set_tolerance`] (1e-6 unless set), else error 24 |

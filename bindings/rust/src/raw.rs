@@ -39,14 +39,16 @@
 
 use crate::ffi;
 
-/// The limits of document 01, each named once.
+/// The limits of document 01 with document 02's numbers, each named once.
 pub mod limits {
     /// Columns (variables) of a plan or a sheet.
     pub const COLUMNS: usize = 128;
     /// Rows (constraints) of a plan or a sheet, empty ones counted.
-    pub const ROWS: usize = 64;
+    pub const ROWS: usize = 96;
     /// Stored entries of a plan, stored zeros counted.
     pub const ENTRIES: usize = 2_048;
+    /// Entries beside a triangle's diagonal.
+    pub const TRIANGLE_ENTRIES: usize = 4_560;
     /// The largest step budget.
     pub const BUDGET: usize = 10_000;
     /// The largest tolerance of the final check; the smallest is 0.

@@ -93,7 +93,7 @@ impl fmt::Display for Verdict {
 /// What a sheet is opened with: a plan in whole numbers, amounts, and multipliers.
 #[derive(Clone, Debug, Default, PartialEq, Eq)]
 pub struct Figures {
-    /// Rows: at most 64.
+    /// Rows: at most 96.
     pub rows: usize,
     /// Columns: at most 128.
     pub columns: usize,

@@ -63,9 +63,9 @@ use crate::ffi;
 pub struct Triangle<'a> {
     /// Whether the entries stand above the diagonal, not below it.
     pub upper: bool,
-    /// Rows and columns: at most 64.
+    /// Rows and columns: at most 96.
     pub size: usize,
-    /// Entries beside the diagonal: at most 2,048.
+    /// Entries beside the diagonal: at most 4,560.
     pub entries: usize,
     /// Where each column's entries start, and at the end the entry count: `size + 1` cells.
     pub starts: &'a [usize],

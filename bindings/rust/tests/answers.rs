@@ -32,7 +32,7 @@ fn error(problem: &Problem) -> Error {
     problem.solve().unwrap_err()
 }
 
-/// Many rows and many steps: each exchange adds up to 64 entries to the store.
+/// Many rows and many steps: each exchange adds up to 96 entries to the store.
 fn crowded() -> Problem {
     let mut rng = Rng(1);
     let mut problem = minimise();
@@ -175,14 +175,14 @@ fn each_limit_is_named() {
     );
 
     let mut problem = minimise();
-    for _ in 0..64 {
+    for _ in 0..96 {
         problem.add_constraint(LinearExpr::empty(), LE, 0.0);
     }
     assert!(problem.solve().is_ok());
     problem.add_constraint(LinearExpr::empty(), LE, 0.0);
     assert_eq!(
         error(&problem).to_string(),
-        "1: 65 constraints are too many, at most 64 are allowed"
+        "1: 97 constraints are too many, at most 96 are allowed"
     );
 
     let mut problem = minimise();

@@ -1,15 +1,20 @@
 -- The limits of 01, one name each. src/lib.rt has the same names for the code: no limit is written anywhere else. Assumes nothing.
 use Prim.Native.Nat.{ℕ, _+_, _^_}
 
--- 01: "0 to 128 columns; 0 to 64 rows, empty ones counted; 0 to 2,048 entries; budget 0 to 10,000"
+-- 01: "0 to 128 columns; 0 to 64 rows, empty ones counted; 0 to 2,048 entries; budget 0 to 10,000"; 02: "Raise 64 rows
+-- to 96, in solver, triangles and sheet"
 abbrev pub maxColumns : ℕ
 maxColumns = 128
 
 abbrev pub maxRows : ℕ
-maxRows = 64
+maxRows = 96
 
 abbrev pub maxEntries : ℕ
 maxEntries = 2048
+
+-- 02: "a triangle then takes 4,560 entries, all that a factor can fill": 96 * 95 / 2
+abbrev pub maxTriEntries : ℕ
+maxTriEntries = 4560
 
 abbrev pub maxBudget : ℕ
 maxBudget = 10000
@@ -21,7 +26,7 @@ etaColumns = 256
 abbrev pub etaEntries : ℕ
 etaEntries = 4096
 
--- a scattered vector has a place for each column or row: rows are never more than columns
+-- a scattered vector has a place for each column or each row: the limit of columns is the larger of the two
 abbrev pub places : ℕ
 places = 128
 

@@ -9,9 +9,11 @@ pub const EPS: f64 = 1e-8;
 // The limits of 01. specs/Limits.antt has the same names for the definitions.
 pub const MAX_COLUMNS: usize = 128;
 
-pub const MAX_ROWS: usize = 64;
+pub const MAX_ROWS: usize = 96;
 
 pub const MAX_ENTRIES: usize = 2048;
+
+pub const MAX_TRI_ENTRIES: usize = 4560;
 
 pub const MAX_BUDGET: usize = 10000;
 

@@ -12,7 +12,7 @@ use lib.Dec.{leb, ltb, eqb}
 use lib.Ieee.{Float, eq}
 use borrow.Author.Tests.{leb-true, leb-false, ltb-true, ltb-false, lt-ltb, eqb-true, eqb-false, not-true, not-false}
 use Rattle.doubles.specs.Num.{f0, finite}
-use Rattle.doubles.specs.Limits.{maxRows, maxEntries}
+use Rattle.doubles.specs.Limits.{maxRows, maxTriEntries}
 use Rattle.doubles.specs.Loop.{all}
 use Rattle.doubles.specs.Lists.{_!_, _#_}
 use Rattle.doubles.proofs.Loops.{both-true, all-at, all-missed}
@@ -128,7 +128,7 @@ module _ (t : Tri) (e m : ℕ) where
   s = t .shape .starts
 
   abbrev Sizes : Type 0
-  Sizes = ((((((maxRows < n) ⊎ (maxEntries < e)) ⊎ (length s ≤ n)) ⊎ (length (t .shape .rows) < e)) ⊎ (length (t .vals) < e)) ⊎ ((t .hasDiag ≡ true) × (length (t .diag) < n))) ⊎ (m < n)
+  Sizes = ((((((maxRows < n) ⊎ (maxTriEntries < e)) ⊎ (length s ≤ n)) ⊎ (length (t .shape .rows) < e)) ⊎ (length (t .vals) < e)) ⊎ ((t .hasDiag ≡ true) × (length (t .diag) < n))) ⊎ (m < n)
 
   t-sizes : Tests (sizesOf t e m) Sizes
   t-sizes = t-and (t-and (t-and (t-and (t-and (t-and (t-leb _ _) (t-leb _ _)) (t-ltb _ _)) (t-leb _ _)) (t-leb _ _)) (t-if (t .hasDiag) (t-leb _ _))) (t-leb _ _)

@@ -9,7 +9,7 @@ use Prim.Native.Nat.{ℕ, _+_, _<_, _≤_}
 use lib.ListN.{length}
 use lib.Ieee.{Float, eq}
 use Rattle.doubles.specs.Num.{f0, finite}
-use Rattle.doubles.specs.Limits.{maxRows, maxEntries}
+use Rattle.doubles.specs.Limits.{maxRows, maxTriEntries}
 use Rattle.doubles.specs.Lists.{_!_, _#_}
 use Rattle.lu_walk.specs.Walk.{many, kid}
 use Rattle.lu_solve.specs.Solve.{Tri}
@@ -22,9 +22,9 @@ NotBeyond false c r = c ≤ r
 
 -- 1, of a triangle with e entries and m cells of values
 pub data BadTriangle (t : Tri) (e m : ℕ) : Type 0 where
-  -- "At most 64 places, 2,048 entries", and no array is too short
+  -- 01's limits with 02's numbers, 96 places and 4,560 entries, and no array is too short
   too-many-places : maxRows < t .shape .size → BadTriangle t e m
-  too-many-entries : maxEntries < e → BadTriangle t e m
+  too-many-entries : maxTriEntries < e → BadTriangle t e m
   starts-short : length (t .shape .starts) ≤ t .shape .size → BadTriangle t e m
   rows-short : length (t .shape .rows) < e → BadTriangle t e m
   numbers-short : length (t .vals) < e → BadTriangle t e m

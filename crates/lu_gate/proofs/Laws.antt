@@ -8,7 +8,7 @@ use lib.ListN.{length, getD}
 use lib.Dec.{leb, ltb, eqb}
 use lib.Ieee.{Float}
 use borrow.Author.Tests.{leb-true, ltb-true, ltb-false, eqb-true, not-true}
-use Rattle.doubles.specs.Limits.{maxRows, maxEntries}
+use Rattle.doubles.specs.Limits.{maxRows, maxTriEntries}
 use Rattle.doubles.specs.Lists.{_#_}
 use Rattle.doubles.proofs.Loops.{both-true, all-at}
 use Rattle.lu_walk.specs.Walk.{Shape, many, kid, leftBy}
@@ -37,7 +37,7 @@ sized n e s r x h d v o =
     let c = both-true _ (leb e x) (b .0) in
     let f = both-true _ (leb e r) (c .0) in
     let g = both-true _ (ltb n s) (f .0) in
-    let k = both-true (leb n maxRows) (leb e maxEntries) (g .0) in
+    let k = both-true (leb n maxRows) (leb e maxTriEntries) (g .0) in
     record {
       small = leb-true _ _ (k .0);
       starts-long = ltb-true _ _ (g .1);

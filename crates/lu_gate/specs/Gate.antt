@@ -7,7 +7,7 @@ use lib.ListN.{length, getD}
 use lib.Dec.{leb, ltb, eqb}
 use lib.Ieee.{Float, eq}
 use Rattle.doubles.specs.Num.{f0, finite}
-use Rattle.doubles.specs.Limits.{maxRows, maxEntries}
+use Rattle.doubles.specs.Limits.{maxRows, maxTriEntries}
 use Rattle.doubles.specs.Loop.{all}
 use Rattle.doubles.specs.Lists.{_!_, _#_}
 use Rattle.lu_walk.specs.Walk.{Shape, many, kid}
@@ -15,9 +15,9 @@ use Rattle.lu_solve.specs.Solve.{Tri, given}
 
 -- ---- 1: "a bad size or start, an off-diagonal row too large or not below (lower) or above (upper), a diagonal of 0"
 
--- 01: "At most 64 places, 2,048 entries", and no lent array too short: n places, e entries, and the lengths of starts, rows, numbers, diagonal, values
+-- 01's limits with 02's numbers, 96 places and 4,560 entries, and no lent array too short: n places, e entries, and the lengths of starts, rows, numbers, diagonal, values
 abbrev pub okSizes : ℕ → ℕ → ℕ → ℕ → ℕ → Bool → ℕ → ℕ → Bool
-okSizes n e s r x h d v = (((((leb n maxRows && leb e maxEntries) && ltb n s) && leb e r) && leb e x) && (not h || leb n d)) && leb n v
+okSizes n e s r x h d v = (((((leb n maxRows && leb e maxTriEntries) && ltb n s) && leb e r) && leb e x) && (not h || leb n d)) && leb n v
 
 -- the starts begin at 0, don't fall, and end at the entry count
 abbrev pub risesAt : List ℕ → ℕ → Bool

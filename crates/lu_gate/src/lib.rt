@@ -12,7 +12,7 @@ ghost use Rattle.lu_walk.specs.Walk.{shape};
 ghost use Rattle.lu_solve.specs.Solve.{tri};
 ghost use Rattle.lu_gate.specs.Gate.{okSizes, okStarts, beyond, okColumn, okRows, okDiag, okTriangle, finiteAt, okNumbers, okHeld, okList, Readable};
 
-// 01: "At most 64 places, 2,048 entries". Longer arrays are fine.
+// 02: 96 places, "a triangle then takes 4,560 entries". Longer arrays are fine.
 fn sizes_ok(
     size: usize,
     entries: usize,
@@ -26,7 +26,7 @@ fn sizes_ok(
     ensures { λ r. ⌜ r ≡ okSizes size entries starts rows vals «has_diag» diag values ⌝ }
 {
     (size <= doubles::MAX_ROWS)
-        & (entries <= doubles::MAX_ENTRIES)
+        & (entries <= doubles::MAX_TRI_ENTRIES)
         & (size < starts)
         & (entries <= rows)
         & (entries <= vals)

@@ -7,7 +7,7 @@
 // Room past the limits: a triangle may say that it is too large.
 const PLACES: usize = doubles::MAX_ROWS + 16;
 
-const ENTRIES: usize = doubles::MAX_ENTRIES + 16;
+const ENTRIES: usize = doubles::MAX_TRI_ENTRIES + 16;
 
 fn dense(
     lower: bool,

@@ -140,9 +140,9 @@ fn tri_kind(tri: &Tri, answer: &TriAnswer) -> (bool, bool, u8, u64, bool, bool) 
     let size = match tri.size {
         0 | 1 => tri.size,
         2..=8 => 2,
-        9..=63 => 9,
-        limits::TRI_PLACES => 64,
-        _ => 65,
+        9..limits::TRI_PLACES => 9,
+        limits::TRI_PLACES => 96,
+        _ => 97,
     };
     let any = |test: &dyn Fn(&f64) -> bool| answer.sparse.iter().chain(&answer.dense).any(test);
     let (nan, infinite) = (any(&|x| x.is_nan()), any(&|x| x.is_infinite()));

@@ -51,7 +51,7 @@ pub const HELP_SOLVE: &str = "\
 usage: tevalumi solve [OPTIONS] FILE
 
 Solves the plan in FILE (- is standard input) and prints the status with its number and a
-sentence, the objective, the steps, and the values by name. At most 128 columns, 64 rows and
+sentence, the objective, the steps, and the values by name. At most 128 columns, 96 rows and
 2,048 entries.
 
 The run begins with each column at the bound that its cost wants: below 0 the upper one, else the
