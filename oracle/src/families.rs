@@ -138,7 +138,7 @@ impl Sink<'_> {
 
 type Make = fn(&mut Rng, &mut Sink);
 
-pub const FAMILIES: [(&str, Make); 23] = [
+pub const FAMILIES: [(&str, Make); 24] = [
     ("tiny", tiny),
     ("plain", plain),
     ("ties", ties),
@@ -162,6 +162,7 @@ pub const FAMILIES: [(&str, Make); 23] = [
     ("strict", strict),
     ("wild", wild),
     ("damaged", damaged),
+    ("free", free_columns),
 ];
 
 /// Makes the plans of all families whose name `wanted` accepts, in order.
@@ -1340,5 +1341,65 @@ fn damaged(rng: &mut Rng, sink: &mut Sink) {
             _ => plan.budget = rng.below(3) as u64,
         }
         sink.plan(plan);
+    }
+}
+
+// ---- the filter of 02's Ask 4
+
+const UNDER_EPS: f64 = f64::from_bits(1e-8_f64.to_bits() - 1);
+const OVER_EPS: f64 = f64::from_bits(1e-8_f64.to_bits() + 1);
+
+/// The prices around which a column at neither bound turns: zeros, EPS and the doubles beside it.
+pub const TURNING: [(&str, f64); 8] = [
+    ("0.0", 0.0),
+    ("-0.0", -0.0),
+    ("just under EPS", UNDER_EPS),
+    ("just under EPS below 0", -UNDER_EPS),
+    ("EPS", 1e-8),
+    ("-EPS", -1e-8),
+    ("just over EPS", OVER_EPS),
+    ("just over EPS below 0", -OVER_EPS),
+];
+
+/// The first free column of a plan of the family "free" has each turning price, in a row and in none,
+/// in turn.
+pub const FREE_KINDS: usize = 2 * TURNING.len();
+
+/// Free columns of these prices: in rows of their own, in others' rows and in none; beside them up to
+/// three columns that enter, and others at a bound with the same prices.
+fn free_columns(rng: &mut Rng, sink: &mut Sink) {
+    for index in 0..160 * FREE_KINDS {
+        let mut draft = Draft::new();
+        let (_, price) = TURNING[index % TURNING.len()];
+        let in_row = index % FREE_KINDS < TURNING.len();
+        draft.column(price, -INF, INF);
+        if in_row {
+            let slack = rng.pick(&[0.0, 1.0, 7.0]);
+            let coef = rng.pick(&[1.0, -1.0, 2.0, -0.5]);
+            draft.row_inside(vec![(0, coef)], rng.pick(&[LE, GE, EQ]), slack);
+        }
+        for _ in 0..rng.below(4) {
+            let col = draft.columns();
+            draft.column(-1.0 - rng.below(9) as f64, 0.0, rng.pick(&[INF, INF, 3.0]));
+            let mut entries = vec![(col, rng.between(1, 4) as f64)];
+            if in_row && rng.one_in(3) {
+                entries.insert(0, (0, rng.pick(&[1.0, -1.0, 3.0])));
+            }
+            let slack = rng.between(0, 9) as f64;
+            draft.row_inside(entries, LE, slack);
+        }
+        for _ in 0..rng.below(3) {
+            let (_, price) = rng.pick(&TURNING);
+            let (lower, upper) = rng.pick(&[(-INF, INF), (0.0, INF), (-INF, 0.0), (-1.0, 1.0)]);
+            let col = draft.columns();
+            draft.column(price, lower, upper);
+            if rng.one_in(2) {
+                draft.row_inside(vec![(col, rng.whole(2))], rng.pick(&[LE, GE]), 5.0);
+            }
+        }
+        if rng.one_in(4) {
+            draft.budget = rng.below(3) as u64;
+        }
+        sink.draft(&draft);
     }
 }

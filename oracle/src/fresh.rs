@@ -1,4 +1,4 @@
-//! A second solver, written from document 01 alone, plain and slow. It shares no code with
+//! A second solver, written from documents 01 and 02 alone, plain and slow. It shares no code with
 //! solver.rs; a test compares the two, so that a mistake in putting the oracle together shows.
 
 use crate::answer::{Answer, Named, Outcome, Rejected, Room, StartNumber, State};
@@ -372,7 +372,11 @@ fn step(rules: &Rules, now: &Now, budget: u64) -> Result<Option<Now>, Outcome> {
     let mut entering: Option<(usize, f64)> = None;
     for c in 0..rules.columns {
         let price = now.price[c];
-        if now.at_lower[c] && price > -EPS || now.at_upper[c] && price < EPS {
+        // It would rise or fall by its price, and isn't at the bound in the way. 02: "a column at
+        // neither bound enters only if its price's size is at least EPS".
+        let may_rise = price <= -EPS && !now.at_upper[c];
+        let may_fall = price >= EPS && !now.at_lower[c];
+        if !may_rise && !may_fall {
             continue;
         }
         let score = price * price / now.norm[c];

@@ -1,9 +1,9 @@
-//! The oracle: the shown text of minilp 0.2.2 put together with the rules of document 01.
+//! The oracle: the shown text of minilp 0.2.2 put together with the rules of documents 01 and 02.
 //!
 //! `sparse`, `lu` and `solver` are the shown text. Each place where a rule or a correction of
-//! document 01 is put in is marked `// ours:` with its words. `shown` holds the shown parts that
-//! 01 leaves out and that only `--shown` runs. `fresh` is a second solver, written from 01 alone;
-//! only tests use it.
+//! document 01, or of 02, is put in is marked `// ours:` with its words. `shown` holds the shown
+//! parts that 01 leaves out and that only `--shown` runs. `fresh` is a second solver, written from
+//! 01 and 02 alone; only tests use it.
 //!
 //! `ComparisonOp` is from minilp 0.2.2, src/lib.rs, Apache-2.0, changed (another order).
 

@@ -9,7 +9,7 @@ use crate::{
     sparse::{Error, Perm, SparseMat, TriangleMat},
 };
 
-/// One correction of document 01 that can be switched off.
+/// One correction of document 01, or of 02 where it says so, that can be switched off.
 #[derive(Clone, Copy, Debug, PartialEq, Eq, Hash)]
 pub enum Correction {
     /// "a row with an infinite bound ahead is no candidate in pass two"
@@ -27,10 +27,13 @@ pub enum Correction {
     /// "Sums start at 0.0": as Recalc, with the start of Rust's sum(), which is -0.0. The other
     /// sums by sum() are of squares with 1.0 added, where no start of zero can be seen.
     SumStart,
+    /// 02, Ask 4: "a column at neither bound enters only if its price's size is at least EPS". The
+    /// shown filter lets it enter at any price.
+    FreeFilter,
 }
 
 impl Correction {
-    pub const ALL: [Correction; 7] = [
+    pub const ALL: [Correction; 8] = [
         Correction::InfiniteRow,
         Correction::StaleHelper,
         Correction::NanBounds,
@@ -38,6 +41,7 @@ impl Correction {
         Correction::Norms,
         Correction::Recalc,
         Correction::SumStart,
+        Correction::FreeFilter,
     ];
 
     pub fn name(self) -> &'static str {
@@ -49,6 +53,7 @@ impl Correction {
             Correction::Norms => "norms",
             Correction::Recalc => "recalc",
             Correction::SumStart => "sum",
+            Correction::FreeFilter => "free-filter",
         }
     }
 }

@@ -1,7 +1,8 @@
-//! From minilp 0.2.2, src/solver.rs, Apache-2.0, changed: document 01's rules and corrections are
-//! put in, each marked `// ours:` with 01's words. Left out: the dual choice and dual norms,
-//! restore_feasibility, fix_var and unfix_var, add_constraint, Gomory cuts, logging and the parts
-//! that only these use. lu_factorize and recalc_obj_coeffs stand in shown.rs.
+//! From minilp 0.2.2, src/solver.rs, Apache-2.0, changed: the rules and corrections of document 01,
+//! and of 02 where it says so, are put in, each marked `// ours:` with their words. Left out: the
+//! dual choice and dual norms, restore_feasibility, fix_var and unfix_var, add_constraint, Gomory
+//! cuts, logging and the parts that only these use. lu_factorize and recalc_obj_coeffs stand in
+//! shown.rs.
 
 use crate::{
     answer::{Named, Outcome, Rejected, Room, StartNumber, State},
@@ -429,8 +430,14 @@ impl Solver {
                 .filter_map(|(col, (&obj_coeff, var_state))| {
                     // Choose only among non-basic vars that can be changed
                     // with objective decreasing.
+                    // ours, 02: "a column at neither bound enters only if its price's size is at
+                    // least EPS".
+                    let is_free = !var_state.at_min && !var_state.at_max;
                     if (var_state.at_min && obj_coeff > -EPS)
                         || (var_state.at_max && obj_coeff < EPS)
+                        || (is_free
+                            && obj_coeff.abs() < EPS
+                            && !self.options.shows(Correction::FreeFilter))
                     {
                         None
                     } else {

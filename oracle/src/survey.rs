@@ -4,8 +4,8 @@
 use std::collections::{BTreeMap, HashSet};
 use std::hash::{DefaultHasher, Hash, Hasher};
 
-use crate::answer::{Answer, Named, Outcome, Rejected, Room, StartNumber};
-use crate::families::{bad_number_kind, BAD_NUMBERS};
+use crate::answer::{Answer, Named, Outcome, Rejected, Room, StartNumber, State};
+use crate::families::{bad_number_kind, BAD_NUMBERS, FREE_KINDS, TURNING};
 use crate::gate;
 use crate::limits;
 use crate::plan::Plan;
@@ -69,9 +69,35 @@ impl Survey {
             if (state.kept.len() as u64) < plan.rows {
                 self.count("runs with dropped rows");
             }
+            self.add_free(plan, answer, state);
         }
         if let Some((family, _)) = family(plan) {
             self.count(format!("family {}", family));
+        }
+    }
+
+    /// Free columns of a turning price that are left when the run ends, with its answer, or that a run
+    /// of one step took in. A price of zero counts after a step: a dual feasible start asks nothing.
+    fn add_free(&mut self, plan: &Plan, answer: &Answer, state: &State) {
+        for col in 0..plan.columns as usize {
+            if plan.lower[col].is_finite() || plan.upper[col].is_finite() {
+                continue;
+            }
+            let (price, what) = match state.nonbasic.iter().position(|&var| var == col) {
+                Some(at) if state.price[at] == 0.0 && answer.steps == 0 => continue,
+                Some(at) => (
+                    state.price[at],
+                    format!("left, answer {}", answer.outcome.number()),
+                ),
+                // Its price was its cost.
+                None if answer.steps == 1 => (plan.cost[col], "entered".to_string()),
+                None => continue,
+            };
+            let same = |(_, turning): &&(&str, f64)| turning.to_bits() == price.to_bits();
+            if let Some((name, _)) = TURNING.iter().find(same) {
+                let in_row = plan.cols[..plan.entries as usize].contains(&(col as u64));
+                self.count(free_column(name, in_row, &what));
+            }
         }
     }
 
@@ -141,12 +167,24 @@ impl Survey {
             (1_000, "family ties"),
             (1_000, "family wild"),
             (1_000, "family damaged"),
+            (1_000, "family free"),
         ] {
             at_least(least, name.into());
         }
         for named in Named::ALL {
             if !UNREACHED.contains(&named) {
                 at_least(20, format!("23 by {}", named.name()));
+            }
+        }
+        // In no row nothing stops a free column that enters: 20.
+        for (name, price) in TURNING {
+            for in_row in [true, false] {
+                let what = match (price.abs() < 1e-8, in_row) {
+                    (true, _) => "left, answer 0",
+                    (false, true) => "entered",
+                    (false, false) => "left, answer 20",
+                };
+                at_least(20, free_column(name, in_row, what));
             }
         }
         at_least(20, "23 by objective on a flip".into());
@@ -174,6 +212,12 @@ pub fn met(targets: &[(String, u64, u64)]) -> bool {
 
 /// Places of document 01's order that no plan reaches; families::named says why.
 pub const UNREACHED: [Named; 2] = [Named::Leaving, Named::Eta];
+
+/// The name of a count of free columns.
+fn free_column(price: &str, in_row: bool, what: &str) -> String {
+    let place = if in_row { "in a row" } else { "in no row" };
+    format!("free column of price {} {}: {}", price, place, what)
+}
 
 /// The family of a plan and its number there, from its name.
 fn family(plan: &Plan) -> Option<(&str, usize)> {
@@ -204,9 +248,12 @@ impl Fixed {
         let answer = gate::solve(plan, Options::default());
         let (family, index) = family(plan).unwrap_or(("", 0));
         let kind = match answer.outcome {
-            // The families "short" and "number" go through their kinds in turn.
+            // The families "short", "number" and "free" go through their kinds in turn.
             Outcome::BadSize if family == "short" => format!("1, {}", index % 92),
             Outcome::BadNumber if family == "number" => bad_number_kind(index).to_string(),
+            outcome if family == "free" => {
+                format!("{}, {}", outcome.number(), index % FREE_KINDS)
+            }
             Outcome::BadEntry { .. } => "3".to_string(),
             Outcome::CrossedBounds { .. } => "4".to_string(),
             Outcome::FalseEmptyRow { .. } => "5".to_string(),
@@ -218,6 +265,7 @@ impl Fixed {
             22 => (1, usize::MAX),
             1 | 2 => (1, 700),
             3..=7 => (4, 700),
+            _ if family == "free" => (1, 900),
             _ => (2, 900),
         };
         let taken = self.taken.entry((family.to_string(), kind)).or_default();

@@ -102,7 +102,7 @@ fn fixed_pairs_as_kept() {
     );
 }
 
-/// The solver written from 01 alone gives the same answers, places, values and states. Of the
+/// The solver written from 01 and 02 alone gives the same answers, places, values and states. Of the
 /// family "cycle", whose runs are long, every 45th plan is tried.
 #[test]
 fn the_second_solver_agrees() {

@@ -145,6 +145,18 @@ fn empty_problems() {
     assert_eq!(multipliers, [0.0, 1.0, 0.0, 0.0]);
 }
 
+/// A variable with no bounds, no coefficient and no constraint has nothing to gain: no error 20.
+#[test]
+fn an_idle_variable_stays() {
+    let mut problem = Problem::new(OptimizationDirection::Maximize);
+    let idle = problem.add_var(0.0, (f64::NEG_INFINITY, f64::INFINITY));
+    let sold = problem.add_var(1.0, (0.0, f64::INFINITY));
+    problem.add_constraint([(sold, 1.0)], ComparisonOp::Le, 4.0);
+    let solution = problem.solve().unwrap();
+    assert_eq!(solution.objective(), 4.0);
+    assert_eq!((solution[idle], solution[sold]), (0.0, 4.0));
+}
+
 #[test]
 fn bounds_of_every_kind() {
     let mut problem = Problem::new(OptimizationDirection::Minimize);

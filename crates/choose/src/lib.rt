@@ -1,6 +1,6 @@
 // The choice of the entering column.
 // From minilp 0.2.2, src/solver.rs, choose_pivot, Apache-2.0, changed: the choice stands apart from the
-// ratio, and the bounds of a variable are looked up.
+// ratio, the bounds of a variable are looked up, and a column at neither bound needs a price.
 ghost use mathlib.Core.Path.{_≡_};
 ghost use mathlib.Core.List.{[]};
 ghost use Prim.Native.Nat.{_<_, _≤_, _+_};
@@ -13,13 +13,16 @@ ghost use Rattle.choose.specs.Lent.{nonBasicOf, Places, Choosing};
 ghost use Rattle.choose.specs.Parts.{column, betterOf, sideOf};
 
 // 01: "Filter as shown": at its lower bound a column enters only with a price of at most -EPS, at its
-// upper bound only with one of at least EPS.
+// upper bound only with one of at least EPS. 02: "a column at neither bound enters only if its price's
+// size is at least EPS".
 pub fn may_enter(f: rules::NonBasicVarState, price: f64) -> bool
     ensures { λ r. ⌜ r ≡ mayEnter f price ⌝ }
 {
     let at_min = f.at_min;
     let at_max = f.at_max;
-    !((at_min & (-doubles::EPS < price)) | (at_max & (price < doubles::EPS)))
+    !((at_min & (-doubles::EPS < price))
+        | (at_max & (price < doubles::EPS))
+        | (!at_min & !at_max & doubles::under_eps(price)))
 }
 
 // The best column so far and its score; `col` is n where there is none.

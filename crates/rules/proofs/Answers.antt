@@ -8,8 +8,9 @@ use native.Mathlib.Omega.{arith}
 use mathlib.Core.List.{List}
 use lib.ListN.{length, take, drop}
 use lib.Seq.{take-at}
-use lib.Ieee.{Float}
+use lib.Ieee.{Float, le}
 use borrow.Author.Tests.{eq-eqb, ne-eqb}
+use Rattle.doubles.specs.Num.{eps, size}
 use Rattle.doubles.specs.Loop.{until}
 use Rattle.doubles.specs.Lists.{over}
 use Rattle.doubles.proofs.Bools.{never}
@@ -24,6 +25,7 @@ use Rattle.rules.specs.Solve.{Solved, checkedAnswer, answerOf, valuesAft
 use Rattle.rules.specs.Conditions.{NoneBelow, Checks, StopsWith, Halts, reached, written, Ends, Line, optimal, unbounded, spent, store-full, not-finite, value-rejected, row-rejected}
 use Rattle.rules.specs.Steps.{Steps, none, one-more, Reached, RunsTo}
 use Rattle.rules.proofs.Refusals.{Case, refused, accepted, cases}
+use Rattle.rules.proofs.EnteringColumn.{entering-priced, enters-exactly}
 use Rattle.rules.proofs.FinalCheck.{final-check}
 use Rattle.rules.proofs.Stops.{step-stops}
 use Rattle.rules.proofs.Steps.{step-counts, steps-same, end-reached}
@@ -37,6 +39,13 @@ use Rattle.rules.specs.declared.Checked.the-variants.{Passed, Value, Row
 use Rattle.rules.specs.declared.Answer.{Answer}
 
 -- ---- the run
+
+-- with no column that enters it ends there
+pub none-enters : (P : Problem) (k : ℕ) (s : State) → choose P (s .ws) ≡ Nothing → until (next P) (atBudget P) k s ≡ ended Finished s
+unfolding until next atBudget
+none-enters P zero s q = rw (q, atBudget) refl
+none-enters P (suc k) s q = rw (q, until, next) refl
+
 module _ (P : Problem) (goes : dualFeasible (P .plan) ≡ false) where
   -- with k steps left
   abbrev runs : ℕ → State → Ended
@@ -88,11 +97,6 @@ module _ (P : Problem) (goes : dualFeasible (P .plan) ≡ false) where
       goes-on r n (suc j) (omega arith) ∙ turn
 
   -- and where the words of an end hold, it ends
-  none-enters : (k : ℕ) (s : State) → choose P (s .ws) ≡ Nothing → runs k s ≡ ended Finished s
-  unfolding until next atBudget
-  none-enters zero s q = rw (q, atBudget) refl
-  none-enters (suc k) s q = rw (q, until, next) refl
-
   halts : (k : ℕ) (s : State) (w : Stop) → s .steps + k ≡ P .plan .budget → Halts P s w → runs k s ≡ ended w s
   unfolding until next
   halts zero s w l h = absurd (omega (arith, h .2))
@@ -100,7 +104,7 @@ module _ (P : Problem) (goes : dualFeasible (P .plan) ≡ false) where
 
   ends-there : (k : ℕ) (s : State) (w : Stop) → s .steps + k ≡ P .plan .budget → Ends P s w → runs k s ≡ ended w s
   unfolding until atBudget Ends
-  ends-there k s Finished l h = ⊎-elim (λ d. never (d .0) goes) (λ q. none-enters k s (q .1)) h
+  ends-there k s Finished l h = ⊎-elim (λ d. never (d .0) goes) (λ q. none-enters P k s (q .1)) h
   ends-there zero s Stop·Spent l h = rw (h .1 .1, atBudget) refl
   ends-there (suc k) s Stop·Spent l h = absurd (omega (arith, h .2))
   ends-there k s Stop·Unbounded l h = halts k s Stop·Unbounded l h
@@ -214,6 +218,35 @@ module _ (p : Plan) (m : Memory) where
     pub answer-exact : (asRow (solvePlan p m .answer) ≡ t)
         ↔ (NoneBelow 8 p m × ((s : State) × RunsTo p m s × Line (problemOf p) s t))
     answer-exact = exact (cases p m)
+
+-- ---- 20. 02: "a column at neither bound enters only if its price's size is at least EPS. This amends the step rule and
+-- 20"
+entered : {P : Problem} {s : State} {t : Told} → Line P s t → t .number ≡ 20 → (e : Entering) × (choose P (s .ws) ≡ Enters e)
+unfolding Ends
+entered (optimal h g) q = absurd (omega arith)
+entered (value-rejected v h g) q = absurd (omega arith)
+entered (row-rejected r h g) q = absurd (omega arith)
+entered (spent h) q = absurd (omega arith)
+entered (unbounded h) q = (h .0, h .1 .1)
+entered (store-full h) q = absurd (omega arith)
+entered (not-finite h) q = absurd (omega arith)
+
+module _ (p : Plan) (m : Memory) where
+  abbrev ByPrice : Type 0
+  ByPrice = (e : Entering) × (choose (problemOf p) (reached p m .ws) ≡ Enters e) × (le eps (size (e .price)) ≡ true)
+
+  by-price : {r : Solved} → Case p m r → numberOf (r .answer) ≡ 20 → ByPrice
+  unfolding close
+  by-price (refused k l h g n says) q = absurd (omega (arith, says .number))
+  by-price (accepted n) q =
+      let P = problemOf p in
+      let w = reached p m .ws in
+      let x = entered (end-line p m) q in
+      (x .0, x .1, entering-priced P w (x .0) (enters-exactly P w (x .0) .0 (x .1)))
+
+  -- it comes only by a column whose price's size is at least EPS
+  pub unbounded-priced : numberOf (solvePlan p m .answer) ≡ 20 → (e : Entering) × (choose (problemOf p) (reached p m .ws) ≡ Enters e) × (le eps (size (e .price)) ≡ true)
+  unbounded-priced = by-price (cases p m)
 
 -- ---- what the lent memory holds afterwards
 passed : {P : Problem} {s : State} {t : Told} → Line P s t → t .number ≡ 0 → Checks P (valuesOf P (s .ws)) Passed

@@ -2,11 +2,11 @@
 use mathlib.Core.Path.{_≡_, refl, sym, ap, _∙_, subst}
 use mathlib.Core.Bool.{Bool, true, false, not, _&&_, _||_}
 use mathlib.Core.Logic.{_↔_}
-use Prim.Native.Nat.{ℕ}
+use Prim.Native.Nat.{ℕ, _+_, _*_}
 use native.Mathlib.Omega.{arith}
-use borrow.Author.Tests.{lt-ltb, le-ltb, not-true}
+use borrow.Author.Tests.{ltb-true, lt-ltb, le-ltb, not-true}
 use lib.Dec.{ltb}
-use lib.Ieee.{Float, nan, inf, fin, mul, div, lt, neg, isNan, ofBits}
+use lib.Ieee.{Float, nan, inf, fin, mul, div, lt, le, neg, isNan, ofBits, up, down}
 use Rattle.doubles.specs.Num.{_⊖_, eps, -inf, size}
 use Rattle.doubles.specs.Lists.{_!_, _#_}
 use Rattle.doubles.proofs.Tests.{not-both, false-by}
@@ -20,15 +20,19 @@ use Rattle.rules.specs.declared.Entering.{Entering}
 use Rattle.rules.specs.declared.Choice.{Choice}
 use Rattle.rules.specs.declared.Choice.the-variants.{Enters, Nothing}
 
--- ---- the filter. 01: "Filter as shown"
-neither : (a x b y : Bool) → not ((a && x) || (b && y)) ≡ true ↔ ((a ≡ true → x ≡ false) × (b ≡ true → y ≡ false))
-neither false x false y = (λ h. (λ p. cc, λ p. cc), λ h. refl)
-neither false x true y = (λ h. (λ p. cc, λ p. not-true y h), λ h. rw (h .1 refl))
-neither true false false y = (λ h. (λ p. refl, λ p. cc), λ h. refl)
-neither true false true y = (λ h. (λ p. refl, λ p. not-true y h), λ h. rw (h .1 refl))
-neither true true b y = (λ h. absurd (not-both h refl), λ h. absurd (not-both refl (h .0 refl)))
+-- ---- the filter. 01: "Filter as shown"; 02: "a column at neither bound enters only if its price's size is at least
+-- EPS"
+three : (a b x y z : Bool)
+    → not ((a && x) || (b && y) || (not a && not b && z)) ≡ true ↔ ((a ≡ true → x ≡ false) × (b ≡ true → y ≡ false) × (a ≡ false → b ≡ false → z ≡ false))
+three false false x y z = (λ h. (λ p. cc, λ p. cc, λ p q. not-true z h), λ h. rw (h .2 refl refl))
+three false true x false z = (λ h. (λ p. cc, λ p. refl, λ p q. cc), λ h. refl)
+three false true x true z = (λ h. absurd (not-both h refl), λ h. absurd (not-both refl (h .1 refl)))
+three true false false y z = (λ h. (λ p. refl, λ p. cc, λ p q. cc), λ h. refl)
+three true true false false z = (λ h. (λ p. refl, λ p. refl, λ p q. cc), λ h. refl)
+three true true false true z = (λ h. absurd (not-both h refl), λ h. absurd (not-both refl (h .1 refl)))
+three true b true y z = (λ h. absurd (not-both h refl), λ h. absurd (not-both refl (h .0 refl)))
 
-eps-number : isNan eps ≡ false
+pub eps-number : isNan eps ≡ false
 unfolding isNan ofBits
 eps-number = refl
 
@@ -36,14 +40,24 @@ minus-eps-number : isNan (neg eps) ≡ false
 unfolding isNan neg ofBits
 minus-eps-number = refl
 
+pub size-number : (x : Float) → isNan x ≡ false → isNan (size x) ≡ false
+unfolding isNan size
+size-number nan p = p
+size-number (inf s) p = refl
+size-number (fin s m e) p = refl
+
 pub filter-means : (f : NonBasicVarState) (price : Float) → isNan price ≡ false → mayEnter f price ≡ true ↔ MayEnter f price
 unfolding mayEnter
 filter-means f price p =
-    let n = neither (f .«at_min») (lt (neg eps) price) (f .«at_max») (lt price eps) in (
+    let n = three (f .«at_min») (f .«at_max») (lt (neg eps) price) (lt price eps) (lt (size price) eps) in (
       λ h.
           let b = n .0 h in
-          record { lower = λ q. le-total (neg eps) price minus-eps-number p (b .0 q); upper = λ q. le-total price eps p eps-number (b .1 q) },
-      λ m. n .1 (λ q. le-not-lt price (neg eps) (m .lower q), λ q. le-not-lt eps price (m .upper q)),
+          record {
+            lower = λ q. le-total (neg eps) price minus-eps-number p (b .0 q);
+            upper = λ q. le-total price eps p eps-number (b .1 q);
+            neither = λ q r. le-total (size price) eps (size-number price p) eps-number (b .2 q r);
+          },
+      λ m. n .1 (λ q. le-not-lt price (neg eps) (m .lower q), λ q. le-not-lt eps price (m .upper q), λ q r. le-not-lt eps (size price) (m .neither q r)),
     )
 
 -- a column at both bounds, as a fixed one is, never enters
@@ -57,19 +71,48 @@ fixed-never f price p a b =
     signs : lt (neg eps) eps ≡ true
     signs = unfold lt neg ofBits in refl
 
--- a column at neither bound always may
-pub free-always : (f : NonBasicVarState) (price : Float) → f .«at_min» ≡ false → f .«at_max» ≡ false → mayEnter f price ≡ true
-unfolding mayEnter
-free-always f price a b = rw (a, b)
+-- one at neither bound may exactly when its price's size is at least EPS
+pub free-exactly : (f : NonBasicVarState) (price : Float) → isNan price ≡ false → f .«at_min» ≡ false → f .«at_max» ≡ false → mayEnter f price ≡ true ↔ le eps (size price) ≡ true
+free-exactly f price p a b =
+    let m = filter-means f price p in
+    (λ h. m .0 h .neither a b, λ s. m .1 (record { lower = λ q. absurd (not-both q a); upper = λ q. absurd (not-both q b); neither = λ q r. s }))
 
--- a price of exactly -EPS at the lower bound enters
-pub at-eps-enters : mayEnter (record { «at_min» = true; «at_max» = false }) (neg eps) ≡ true
-unfolding mayEnter lt neg ofBits
-at-eps-enters = refl
+-- a price of exactly EPS in size, with the sign of the move, enters: at the lower bound, at the upper bound, and at
+-- neither in both directions
+pub at-eps-enters : (mayEnter (record { «at_min» = true; «at_max» = false }) (neg eps) ≡ true)
+    × (mayEnter (record { «at_min» = false; «at_max» = true }) eps ≡ true)
+    × (mayEnter (record { «at_min» = false; «at_max» = false }) (neg eps) ≡ true)
+    × (mayEnter (record { «at_min» = false; «at_max» = false }) eps ≡ true)
+unfolding mayEnter lt neg size ofBits
+at-eps-enters = (refl, refl, refl, refl)
+
+-- what is under y in size lies between -y and y
+between : (x y : Float) → lt (size x) y ≡ true → (lt (neg y) x ≡ true) × (lt x y ≡ true)
+unfolding lt neg size
+between nan y h = absurd (not-both h refl)
+between (inf s) nan h = absurd (not-both h refl)
+between (inf s) (inf t) h = absurd (not-both h refl)
+between (inf s) (fin t n d) h = absurd (not-both h refl)
+between (fin s m e) nan h = absurd (not-both h refl)
+between (fin s m e) (inf true) h = absurd (not-both h refl)
+between (fin s m e) (inf false) h = (refl, refl)
+between (fin s m e) (fin true n d) h = absurd (not-both h refl)
+between (fin false m e) (fin false n d) h = (lt-ltb 0 (n * up d * down e + m * up e * down d) (omega (arith, ltb-true (m * up e * down d) (n * up d * down e) h)), h)
+between (fin true m e) (fin false n d) h = (h, lt-ltb 0 (m * up e * down d + n * up d * down e) (omega (arith, ltb-true (m * up e * down d) (n * up d * down e) h)))
+
+-- so no column enters with a price under EPS in size, wherever it stands
+pub under-eps-never : (f : NonBasicVarState) (price : Float) → lt (size price) eps ≡ true → mayEnter f price ≡ false
+unfolding mayEnter
+under-eps-never f price h = false-by (λ q. go (f .«at_min») (f .«at_max») (three _ _ (lt (neg eps) price) (lt price eps) (lt (size price) eps) .0 q))
+  where
+    go : (a b : Bool) → (a ≡ true → lt (neg eps) price ≡ false) × (b ≡ true → lt price eps ≡ false) × (a ≡ false → b ≡ false → lt (size price) eps ≡ false) → ⊥
+    go true b n = not-both (between price eps h .0) (n .0 refl)
+    go false true n = not-both (between price eps h .1) (n .1 refl)
+    go false false n = not-both h (n .2 refl refl)
 
 -- ---- the choice
 -- a NaN scores NaN, which isn't above -inf
-price-number : (price norm : Float) → lt -inf (scoreOf price norm) ≡ true → isNan price ≡ false
+pub price-number : (price norm : Float) → lt -inf (scoreOf price norm) ≡ true → isNan price ≡ false
 unfolding scoreOf mul div lt isNan
 price-number nan norm h = cc
 price-number (inf s) norm h = refl
@@ -79,6 +122,14 @@ price-number (fin s m e) norm h = refl
 pub entering-allowed : (P : Problem) (w : Workspace) (e : Entering) → IsEntering P w e → MayEnter (flagsOf (w .nbVarStates # e .col)) (e .price)
 entering-allowed P w e a =
     rw (a .price-is) (filter-means (flagsOf (w .nbVarStates # e .col)) (w .nbVarObjCoeffs ! e .col) (price-number _ _ (a .scores)) .0 (a .wins .passes))
+
+-- 02 of 20 and of every step: the entering column has a price of at least EPS in size
+pub entering-priced : (P : Problem) (w : Workspace) (e : Entering) → IsEntering P w e → le eps (size (e .price)) ≡ true
+entering-priced P w e a =
+    let p = price-number _ _ (a .scores) in
+    rw (a .price-is)
+    (le-total (size (w .nbVarObjCoeffs ! e .col)) eps (size-number _ p) eps-number
+    (false-by (λ h. not-both (a .wins .passes) (under-eps-never (flagsOf (w .nbVarStates # e .col)) (w .nbVarObjCoeffs ! e .col) h))))
 
 module _ (P : Problem) (w : Workspace) where
   -- its column settles it, and no other column is one

@@ -18,4 +18,5 @@ pub mod Refusals
 pub mod FinalCheck
 pub mod Stops
 pub mod Answers
+pub mod DualStart
 pub mod Ran

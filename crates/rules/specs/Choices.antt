@@ -21,10 +21,11 @@ use Rattle.rules.specs.declared.Ratio.the-variants.{Pivot, Unbounded, No
 -- ---- the entering column
 
 -- "Filter as shown": at its lower bound a column enters only with a price of at most -EPS, at its upper bound only with
--- one of at least EPS
+-- one of at least EPS. 02: "a column at neither bound enters only if its price's size is at least EPS"
 pub record MayEnter (f : NonBasicVarState) (price : Float) : Type 0 where
   pub lower : f .«at_min» ≡ true → le price (neg eps) ≡ true
   pub upper : f .«at_max» ≡ true → le eps price ≡ true
+  pub neither : f .«at_min» ≡ false → f .«at_max» ≡ false → le eps (size price) ≡ true
 
 -- "The entering column travels with its price, score and distance"; "score is price * price / norm; strictly largest
 -- wins, first on a tie": it passes the filter, no column that passes has a larger score, and none before it an equal

@@ -1,4 +1,5 @@
--- 01, "One step": the entering column. From minilp 0.2.2, src/solver.rs, choose_pivot, Apache-2.0, changed. Assumes nothing.
+-- 01, "One step": the entering column, its filter as 02 has it. From minilp 0.2.2, src/solver.rs, choose_pivot,
+-- Apache-2.0, changed. Assumes nothing.
 use mathlib.Core.Bool.{Bool, true, false, not, _&&_, _||_}
 use Prim.Native.Nat.{ℕ}
 use lib.Dec.{ltb}
@@ -12,9 +13,14 @@ use Rattle.rules.specs.declared.Entering.{Entering}
 use Rattle.rules.specs.declared.Choice.{Choice}
 use Rattle.rules.specs.declared.Choice.the-variants.{Enters, Nothing}
 
--- "Filter as shown": a column at its lower bound enters only with a price of at most -EPS, one at its upper bound only with one of at least EPS
+-- "Filter as shown": a column at its lower bound enters only with a price of at most -EPS, one at its upper bound only
+-- with one of at least EPS.
+-- 02: "a column at neither bound enters only if its price's size is at least EPS"
 unfoldable pub mayEnter : NonBasicVarState → Float → Bool
-mayEnter f price = not ((f .«at_min» && lt (neg eps) price) || (f .«at_max» && lt price eps))
+mayEnter f price =
+    not ((f .«at_min» && lt (neg eps) price)
+    || (f .«at_max» && lt price eps)
+    || (not (f .«at_min») && not (f .«at_max») && lt (size price) eps))
 
 -- "score is price * price / norm"
 unfoldable pub scoreOf : Float → Float → Float

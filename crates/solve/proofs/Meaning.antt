@@ -4,8 +4,11 @@ use mathlib.Core.Path.{_≡_, refl, sym, ap, _∙_, subst}
 use mathlib.Core.Bool.{true}
 use mathlib.Core.Logic.{_↔_, _⊎_}
 use Prim.Native.Nat.{ℕ, _*_, _<_, _≤_}
+use lib.Ieee.{le}
+use Rattle.doubles.specs.Num.{eps, size}
 use Rattle.rules.specs.Plan.{Plan, Memory, State, problemOf, mOf}
 use Rattle.rules.specs.Start.{startState, dualFeasible}
+use Rattle.rules.specs.Choose.{choose}
 use Rattle.rules.specs.Basis.{etaUsed}
 use Rattle.rules.specs.Step.{Ended, ended}
 use Rattle.rules.specs.FinalCheck.{valuesOf, finalCheck}
@@ -14,10 +17,12 @@ use Rattle.rules.specs.Solve.{Solved, checkedAnswer, answerOf, close, endOf, so
 use Rattle.rules.specs.Conditions.{Gives, NoneBelow, Refusal, Checks, reached, written, Ends, Line}
 use Rattle.rules.specs.Invariant.{Maps, Numbers}
 use Rattle.rules.specs.Steps.{Steps, RunsTo, LentTails, Ran}
+use Rattle.rules.specs.declared.Entering.{Entering}
+use Rattle.rules.specs.declared.Choice.the-variants.{Enters}
 use Rattle.rules.specs.declared.Stop.{Stop}
 use Rattle.rules.specs.declared.Checked.the-variants.{Passed}
 use Rattle.rules.proofs.Refusals.{refusal-exact, refusal-says}
-use Rattle.rules.proofs.Answers.{at-once, end-exact, answer-exact, optimal-writes, values-left}
+use Rattle.rules.proofs.Answers.{at-once, end-exact, answer-exact, unbounded-priced, optimal-writes, values-left}
 use Rattle.rules.proofs.Steps.{steps-same}
 use Rattle.rules.proofs.Ran.{solved-closes, solved-ran}
 
@@ -75,6 +80,15 @@ module _ (p : Plan) (m : Memory) (r : Solved) (e : Promised p m r) where
   -- 01: "20 to 24 leave the values array alone", and refusals do
   pub values-stay : ¬ (numberOf (r .answer) ≡ 0) → r .memory .values ≡ m .values
   values-stay = subst (λ (x : Solved). ¬ (numberOf (x .answer) ≡ 0) → x .memory .values ≡ m .values) (sym e) (values-left p m)
+
+  -- 02: "a column at neither bound enters only if its price's size is at least EPS. This amends the step rule and 20":
+  -- wherever it stands, the column by which 20 comes has such a price
+  pub unbounded-by-price : numberOf (r .answer) ≡ 20
+      → (f : Entering) × (choose (problemOf p) (reached p m .ws) ≡ Enters f) × (le eps (size (f .price)) ≡ true)
+  unbounded-by-price =
+      subst (λ (x : Solved). numberOf (x .answer) ≡ 20
+      → (f : Entering) × (choose (problemOf p) (reached p m .ws) ≡ Enters f) × (le eps (size (f .price)) ≡ true))
+      (sym e) (unbounded-priced p m)
 
   -- 01: "Answers 0 and 20 to 24 carry the objective and step count of that state"; "the workspace then holds the state
   -- after the last whole step"

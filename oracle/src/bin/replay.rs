@@ -214,8 +214,9 @@ fn plans() -> Result<List, String> {
     Ok(list)
 }
 
-/// Number, sort of place, what its reason is, and steps up to 4.
-fn plan_kind(answer: &Answer) -> (u8, String, Option<&'static str>, u64) {
+/// Number, sort of place, what its reason is, steps up to 4, and whether a column is left at neither
+/// bound with a price of about EPS or less, where 02's filter decides.
+fn plan_kind(answer: &Answer) -> (u8, String, Option<&'static str>, u64, bool) {
     let line = answer_line("", answer, Extras::default());
     let place = line.split(' ').nth(2).unwrap_or_default();
     (
@@ -223,6 +224,10 @@ fn plan_kind(answer: &Answer) -> (u8, String, Option<&'static str>, u64) {
         place.chars().take(1).collect(),
         answer.outcome.why(),
         answer.steps.min(4),
+        answer.state.as_ref().is_some_and(|state| {
+            let mut places = state.flags.iter().zip(&state.price);
+            places.any(|(&flags, price)| flags == 0 && price.abs() < 2e-8)
+        }),
     )
 }
 

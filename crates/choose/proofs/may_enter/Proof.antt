@@ -1,12 +1,15 @@
 -- `choose::may_enter`: the definition's own test. Assumes nothing.
-use mathlib.Core.Path.{refl}
+use borrow.Author.Needs.{needs}
 use Rattle.rules.specs.Choose.{mayEnter}
 use Rattle.choose.proofs.may_enter.Statement.{statement}
 use Rattle.choose.proofs.may_enter.Tie as tie
 
+under-eps-requires : tie.Need-under-eps-requires
+under-eps-requires c κs = search needs
+
 returns : tie.Need-returns
 unfolding mayEnter
-returns c = refl
+returns c = rw (c .under-eps .ensures)
 
 pub may-enter-spec : {M : Type 1} → statement M
-may-enter-spec = tie.close (tie.spec returns)
+may-enter-spec = tie.close (tie.spec under-eps-requires returns)
