@@ -159,7 +159,7 @@ fn every_limit_and_one_past_it() {
         let mut lent = Arrays::lend(&sheet, |_| 8192);
         assert_eq!(lent.open(rows, columns), 0);
         assert_eq!(lent.verdict(rows, columns), Verdict::Gap(0));
-        for (rows, columns) in [(65, columns), (rows, 129), (u64::MAX, 1), (1, u64::MAX)] {
+        for (rows, columns) in [(97, columns), (rows, 129), (u64::MAX, 1), (1, u64::MAX)] {
             assert_eq!(lent.open(rows, columns), 11);
             assert_eq!(lent.verdict(rows, columns), Verdict::Refused(11));
             for edit in edits() {

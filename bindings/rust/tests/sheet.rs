@@ -223,7 +223,7 @@ fn opening_refuses_by_number() {
     };
     // 11: sizes over their limits, and each array too short.
     let sizes: [fn(&mut Figures); 14] = [
-        |f| f.rows = 65,
+        |f| f.rows = 97,
         |f| f.columns = 129,
         |f| f.rows = usize::MAX,
         |f| f.columns = usize::MAX,

@@ -63,7 +63,7 @@ fn every_refusal_changes_nothing() {
     };
     let fine = [1.0; 3];
     let bad = [
-        Triangle { size: 65, ..LOWER },
+        Triangle { size: 97, ..LOWER },
         Triangle { size: 4, ..LOWER },
         Triangle {
             entries: usize::MAX,

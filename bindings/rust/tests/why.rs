@@ -3,6 +3,7 @@
 mod common;
 
 use common::Rng;
+use tevalumi::raw::limits::ROWS;
 use tevalumi::sheet::{Figures, Sheet};
 use tevalumi::why::{proposal, reason, Reason};
 use tevalumi::ComparisonOp::{self, Eq, Ge, Le};
@@ -126,7 +127,7 @@ fn what_the_sheet_refuses_is_given_up() {
             columns: usize::MAX,
             ..Figures::default()
         },
-        plan(&[&[0][..]; 65], &[(Le, -1); 65], &[UP]),
+        plan(&[&[0][..]; ROWS + 1], &[(Le, -1); ROWS + 1], &[UP]),
     ] {
         assert_eq!(reason(&bad), Reason::GivenUp);
     }
@@ -137,13 +138,13 @@ fn what_the_sheet_refuses_is_given_up() {
 fn the_largest_numbers() {
     let wide = (Some(-1 << 16), Some(1 << 16));
     let full = Figures {
-        rows: 64,
+        rows: ROWS,
         columns: 128,
-        coefs: vec![4096; 64 * 128],
+        coefs: vec![4096; ROWS * 128],
         lowers: vec![wide.0; 128],
         uppers: vec![wide.1; 128],
-        rights: (0..64).map(|i| [1 << 31, -1 << 31][i % 2]).collect(),
-        ops: vec![Eq; 64],
+        rights: (0..ROWS).map(|i| [1 << 31, -1 << 31][i % 2]).collect(),
+        ops: vec![Eq; ROWS],
         ..Figures::default()
     };
     assert!(shown(&full).is_some());
