@@ -17,6 +17,8 @@ const COUNTS: [usize; 6] = [1_000, 800, 300, 40, 40, 40];
 const COLUMNS: usize = limits::ETA_COLUMNS as usize;
 const ENTRIES: usize = limits::ETA_ENTRIES as usize;
 const ROWS: usize = limits::ROWS as usize;
+/// So many columns of so many entries fill the store.
+const SQUARE: usize = 64;
 
 pub struct Store {
     rows: usize,
@@ -35,7 +37,7 @@ pub fn make(seed: u64) -> Vec<Store> {
                 1 => store(&mut rng, ROWS, 20, 24),
                 2 => odd_store(&mut rng),
                 3 => full(&mut rng, COLUMNS, ENTRIES / COLUMNS),
-                4 => full(&mut rng, ROWS, ROWS),
+                4 => full(&mut rng, SQUARE, SQUARE),
                 _ => full(&mut rng, COLUMNS, 1),
             };
             stores.push(store);
