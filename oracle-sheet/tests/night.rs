@@ -9,6 +9,16 @@ fn opened(amount: i64, mult: i64) -> Sheet {
     sheet
 }
 
+/// An edit of the first row or column.
+fn first(kind: u64, number: i64) -> Edit {
+    Edit {
+        kind,
+        row: 0,
+        column: 0,
+        number,
+    }
+}
+
 #[test]
 fn the_plan_is_the_cheapest() {
     let sheet = opened(4, -3072);
@@ -58,13 +68,7 @@ fn edits_lead_from_case_to_case() {
         for to in cases {
             let mut sheet = opened(from.0, from.1);
             for (kind, number) in [(1, to.0), (7, to.1)] {
-                let step = Edit {
-                    kind,
-                    row: 0,
-                    column: 0,
-                    number,
-                };
-                assert_eq!(edit(&mut sheet, step), 0);
+                assert_eq!(edit(&mut sheet, first(kind, number)), 0);
             }
             assert_eq!(sheet, opened(to.0, to.1));
         }
@@ -103,13 +107,7 @@ fn none_exists() {
         (8, 0, Verdict::NoPlan),
     ];
     for (kind, number, said) in edits {
-        let step = Edit {
-            kind,
-            row: 0,
-            column: 0,
-            number,
-        };
-        assert_eq!(edit(&mut sheet, step), 0);
+        assert_eq!(edit(&mut sheet, first(kind, number)), 0);
         assert_eq!(verdict(&sheet), said, "after kind {kind}, {number}");
     }
 }

@@ -12,6 +12,7 @@ pub mod exchange;
 pub mod families;
 pub mod fresh;
 pub mod gate;
+pub mod listing;
 pub mod lu;
 pub mod lu_families;
 pub mod night;

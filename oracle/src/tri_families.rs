@@ -225,7 +225,14 @@ fn bad_shapes(rng: &mut Rng, sink: &mut Sink) {
         let col = rng.below(size);
         let entry = rng.below(tri.entries as usize);
         match index % 14 {
-            0 => tri.size = rng.pick(&[limits::TRI_PLACES + 1, limits::TRI_PLACES + 2, 1 << 32, u64::MAX]),
+            0 => {
+                tri.size = rng.pick(&[
+                    limits::TRI_PLACES + 1,
+                    limits::TRI_PLACES + 2,
+                    1 << 32,
+                    u64::MAX,
+                ])
+            }
             1 => tri.entries = rng.pick(&[limits::TRI_ENTRIES + 1, 1 << 32, u64::MAX]),
             2 => tri.starts[0] = rng.pick(&[1, u64::MAX]),
             3 => tri.starts[col] = rng.pick(&[tri.entries + 1, u64::MAX]),
@@ -323,7 +330,13 @@ fn bad_lists(rng: &mut Rng, sink: &mut Sink) {
         }
         let at = rng.below(tri.list.len());
         if index % 2 == 0 {
-            tri.list[at] = rng.pick(&[tri.size, tri.size + 1, limits::TRI_PLACES, 1 << 32, u64::MAX]);
+            tri.list[at] = rng.pick(&[
+                tri.size,
+                tri.size + 1,
+                limits::TRI_PLACES,
+                1 << 32,
+                u64::MAX,
+            ]);
             tri.lvals[at] = rng.pick(&[1.0, f64::NAN]);
         } else {
             tri.list[at] = tri.list[(at + 1) % tri.list.len()];

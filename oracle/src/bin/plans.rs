@@ -6,30 +6,15 @@
 //! answer and place is reached; with --require it checks these counts, one a line, and ends with
 //! `N passed, M failed`; with --fixed it writes only the few hundred plans of the fixed list.
 
-use std::io::{self, BufWriter, Write};
 use std::process::ExitCode;
 
+use oracle::listing::{self, Mode};
 use oracle::shown::Options;
 use oracle::survey::{self, met, Survey};
 use oracle::{families, gate};
 
-#[derive(PartialEq)]
-enum Mode {
-    Write,
-    Count,
-    Require,
-    Fixed,
-}
-
 fn main() -> ExitCode {
-    match run() {
-        Ok(true) => ExitCode::SUCCESS,
-        Ok(false) => ExitCode::FAILURE,
-        Err(err) => {
-            eprintln!("plans: {}", err);
-            ExitCode::from(2)
-        }
-    }
+    listing::ended("plans", run())
 }
 
 fn run() -> Result<bool, String> {
@@ -39,10 +24,7 @@ fn run() -> Result<bool, String> {
     let mut args = std::env::args().skip(1);
     while let Some(arg) = args.next() {
         match arg.as_str() {
-            "--seed" => {
-                let number = args.next().unwrap_or_default();
-                seed = number.parse().map_err(|_| "--seed takes a number")?;
-            }
+            "--seed" => seed = listing::seed(&mut args)?,
             "--family" => {
                 let name = args.next().unwrap_or_default();
                 if !families::FAMILIES.iter().any(|(family, _)| *family == name) {
@@ -50,27 +32,20 @@ fn run() -> Result<bool, String> {
                 }
                 names.push(name);
             }
-            "--count" => mode = Mode::Count,
-            "--require" => mode = Mode::Require,
-            "--fixed" => mode = Mode::Fixed,
-            _ => return Err(format!("unknown argument {}", arg)),
+            _ => match Mode::named(&arg) {
+                Some(named) => mode = named,
+                None => return Err(format!("unknown argument {}", arg)),
+            },
         }
     }
     let wanted = |family: &str| names.is_empty() || names.iter().any(|name| name == family);
 
     if mode == Mode::Write || mode == Mode::Fixed {
-        let mut out = BufWriter::new(io::stdout().lock());
-        let mut written = Ok(());
         let mut fixed = survey::Fixed::default();
-        families::make(seed, &wanted, &mut |plan| {
-            if written.is_ok() && (mode == Mode::Write || fixed.takes(&plan)) {
-                written = write!(out, "{}", plan);
-            }
-        });
-        written
-            .and_then(|()| out.flush())
-            .map_err(|err| err.to_string())?;
-        return Ok(true);
+        return listing::write(
+            |take| families::make(seed, &wanted, take),
+            |plan| mode == Mode::Write || fixed.takes(plan),
+        );
     }
 
     let mut survey = Survey::default();
