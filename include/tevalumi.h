@@ -150,7 +150,7 @@ TriAnswer tevalumi_upper_dense(
 
 /* Solves the lower triangle for the values and then the upper one for what that gives, both of one size,
  * as the dense calls do; a number between the two that isn't finite isn't refused. 1 and 2 look at both
- * triangles and at the values; 3 isn't given. Each triangle has its own entries, 0 to 2,048.
+ * triangles and at the values; 3 isn't given. Each triangle has its own entries, 0 to 4,560.
  * Read, for each triangle:
  *   starts       size + 1: the entries of column j are starts[j] up to starts[j + 1]
  *   rows, vals   its entries: off-diagonal rows below (lower) or above (upper), in any order

@@ -13,12 +13,16 @@ pub mod families;
 pub mod fresh;
 pub mod gate;
 pub mod listing;
+// clippy would have the shown text otherwise.
+#[allow(clippy::needless_range_loop, clippy::unnecessary_mut_passed)]
 pub mod lu;
 pub mod lu_families;
 pub mod night;
 pub mod plan;
 pub mod rng;
+#[allow(clippy::needless_borrow)]
 pub mod shown;
+#[allow(clippy::while_let_loop)]
 pub mod solver;
 pub mod sparse;
 pub mod sprs;
