@@ -2,7 +2,7 @@
 CARGO = CARGO_TARGET_DIR=$(CURDIR)/build/cargo cargo
 BIN = build/cargo/release
 
-.PHONY: test oracle plans triangles factors sheets replay-data driver checks bench bench-peers bench-profile
+.PHONY: test oracle plans triangles factors sheets replay-data driver checks bench bench-peers bench-profile bench-sheet
 
 # The gate: rt ci over every crate, then every Rust test and comparison. Its last line is `N passed, M failed`.
 test:
@@ -77,3 +77,7 @@ bench-peers: target/staticlib/libtevalumi.a
 
 bench-profile: target/staticlib/libtevalumi.a
 	bench/run --profile
+
+# The sum behind R beside its plain form, on rows of 96 x 128 sheets, and what opening as a whole gains: a line for each arrangement and share of nonzeros.
+bench-sheet: target/staticlib/libtevalumi.a
+	bench/run --sheet

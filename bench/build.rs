@@ -1,4 +1,5 @@
-//! With the feature `glpk`: compiles the shim over GLPK's C library, and links both.
+//! With the feature `glpk`: compiles the shim over GLPK's C library, and links both. With the feature
+//! `sums`: links the two sides of the sum behind R.
 
 use std::env;
 use std::path::PathBuf;
@@ -6,9 +7,15 @@ use std::process::Command;
 
 fn main() {
     println!("cargo:rerun-if-changed=src/glpk.c");
-    if env::var_os("CARGO_FEATURE_GLPK").is_none() {
-        return;
+    if env::var_os("CARGO_FEATURE_SUMS").is_some() {
+        println!("cargo:rustc-link-lib=static=sums");
     }
+    if env::var_os("CARGO_FEATURE_GLPK").is_some() {
+        glpk();
+    }
+}
+
+fn glpk() {
     let out = PathBuf::from(env::var_os("OUT_DIR").expect("cargo sets it"));
     let object = out.join("glpk.o");
     let cc = match env::var("TARGET") == env::var("HOST") {

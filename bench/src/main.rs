@@ -13,17 +13,13 @@
 mod glpk;
 mod plans;
 mod sides;
+mod times;
 
-use std::hint::black_box;
 use std::process::ExitCode;
-use std::time::Instant;
 
 use oracle::plan::Plan;
 use sides::{Library, Seen};
-
-const ROUNDS: usize = 15;
-/// A sample repeats a solve until it takes about this long.
-const SAMPLE_NANOS: f64 = 1_000_000.0;
+use times::{median, quantile, timed, ROUNDS, SAMPLE_NANOS};
 
 enum Mode {
     Time(usize),
@@ -206,17 +202,6 @@ impl<'a> Race<'a> {
     }
 }
 
-/// Nanoseconds for one call, over so many in a row. A call before them isn't counted: it finds the
-/// caches full of the other side.
-fn timed<T>(repeats: usize, mut call: impl FnMut() -> T) -> f64 {
-    black_box(call());
-    let start = Instant::now();
-    for _ in 0..repeats {
-        black_box(call());
-    }
-    start.elapsed().as_nanos() as f64 / repeats as f64
-}
-
 fn summary(races: &[Race], rounds: usize) {
     let of = |number: fn(&Race) -> f64| races.iter().map(number).collect::<Vec<f64>>();
     let steps = of(|race| race.seen.steps as f64);
@@ -277,15 +262,4 @@ fn compare(one: &str, other: &str, ones: &[f64], others: &[f64]) {
         ratios.iter().filter(|&&ratio| ratio > 1.0).count(),
         ratios.len(),
     );
-}
-
-fn median(of: &[f64]) -> f64 {
-    quantile(of, 0.5)
-}
-
-/// The number that stands at this part of the sorted list.
-fn quantile(of: &[f64], part: f64) -> f64 {
-    let mut sorted = of.to_vec();
-    sorted.sort_by(f64::total_cmp);
-    sorted[((sorted.len() - 1) as f64 * part).round() as usize]
 }

@@ -1,23 +1,26 @@
 -- Laws that the proofs share. Assumes nothing.
 use mathlib.Core.Path.{_≡_, refl, ap, _∙_}
-use mathlib.Core.Bool.{false}
+use mathlib.Core.Bool.{true, false}
 use mathlib.Core.List.{List, [], _∷_}
 use Prim.Native.Nat.{ℕ, zero, suc, _+_, _*_, _≤_, _<_, _^_}
-use native.Mathlib.Nat.{le-antisymm}
+use native.Mathlib.Nat.{le-antisymm, add-zero, add-suc}
 use native.Mathlib.Numerals.{add-one}
 use native.Mathlib.Omega.{arith}
 use lib.ListN.{length, set}
-use lib.IntN.{ℤ, pos, natAbs, _+ℤ_, _*ℤ_}
+use lib.IntN.{ℤ, pos, natAbs, _+ℤ_, _*ℤ_, zero-*ℤ, +ℤ-idr}
 use lib.Dec.{T, ltb, ltb→lt}
 use lib.Signed.{ltZ, leZ}
 use mir.Syntax.{w64}
 use mir.Val.{SFits}
 use mir.ValLaws.{toZ-ofZ}
 use Rattle.doubles.specs.Limits.{maxColumns}
-use Rattle.doubles.specs.Loop.{run}
+use Rattle.doubles.specs.Loop.{run, all}
 use Rattle.doubles.specs.Lists.{over}
+use Rattle.doubles.proofs.Loops.{both-true}
 use Rattle.sheet_rules.specs.Sum.{_‼_, sum, dot}
+use Rattle.sheet_rules.specs.Verdict.{isZero}
 use Rattle.sheet_rules.proofs.Sizes.{abs-add, mul-size, up-to}
+use Rattle.sheet_rules.proofs.Tests.{zero-decides}
 use Rattle.sheet_rules.specs.Sheet.{holds, wrong}
 use Rattle.sheet_rules.specs.Opening.{boundFine}
 use Rattle.sheet_terms.specs.Small.{Small}
@@ -30,6 +33,16 @@ sum-next f k r e = rw (e, add-one)
 
 pub sum-done : (f : ℕ → ℤ) (k n : ℕ) (r : ℤ) → k ≤ n → n ≤ k → r ≡ sum k f → r ≡ sum n f
 sum-done f k n r a b e = e ∙ ap (λ (j : ℕ). sum j f) (le-antisymm a b)
+
+-- a stretch of zeros adds nothing
+pub pass-zeros : (a x : List ℤ) (j m : ℕ) → all m (λ k. isZero (a ‼ (j + k))) ≡ true
+    → sum (j + m) (λ k. a ‼ k *ℤ x ‼ k) ≡ sum j (λ k. a ‼ k *ℤ x ‼ k)
+unfolding all sum run
+pass-zeros a x j zero e = rw (add-zero j)
+pass-zeros a x j (suc m) e =
+    let b = both-true _ _ e in
+    let none = zero-decides (a ‼ (j + m)) .yes-so (b .1) in
+    rw (add-suc j m, none, zero-*ℤ (x ‼ (j + m)), pass-zeros a x j m (b .0)) (+ℤ-idr _)
 
 -- a turn of a loop that sums at most N terms, each of size at most M: the sum `total` so far and this turn's term, as the machine has it
 pub record Turn (f : ℕ → ℤ) (k : ℕ) (total t : ℤ) : Type 0 where

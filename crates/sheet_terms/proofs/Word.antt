@@ -1,10 +1,12 @@
--- 0 - (z + 1) of a negative z, for `size`, which no bound limits. Assumes nothing.
+-- The machine's bits: 0 - (z + 1) of a negative z, for `size`, which no bound limits; and what is 0. Assumes nothing.
 use mathlib.Core.Path.{_≡_, refl, ap, _∙_}
+use mathlib.Core.Bool.{_&&_}
 use Prim.Native.Nat.{ℕ, zero, suc, _+_, _-_, _^_, _<_}
 use native.Mathlib.Nat.{le-refl}
 use native.Mathlib.Numerals.{add-one}
 use native.Mathlib.Omega.{arith}
-use lib.Dec.{T, ltb→lt, eqb}
+use lib.Bits.{bitOr, or-zero-l, or-add-and, and-le-r}
+use lib.Dec.{T, ltb→lt, eqb, eqb·suc-zero}
 use lib.Signed.{mag, ltZ}
 use lib.IntN.{ℤ, pos, negsuc, negℤ, natAbs, _+ℤ_, _-ℤ_, +ℤ-one, +ℤ-idl, negℤ-negℤ}
 use mir.Syntax.{w64}
@@ -45,3 +47,10 @@ unfolding isZero
 zero-word (pos zero) f = refl
 zero-word (pos (suc n)) f = ne-eqb (suc n) 0 (λ e. absurd (omega (arith, e)))
 zero-word (negsuc n) f = ne-eqb (2 ^ 64 - suc n) 0 (λ e. absurd (omega (arith, e, f .sfits)))
+
+-- an or is 0 where both of its numbers are
+pub or-zero : (a b : ℕ) → eqb (bitOr a b) 0 ≡ eqb a 0 && eqb b 0
+or-zero zero b = rw (or-zero-l b)
+or-zero (suc a) b =
+    rw (eqb·suc-zero a)
+    (ne-eqb (bitOr (suc a) b) 0 (λ e. absurd (omega (arith, e, or-add-and (suc a) b, and-le-r (suc a) b))))

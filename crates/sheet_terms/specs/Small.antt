@@ -14,3 +14,7 @@ pub record Small (limit n : ℕ) (l : List ℤ) : Type 0 where
 -- how far one edit can take a price that was within its size
 abbrev pub farD : ℕ
 farD = maxD + 2 * (maxCoefficient * maxMultiplier)
+
+-- so many coefficients are tested for 0 at once
+abbrev pub block : ℕ
+block = 8
