@@ -17,7 +17,7 @@ use Rattle.doubles.proofs.Order.{lt-irrefl, lt-trans, lt-le-trans, le-total, le
 use Rattle.doubles.proofs.Once.{written-once}
 use Rattle.doubles.proofs.Largest.{Best, kept, took, best, above as beats, atLeast, by-above}
 use Rattle.rules.specs.Plan.{Problem, nOf, mOf, varMin, varMax, rowSum}
-use Rattle.rules.specs.FinalCheck.{counted, beyond, larger, placesOf, worstOf, valueExcess, rowExcess, excessAt, worstTurn, worst, finalCheck}
+use Rattle.rules.specs.FinalCheck.{counted, beyond, larger, placesOf, worstOf, valueExcess, rowExcess, excessAt, worstTurn, worst, judged, finalCheck}
 use Rattle.rules.specs.Conditions.{Every, Excess, not-finite, below, above, residual, LargestExcess, NothingExceeds, IsWorst, nothing, largest, Checks, ValueSound, RowSound, AllSound}
 use Rattle.rules.specs.declared.Worst.{Worst}
 use Rattle.rules.specs.declared.Checked.{Checked}
@@ -258,19 +258,19 @@ module _ (P : Problem) (xs : List Float) where
   tol = P .plan .tolerance
 
   pub final-only : (c : Checked) → Checks P xs c → finalCheck P xs ≡ c
-  unfolding finalCheck Checks
+  unfolding finalCheck judged Checks
   final-only (Passed x) (k, h, e) =
       let o = only worst-so h in
-      rw (ap (λ y. le y tol) (o .1) ∙ e, finalCheck) (ap Passed (o .1))
+      rw (ap (λ y. le y tol) (o .1) ∙ e, judged) (ap Passed (o .1))
   final-only (Value v x) (l, h, e) =
       let o = only worst-so (largest v x h) in
       let w = worst P xs in
-      rw (ap (λ y. le y tol) (o .1) ∙ e, lt-ltb (w .at) (nOf P + mOf P) (omega (arith, o .0)), finalCheck) (cc (o .0, o .1))
+      rw (ap (λ y. le y tol) (o .1) ∙ e, lt-ltb (w .at) (nOf P + mOf P) (omega (arith, o .0)), judged) (cc (o .0, o .1))
   final-only (Row r x) (l, h, e) =
       let o = only worst-so (largest (nOf P + mOf P + r) x h) in
       let w = worst P xs in
       let q : w .at - (nOf P + mOf P) ≡ r = omega (arith, o .0) in
-      rw (ap (λ y. le y tol) (o .1) ∙ e, le-ltb (w .at) (nOf P + mOf P) (omega (arith, o .0)), finalCheck) (cc (q, o .1))
+      rw (ap (λ y. le y tol) (o .1) ∙ e, le-ltb (w .at) (nOf P + mOf P) (omega (arith, o .0)), judged) (cc (q, o .1))
 
   -- the tolerance has passed refusal 2
   module _ (low : le f0 (P .plan .tolerance) ≡ true) where
@@ -280,18 +280,18 @@ module _ (P : Problem) (xs : List Float) where
     placed (largest k x a) e = a
 
     checks : Checks P xs (finalCheck P xs)
-    unfolding finalCheck Checks
+    unfolding finalCheck judged Checks
     checks =
         let w = worst P xs in
         by-test (le (w .excess) tol)
-        (λ e. rw (e, finalCheck) (w .at, worst-so, e))
+        (λ e. rw (e, judged) (w .at, worst-so, e))
         (λ e.
         let a = placed worst-so e in
         by-test (ltb (w .at) (nOf P + mOf P))
-        (λ f. rw (e, f, finalCheck) (ltb-true _ _ f, a, e))
+        (λ f. rw (e, f, judged) (ltb-true _ _ f, a, e))
         (λ f.
         let back : w .at ≡ nOf P + mOf P + (w .at - (nOf P + mOf P)) = omega (arith, ltb-false (w .at) (nOf P + mOf P) f) in
-        rw (e, f, finalCheck)
+        rw (e, f, judged)
         (omega (arith, inside (a .one-of), ltb-false (w .at) (nOf P + mOf P) f), subst (λ k. LargestExcess P xs k (w .excess)) back a, e)))
 
     -- 02: "Acceptance is excess <= tol"; else the place of the largest excess is named, a value or a kept row

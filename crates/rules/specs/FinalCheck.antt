@@ -39,6 +39,17 @@ placesOf P = nOf P + mOf P + mOf P
 abbrev pub worstOf : ℕ → Float → Worst
 worstOf k x = record { at = k; excess = x }
 
+-- 02: "Acceptance is excess <= tol"; a rejection names the place, a value or a kept row
+unfoldable pub judged : Problem → Worst → Checked
+judged P w =
+    elim (le (w .excess) (P .plan .tolerance)) [
+      | true ↦ Passed (w .excess)
+      | false ↦ elim (ltb (w .at) (nOf P + mOf P)) [
+          | true ↦ Value (w .at) (w .excess)
+          | false ↦ Row (w .at - (nOf P + mOf P)) (w .excess)
+        ]
+    ]
+
 module _ (P : Problem) (xs : List Float) where
   -- 02: "each excess computed as the value beyond its bound (lower - value or value - upper)"; "a value that isn't
   -- finite … counts as +inf"
@@ -66,14 +77,6 @@ module _ (P : Problem) (xs : List Float) where
   unfoldable pub worst : Worst
   worst = run worstTurn (placesOf P) (worstOf (placesOf P) f0)
 
-  -- 02: "Acceptance is excess <= tol"
+  -- 02: "Make it return the largest excess", and acceptance by it
   unfoldable pub finalCheck : Checked
-  finalCheck =
-      let w = worst in
-      elim (le (w .excess) (P .plan .tolerance)) [
-        | true ↦ Passed (w .excess)
-        | false ↦ elim (ltb (w .at) (nOf P + mOf P)) [
-            | true ↦ Value (w .at) (w .excess)
-            | false ↦ Row (w .at - (nOf P + mOf P)) (w .excess)
-          ]
-      ]
+  finalCheck = judged P worst
