@@ -185,7 +185,19 @@ pub fn worst(
     while k < places {
         w = worse(
             k,
-            excess_at(n, lowers, uppers, starts, cols, coeffs, ops, rhs, kept, xs, k),
+            excess_at(
+                n,
+                lowers,
+                uppers,
+                starts,
+                cols,
+                coeffs,
+                ops,
+                rhs,
+                kept,
+                xs,
+                k,
+            ),
             w,
         );
         k += 1;

@@ -65,7 +65,7 @@ fn rejected(
     words::text(number_and_place);
     words::decimal(at as u64);
     words::text(b":");
-    words::hex(excess);
+    words::hex(words::bits_of(excess), 16);
     words::double(objective);
     words::place(steps);
     Shown::State
@@ -73,7 +73,7 @@ fn rejected(
 
 fn optimal(excess: f64, objective: f64, steps: usize) -> Shown {
     words::text(b"0 x:");
-    words::hex(excess);
+    words::hex(words::bits_of(excess), 16);
     words::double(objective);
     words::place(steps);
     Shown::ValuesToo

@@ -45,9 +45,9 @@ judged P w =
     elim (le (w .excess) (P .plan .tolerance)) [
       | true ↦ Passed (w .excess)
       | false ↦ elim (ltb (w .at) (nOf P + mOf P)) [
-          | true ↦ Value (w .at) (w .excess)
-          | false ↦ Row (w .at - (nOf P + mOf P)) (w .excess)
-        ]
+        | true ↦ Value (w .at) (w .excess)
+        | false ↦ Row (w .at - (nOf P + mOf P)) (w .excess)
+      ]
     ]
 
 module _ (P : Problem) (xs : List Float) where
