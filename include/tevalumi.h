@@ -31,7 +31,11 @@ extern "C" {
  * objective  of that state
  * steps      taken, at most the budget
  * place      what at and within name: 0 nothing; 1 a row (at) and a place in it (within), with status
- *            3; 2 a column (4); 3 a row (5); 4 a value, columns before slacks (24); 5 a kept row (24) */
+ *            3; 2 a column (4); 3 a row (5); 4 a value, columns before slacks (24); 5 a kept row (24)
+ * excess     with status 0 and 24 the largest excess: of a value over a finite bound (lower - value or
+ *            value - upper), +inf where the value isn't finite, and of a kept row the size of its right
+ *            side - (its sum + its slack). 0.0 where nothing exceeds 0, and with any other status. 0
+ *            where it is at most the tolerance, else 24 and place names where it is, the first on a tie */
 typedef struct {
     size_t status;
     double objective;
@@ -39,6 +43,7 @@ typedef struct {
     size_t place;
     size_t at;
     size_t within;
+    double excess;
 } TevalumiAnswer;
 
 /* columns 0 to 128, rows 0 to 96, entries 0 to 2,048, budget 0 to 10,000, tolerance 0 to 1.

@@ -32,7 +32,7 @@ static void *solve(void *answer) {
     TevalumiAnswer a = tevalumi_solve(2, 1, 2, 10, 1e-9, ARRAY(costs), ARRAY(lowers), ARRAY(uppers), ARRAY(starts), ARRAY(cols), ARRAY(coeffs), ARRAY(ops),
         ARRAY(rhs), ARRAY(values), ARRAY(kept), ARRAY(basic_vars), ARRAY(basic_var_vals), ARRAY(nb_vars), ARRAY(nb_var_vals), ARRAY(prices), ARRAY(norms),
         ARRAY(flags), ARRAY(var_states), ARRAY(eta_leaving), ARRAY(eta_starts), ARRAY(eta_rows), ARRAY(eta_coeffs), ARRAY(counts), ARRAY(objective));
-    *(int *)answer = a.status == 0 && a.steps == 2 && a.objective == -12;
+    *(int *)answer = a.status == 0 && a.steps == 2 && a.objective == -12 && a.excess == 0;
     return NULL;
 }
 

@@ -350,7 +350,9 @@ fn wrote(plan: &Plan, answer: &Answer, memory: &Memory) -> Result<Wrote, String>
 }
 
 fn place(answer: &Answer) -> Place {
+    let excess = answer.excess;
     match answer.place {
+        0 if answer.status == 0 => Place::Accepted { excess },
         0 => Place::Nowhere,
         1 => Place::Entry {
             row: answer.at,
@@ -358,8 +360,14 @@ fn place(answer: &Answer) -> Place {
         },
         2 => Place::Column(answer.at),
         3 => Place::Row(answer.at),
-        4 => Place::Value(answer.at),
-        5 => Place::Kept(answer.at),
+        4 => Place::Value {
+            var: answer.at,
+            excess,
+        },
+        5 => Place::Kept {
+            row: answer.at,
+            excess,
+        },
         other => panic!("{other} is no kind of place"),
     }
 }

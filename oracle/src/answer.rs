@@ -71,7 +71,7 @@ pub enum Room {
     Entries,
 }
 
-/// 24's first rejected place: a value (columns, then kept slacks) or a kept row.
+/// 24's place, that of the largest excess: a value (columns, then kept slacks) or a kept row.
 #[derive(Clone, Copy, Debug, PartialEq, Eq, Hash)]
 pub enum Rejected {
     Value(usize),
@@ -170,6 +170,8 @@ pub struct Answer {
     pub outcome: Outcome,
     pub objective: f64,
     pub steps: u64,
+    /// The final check's largest excess; 0.0 where it wasn't asked.
+    pub excess: f64,
     /// Columns, then kept slacks; only with Optimal.
     pub values: Vec<f64>,
     pub state: Option<State>,
@@ -181,6 +183,7 @@ impl Answer {
             outcome,
             objective: 0.0,
             steps: 0,
+            excess: 0.0,
             values: vec![],
             state: None,
         }

@@ -326,14 +326,16 @@ pub struct Line<'a> {
 }
 
 /// The place that an answer names.
-#[derive(Clone, Copy, Debug, PartialEq, Eq)]
+#[derive(Clone, Copy, Debug, PartialEq)]
 pub enum Place {
     Nowhere,
+    /// An answer 0 names no place, but its excess.
+    Accepted { excess: f64 },
     Entry { row: usize, place: usize },
     Column(usize),
     Row(usize),
-    Value(usize),
-    Kept(usize),
+    Value { var: usize, excess: f64 },
+    Kept { row: usize, excess: f64 },
 }
 
 impl fmt::Display for Place {
@@ -343,20 +345,23 @@ impl fmt::Display for Place {
             Place::Entry { row, place } => write!(f, "e:{}:{}", row, place),
             Place::Column(column) => write!(f, "c:{}", column),
             Place::Row(row) => write!(f, "r:{}", row),
-            Place::Value(var) => write!(f, "v:{}", var),
-            Place::Kept(row) => write!(f, "k:{}", row),
+            Place::Accepted { excess } => write!(f, "x:{:016x}", excess.to_bits()),
+            Place::Value { var, excess } => write!(f, "v:{}:{:016x}", var, excess.to_bits()),
+            Place::Kept { row, excess } => write!(f, "k:{}:{:016x}", row, excess.to_bits()),
         }
     }
 }
 
-impl From<Outcome> for Place {
-    fn from(outcome: Outcome) -> Place {
-        match outcome {
+impl From<&Answer> for Place {
+    fn from(answer: &Answer) -> Place {
+        let excess = answer.excess;
+        match answer.outcome {
+            Outcome::Optimal => Place::Accepted { excess },
             Outcome::BadEntry { row, place } => Place::Entry { row, place },
             Outcome::CrossedBounds { column } => Place::Column(column),
             Outcome::FalseEmptyRow { row } => Place::Row(row),
-            Outcome::Rejected(Rejected::Value(var)) => Place::Value(var),
-            Outcome::Rejected(Rejected::Row(row)) => Place::Kept(row),
+            Outcome::Rejected(Rejected::Value(var)) => Place::Value { var, excess },
+            Outcome::Rejected(Rejected::Row(row)) => Place::Kept { row, excess },
             _ => Place::Nowhere,
         }
     }
@@ -366,7 +371,7 @@ impl From<Outcome> for Place {
 pub fn answer_line(id: &str, answer: &Answer, extras: Extras) -> String {
     let line = Line {
         status: answer.outcome.number() as usize,
-        place: answer.outcome.into(),
+        place: answer.into(),
         objective: answer.objective,
         steps: answer.steps as usize,
         values: &answer.values,

@@ -85,14 +85,15 @@ pub fn solve(plan: &Plan) -> Answer {
         }
     }
 
-    let outcome = outcome.unwrap_or_else(|| match first_rejected(&rules, &now, plan.tolerance) {
-        Some(rejected) => Outcome::Rejected(rejected),
-        None => Outcome::Optimal,
-    });
+    let (outcome, excess) = match outcome {
+        Some(stopped) => (stopped, 0.0),
+        None => checked(&rules, &now, plan.tolerance),
+    };
     Answer {
         outcome,
         objective: now.objective,
         steps: now.steps,
+        excess,
         values: if outcome == Outcome::Optimal {
             values(&rules, &now)
         } else {
@@ -542,23 +543,40 @@ fn values(rules: &Rules, now: &Now) -> Vec<f64> {
     values
 }
 
-fn first_rejected(rules: &Rules, now: &Now, tol: f64) -> Option<Rejected> {
+/// Every excess in order with its place, an infinite bound's left out; then the largest of them.
+fn checked(rules: &Rules, now: &Now, tol: f64) -> (Outcome, f64) {
     let values = values(rules, now);
+    let mut all = vec![];
     for (var, &val) in values.iter().enumerate() {
-        let inside = val >= rules.lower[var] - tol && val <= rules.upper[var] + tol;
-        if !val.is_finite() || !inside {
-            return Some(Rejected::Value(var));
+        let place = Rejected::Value(var);
+        if val.is_nan() || val.is_infinite() {
+            all.push((f64::INFINITY, place));
+        } else {
+            if rules.lower[var] > f64::NEG_INFINITY {
+                all.push((rules.lower[var] - val, place));
+            }
+            if rules.upper[var] < f64::INFINITY {
+                all.push((val - rules.upper[var], place));
+            }
         }
     }
     for (k, entries) in rules.rows.iter().enumerate() {
         let (slack, own) = entries.split_last().unwrap();
         let sum = own.iter().fold(0.0, |sum, (v, a)| sum + a * values[*v]);
         let size = (rules.rhs[k] - (sum + values[slack.0])).abs();
-        if size > tol || size.is_nan() {
-            return Some(Rejected::Row(k));
+        let counted = if size.is_nan() { f64::INFINITY } else { size };
+        all.push((counted, Rejected::Row(k)));
+    }
+    let mut worst = (0.0, None);
+    for (excess, place) in all {
+        if excess > worst.0 {
+            worst = (excess, Some(place));
         }
     }
-    None
+    match worst {
+        (excess, Some(place)) if excess > tol => (Outcome::Rejected(place), excess),
+        (excess, _) => (Outcome::Optimal, excess),
+    }
 }
 
 fn state(rules: &Rules, now: &Now) -> State {

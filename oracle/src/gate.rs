@@ -45,17 +45,15 @@ pub fn solve(plan: &Plan, options: Options) -> Answer {
         Err(outcome) => return Answer::refusal(outcome),
     };
 
-    let outcome = match solver
-        .initial_solve()
-        .and_then(|()| solver.final_check(plan.tolerance))
-    {
-        Ok(()) => Outcome::Optimal,
-        Err(outcome) => outcome,
+    let (outcome, excess) = match solver.initial_solve() {
+        Ok(()) => solver.final_check(plan.tolerance),
+        Err(outcome) => (outcome, 0.0),
     };
     Answer {
         outcome,
         objective: solver.cur_obj_val,
         steps: solver.steps(),
+        excess,
         values: match outcome {
             Outcome::Optimal => solver.values(),
             _ => vec![],

@@ -30,10 +30,13 @@ pub enum Correction {
     /// 02, Ask 4: "a column at neither bound enters only if its price's size is at least EPS". The
     /// shown filter lets it enter at any price.
     FreeFilter,
+    /// 02, Ask 7: "Acceptance is excess <= tol", and 24 names the largest excess. 01 has each value
+    /// within lower - tol and upper + tol, and names the first that isn't.
+    Acceptance,
 }
 
 impl Correction {
-    pub const ALL: [Correction; 8] = [
+    pub const ALL: [Correction; 9] = [
         Correction::InfiniteRow,
         Correction::StaleHelper,
         Correction::NanBounds,
@@ -42,6 +45,7 @@ impl Correction {
         Correction::Recalc,
         Correction::SumStart,
         Correction::FreeFilter,
+        Correction::Acceptance,
     ];
 
     pub fn name(self) -> &'static str {
@@ -54,6 +58,7 @@ impl Correction {
             Correction::Recalc => "recalc",
             Correction::SumStart => "sum",
             Correction::FreeFilter => "free-filter",
+            Correction::Acceptance => "acceptance",
         }
     }
 }

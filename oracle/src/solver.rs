@@ -834,30 +834,83 @@ impl Solver {
         }
     }
 
-    // ours: "Final check: every value finite, at least lower - tol and at most upper + tol, columns
-    // before slacks; then, row by row, the size of rhs - (row sum + slack) at most tol."
-    pub fn final_check(&self, tol: f64) -> Result<(), Outcome> {
+    // ours. 02: "Acceptance is excess <= tol".
+    pub fn final_check(&self, tol: f64) -> (Outcome, f64) {
+        let (excess, place) = self.largest_excess();
+        let rejected = if self.options.shows(Correction::Acceptance) {
+            self.first_rejected(tol)
+        } else if excess <= tol {
+            None
+        } else {
+            place
+        };
+        (
+            rejected.map_or(Outcome::Optimal, Outcome::Rejected),
+            excess,
+        )
+    }
+
+    // ours. 02: "the largest excess over all bounds and rows, with its place, first on a tie, and 0.0
+    // when nothing exceeds 0."
+    fn largest_excess(&self) -> (f64, Option<Rejected>) {
+        let mut largest = (0.0, None);
+        let mut measure = |excess: f64, place: Rejected| {
+            let counted = if excess.is_nan() {
+                f64::INFINITY
+            } else {
+                excess
+            };
+            if counted > largest.0 {
+                largest = (counted, Some(place));
+            }
+        };
+
         for var in 0..self.num_total_vars() {
             let val = self.get_value(var);
+            if !val.is_finite() {
+                measure(f64::INFINITY, Rejected::Value(var));
+                continue;
+            }
             let (min, max) = (self.orig_var_mins[var], self.orig_var_maxs[var]);
-            if !(val.is_finite() && val >= min - tol && val <= max + tol) {
-                return Err(Outcome::Rejected(Rejected::Value(var)));
+            for (bound, excess) in [(min, min - val), (max, val - max)] {
+                if bound.is_finite() {
+                    measure(excess, Rejected::Value(var));
+                }
             }
         }
-
-        for (r, &rhs) in self.orig_rhs.iter().enumerate() {
-            // The row's stored slack entry is 1.0, so its product is the slack itself.
-            let mut lhs_val = 0.0;
-            for (var, &coeff) in self.orig_constraints.outer_view(r).unwrap().iter() {
-                lhs_val += coeff * self.get_value(var);
-            }
-            let fits = (rhs - lhs_val).abs() <= tol;
-            if !fits {
-                return Err(Outcome::Rejected(Rejected::Row(r)));
-            }
+        for r in 0..self.orig_rhs.len() {
+            measure(self.residual(r), Rejected::Row(r));
         }
+        largest
+    }
 
-        Ok(())
+    /// The size of rhs - (row sum + slack). The row's stored slack entry is 1.0, so its product is the
+    /// slack itself.
+    fn residual(&self, r: usize) -> f64 {
+        let mut lhs_val = 0.0;
+        for (var, &coeff) in self.orig_constraints.outer_view(r).unwrap().iter() {
+            lhs_val += coeff * self.get_value(var);
+        }
+        (self.orig_rhs[r] - lhs_val).abs()
+    }
+
+    // 01: "Final check: every value finite, at least lower - tol and at most upper + tol, columns
+    // before slacks; then, row by row, the size of rhs - (row sum + slack) at most tol."
+    fn first_rejected(&self, tol: f64) -> Option<Rejected> {
+        let value = (0..self.num_total_vars()).find(|&var| {
+            let val = self.get_value(var);
+            let (min, max) = (self.orig_var_mins[var], self.orig_var_maxs[var]);
+            !(val.is_finite() && val >= min - tol && val <= max + tol)
+        });
+        let row = || {
+            (0..self.orig_rhs.len()).find(|&r| {
+                let fits = self.residual(r) <= tol;
+                !fits
+            })
+        };
+        value
+            .map(Rejected::Value)
+            .or_else(|| row().map(Rejected::Row))
     }
 
     pub fn steps(&self) -> u64 {

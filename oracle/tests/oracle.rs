@@ -131,7 +131,8 @@ fn differences_as_kept() {
     let plans = plans(include_str!("../differences.txt"));
     let mut answers = include_str!("../differences.answers").lines();
     for plan in &plans {
-        let correction = Correction::ALL.into_iter().find(|c| c.name() == plan.id);
+        let name = plan.id.split('.').next().unwrap_or_default();
+        let correction = Correction::ALL.into_iter().find(|c| c.name() == name);
         let shown = Options::showing(correction.expect("a plan named for its correction"));
         let (ours, theirs) = (line(plan, Options::default()), line(plan, shown));
         assert_ne!(ours, theirs);
@@ -178,6 +179,7 @@ fn refusals_carry_nothing() {
         let answer = gate::solve(&plan, Options::default());
         if answer.outcome.number() < 20 && answer.outcome != Outcome::Optimal {
             assert_eq!(answer.objective.to_bits(), 0);
+            assert_eq!(answer.excess.to_bits(), 0);
             assert_eq!(answer.steps, 0);
             assert!(answer.values.is_empty() && answer.state.is_none());
         }

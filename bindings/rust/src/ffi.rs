@@ -30,6 +30,7 @@ pub(crate) struct Answer {
     pub place: usize,
     pub at: usize,
     pub within: usize,
+    pub excess: f64,
 }
 
 /// What a triangle call answers: 01's number, and how many places are listed afterwards.

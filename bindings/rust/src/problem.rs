@@ -411,6 +411,13 @@ impl Error {
     pub fn objective(&self) -> f64 {
         self.direction.turn(self.answer.objective)
     }
+
+    /// With error 24 the largest excess: how far a value is beyond its bound, or a constraint's sum
+    /// off its right side, at the place that is named. Infinite where the value isn't finite. 0 with
+    /// every other error.
+    pub fn excess(&self) -> f64 {
+        self.answer.excess
+    }
 }
 
 impl fmt::Display for Error {
@@ -463,6 +470,7 @@ pub struct Solution {
     num_constraints: usize,
     objective: f64,
     steps: usize,
+    excess: f64,
     /// Columns, then kept slacks.
     values: Vec<f64>,
     /// Of the minimised costs; columns, then kept slacks.
@@ -499,6 +507,7 @@ impl Solution {
             num_constraints: problem.rhs.len(),
             objective: answer.objective,
             steps: answer.steps,
+            excess: answer.excess,
             values,
             prices,
             kept,
@@ -533,6 +542,12 @@ impl Solution {
     /// How many steps the solver took.
     pub fn steps(&self) -> usize {
         self.steps
+    }
+
+    /// The largest excess of the values over a bound, or of a constraint's sum over or under its right
+    /// side: at most the tolerance, and 0 where nothing exceeds 0.
+    pub fn excess(&self) -> f64 {
+        self.excess
     }
 
     /// What is left between a constraint and its right side: the right side less the row's sum.

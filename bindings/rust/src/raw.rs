@@ -187,9 +187,9 @@ pub enum Place {
     Column(usize),
     /// Status 5: the first false row.
     Row(usize),
-    /// Status 24: the first rejected value. Columns come first, then the kept rows' slacks.
+    /// Status 24: the value with the largest excess. Columns come first, then the kept rows' slacks.
     Value(usize),
-    /// Status 24: the first row that the values miss, counted among the kept rows.
+    /// Status 24: the row that the values miss by the largest excess, counted among the kept rows.
     KeptRow(usize),
 }
 
@@ -204,6 +204,9 @@ pub struct Answer {
     pub objective: f64,
     /// Whole steps taken; 0 on a refusal.
     pub steps: usize,
+    /// With status 0 and 24 the largest excess of the values over a bound, or of a row's sum over or
+    /// under its right side; 0.0 where nothing exceeds 0, and with every other status.
+    pub excess: f64,
 }
 
 impl Answer {
@@ -226,6 +229,7 @@ impl Answer {
             place,
             objective: from.objective,
             steps: from.steps,
+            excess: from.excess,
         }
     }
 }

@@ -145,6 +145,7 @@ fn every_number_is_reached_by_the_raw_call() {
         if status.is_refusal() {
             assert_eq!((answer.objective.to_bits(), answer.steps), (0, 0));
         } else {
+            assert_eq!(answer.excess > 0.0, status == Status::Rejected);
             assert_eq!(work.counts[3], answer.steps);
             assert_eq!(work.counts[4], usize::from(status.number()));
             assert_eq!(work.objective[0].to_bits(), answer.objective.to_bits());
@@ -294,6 +295,7 @@ fn the_final_check_names_values_slacks_and_rows() {
     let slack = error(&behind);
     assert_eq!(slack.place(), Place::Value(1));
     assert_eq!(slack.constraint(), Some(1));
+    assert!(slack.excess() > 0.0 && slack.excess() < 2e-9);
     assert_eq!(
         slack.to_string(),
         "24: the final check rejects the values (constraint 1)"

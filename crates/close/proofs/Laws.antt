@@ -36,9 +36,9 @@ use Rattle.close.specs.Lent.{counted, closedOf, Closes}
 module _ (P : Problem) (s : State) where
   told-part : (c : Checked) → checkedAnswer (counted (s .objective) (s .steps)) c ≡ checkedAnswer s c
   unfolding checkedAnswer
-  told-part Passed = refl
-  told-part (Value v) = refl
-  told-part (Row r) = refl
+  told-part (Passed x) = refl
+  told-part (Value v x) = refl
+  told-part (Row r x) = refl
 
   by-why : {v w : Stop} → v ≡ w → answerOf P (ended w s) ≡ answerOf P (ended v s)
   by-why e = sym (ap (λ x. answerOf P (ended x s)) e)

@@ -24,6 +24,7 @@ pub fn number_of(a: rules::Answer) -> usize
         rules::Answer::Optimal {
             objective: _,
             steps: _,
+            excess: _,
         } => 0,
         rules::Answer::BadSize => 1,
         rules::Answer::BadNumber => 2,
@@ -52,30 +53,38 @@ pub fn number_of(a: rules::Answer) -> usize
             objective: _,
             steps: _,
             value: _,
+            excess: _,
         } => 24,
         rules::Answer::RowRejected {
             objective: _,
             steps: _,
             row: _,
+            excess: _,
         } => 24,
     }
 }
 
-// The answer after the final check. 24 comes "with its first rejected place".
+// The answer after the final check. 02: "Every caller and answer 24 carries the excess".
 fn told(c: rules::Checked, objective: f64, steps: usize) -> rules::Answer
     ensures { λ r. ⌜ r ≡ Solve.checkedAnswer (counted objective steps) c ⌝ }
 {
     match c {
-        rules::Checked::Passed => rules::Answer::Optimal { objective, steps },
-        rules::Checked::Value(value) => rules::Answer::ValueRejected {
+        rules::Checked::Passed(excess) => rules::Answer::Optimal {
+            objective,
+            steps,
+            excess,
+        },
+        rules::Checked::Value { value, excess } => rules::Answer::ValueRejected {
             objective,
             steps,
             value,
+            excess,
         },
-        rules::Checked::Row(row) => rules::Answer::RowRejected {
+        rules::Checked::Row { row, excess } => rules::Answer::RowRejected {
             objective,
             steps,
             row,
+            excess,
         },
     }
 }

@@ -6,4 +6,5 @@ pub mod Tests
 pub mod Order
 pub mod Largest
 pub mod Quotients
+pub mod Once
 pub mod Nearest

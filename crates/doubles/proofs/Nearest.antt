@@ -19,6 +19,7 @@ use Rattle.doubles.specs.Exact.{signed, gap, Nearer, NearestDouble}
 use Rattle.doubles.proofs.Bools.{truth}
 use Rattle.doubles.proofs.Tests.{not-both}
 use Rattle.doubles.proofs.Quotients.{places}
+use Rattle.doubles.proofs.Once.{same-units}
 
 -- ---- a gap in numbers from 0 up
 abbrev apart : ℕ → ℕ → ℕ
@@ -58,17 +59,6 @@ scaled m P R g =
 -- where one number of units is within half a unit of 1e-8, another isn't
 other-units : (n o : ℕ) → 2 * offUnits n < 10 ^ 8 → ¬ (o ≡ n) → offUnits n < offUnits o
 other-units n o h d = omega arith
-
--- a significand is odd, so two doubles with the same number of units are one
-same-units : (m n r t : ℕ) → m % 2 ≡ 1 → n % 2 ≡ 1 → m * 2 ^ r ≡ n * 2 ^ t → (m ≡ n) × (r ≡ t)
-same-units m n zero zero o q h = (omega arith, refl)
-same-units m n zero (suc t) o q h = absurd (omega (arith, ap (λ (z : ℕ). n * z) (pow-suc 2 t)))
-same-units m n (suc r) zero o q h = absurd (omega (arith, ap (λ (z : ℕ). m * z) (pow-suc 2 r)))
-same-units m n (suc r) (suc t) o q h =
-    let a : m * 2 ^ suc r ≡ 2 * (m * 2 ^ r) = rw (pow-suc 2 r) (omega arith) in
-    let b : n * 2 ^ suc t ≡ 2 * (n * 2 ^ t) = rw (pow-suc 2 t) (omega arith) in
-    let s = same-units m n r t o q (omega arith) in
-    (s .0, ap suc (s .1))
 
 -- ---- the two ways to be farther off, A / Q against B / P
 cross : (A B P Q R S : ℕ) → P * R ≡ 2 ^ 79 → Q * S ≡ 2 ^ 79 → R * B < S * A → B * Q < A * P

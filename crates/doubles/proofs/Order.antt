@@ -155,3 +155,19 @@ lt-number (fin s m e) (fin t n d) h = refl
 
 pub le-not-lt : (x y : Float) → le x y ≡ true → lt y x ≡ false
 le-not-lt x y h = false-by (λ g. not-both (lt-le-trans y x y g h) (lt-irrefl y))
+
+-- doubles in order aren't NaN
+pub le-numbers : (x y : Float) → le x y ≡ true → (isNan x ≡ false) × (isNan y ≡ false)
+unfolding lt eq le isNan
+le-numbers nan y h = absurd (not-both h refl)
+le-numbers (inf s) nan h = absurd (not-both h refl)
+le-numbers (inf s) (inf t) h = (refl, refl)
+le-numbers (inf s) (fin t n d) h = (refl, refl)
+le-numbers (fin s m e) nan h = absurd (not-both h refl)
+le-numbers (fin s m e) (inf t) h = (refl, refl)
+le-numbers (fin s m e) (fin t n d) h = (refl, refl)
+
+pub le-trans : (x y z : Float) → le x y ≡ true → le y z ≡ true → le x z ≡ true
+le-trans x y z h g =
+    le-total z x (le-numbers y z g .1) (le-numbers x y h .0)
+    (false-by (λ l. not-both (lt-le-trans z y z (lt-le-trans z x y l h) g) (lt-irrefl z)))

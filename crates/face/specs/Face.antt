@@ -24,21 +24,21 @@ sheetNumbers v = numbersOf (v .status) (v .kind) (v .value)
 
 -- ---- a solve
 
-abbrev pub answer : ℕ → Float → ℕ → ℕ → ℕ → ℕ → TevalumiAnswer
-answer n o k p i j = record { status = n; objective = o; steps = k; place = p; at = i; within = j }
+abbrev pub answer : ℕ → Float → ℕ → ℕ → ℕ → ℕ → Float → TevalumiAnswer
+answer n o k p i j x = record { status = n; objective = o; steps = k; place = p; at = i; within = j; excess = x }
 
 -- a place as three numbers: what it is, where, and for an entry which place of its row
-unfoldable pub placed : ℕ → Float → ℕ → Place → TevalumiAnswer
-placed n o k nowhere = answer n o k 0 0 0
-placed n o k (entryAt i j) = answer n o k 1 i j
-placed n o k (columnAt i) = answer n o k 2 i 0
-placed n o k (rowAt i) = answer n o k 3 i 0
-placed n o k (valueAt i) = answer n o k 4 i 0
-placed n o k (keptRowAt i) = answer n o k 5 i 0
+unfoldable pub placed : ℕ → Float → ℕ → Float → Place → TevalumiAnswer
+placed n o k x nowhere = answer n o k 0 0 0 x
+placed n o k x (entryAt i j) = answer n o k 1 i j x
+placed n o k x (columnAt i) = answer n o k 2 i 0 x
+placed n o k x (rowAt i) = answer n o k 3 i 0 x
+placed n o k x (valueAt i) = answer n o k 4 i 0 x
+placed n o k x (keptRowAt i) = answer n o k 5 i 0 x
 
 -- the numbers of 01's table for each answer
 unfoldable pub answerNumbers : Rules·Answer → TevalumiAnswer
-answerNumbers a = let t = asRow a in placed (t .number) (t .objective) (t .steps) (t .place)
+answerNumbers a = let t = asRow a in placed (t .number) (t .objective) (t .steps) (t .excess) (t .place)
 
 -- with every lent cell
 pub record Faced : Type 0 where

@@ -74,7 +74,7 @@ pub fn sheet_verdict(v: sheet_rules::Verdict) -> SheetVerdict
 }
 
 // 01's answer of a solve. `place` says what `at` is: 0 nothing, 1 the row of an entry, whose place in that row is
-// `within`, 2 a column, 3 a row, 4 a value, 5 a kept row.
+// `within`, 2 a column, 3 a row, 4 a value, 5 a kept row. `excess` is the final check's, 0.0 where it wasn't asked.
 #[repr(C)]
 pub struct TevalumiAnswer {
     pub status: usize,
@@ -83,6 +83,7 @@ pub struct TevalumiAnswer {
     pub place: usize,
     pub at: usize,
     pub within: usize,
+    pub excess: f64,
 }
 
 fn answer(
@@ -92,8 +93,9 @@ fn answer(
     place: usize,
     at: usize,
     within: usize,
+    excess: f64,
 ) -> TevalumiAnswer
-    ensures { λ r. ⌜ r ≡ answer status objective steps place at within ⌝ }
+    ensures { λ r. ⌜ r ≡ answer status objective steps place at within excess ⌝ }
 {
     TevalumiAnswer {
         status,
@@ -102,6 +104,7 @@ fn answer(
         place,
         at,
         within,
+        excess,
     }
 }
 
@@ -109,27 +112,33 @@ pub fn solve_answer(a: rules::Answer) -> TevalumiAnswer
     ensures { λ r. ⌜ r ≡ answerNumbers a ⌝ }
 {
     match a {
-        rules::Answer::Optimal { objective, steps } => answer(0, objective, steps, 0, 0, 0),
-        rules::Answer::BadSize => answer(1, 0.0, 0, 0, 0, 0),
-        rules::Answer::BadNumber => answer(2, 0.0, 0, 0, 0, 0),
-        rules::Answer::BadEntry { row, place } => answer(3, 0.0, 0, 1, row, place),
-        rules::Answer::BadBounds { column } => answer(4, 0.0, 0, 2, column, 0),
-        rules::Answer::FalseRow { row } => answer(5, 0.0, 0, 3, row, 0),
-        rules::Answer::StartNotFinite => answer(6, 0.0, 0, 0, 0, 0),
-        rules::Answer::SlackOutside => answer(7, 0.0, 0, 0, 0, 0),
-        rules::Answer::Unbounded { objective, steps } => answer(20, objective, steps, 0, 0, 0),
-        rules::Answer::Spent { objective, steps } => answer(21, objective, steps, 0, 0, 0),
-        rules::Answer::StoreFull { objective, steps } => answer(22, objective, steps, 0, 0, 0),
-        rules::Answer::NotFinite { objective, steps } => answer(23, objective, steps, 0, 0, 0),
+        rules::Answer::Optimal {
+            objective,
+            steps,
+            excess,
+        } => answer(0, objective, steps, 0, 0, 0, excess),
+        rules::Answer::BadSize => answer(1, 0.0, 0, 0, 0, 0, 0.0),
+        rules::Answer::BadNumber => answer(2, 0.0, 0, 0, 0, 0, 0.0),
+        rules::Answer::BadEntry { row, place } => answer(3, 0.0, 0, 1, row, place, 0.0),
+        rules::Answer::BadBounds { column } => answer(4, 0.0, 0, 2, column, 0, 0.0),
+        rules::Answer::FalseRow { row } => answer(5, 0.0, 0, 3, row, 0, 0.0),
+        rules::Answer::StartNotFinite => answer(6, 0.0, 0, 0, 0, 0, 0.0),
+        rules::Answer::SlackOutside => answer(7, 0.0, 0, 0, 0, 0, 0.0),
+        rules::Answer::Unbounded { objective, steps } => answer(20, objective, steps, 0, 0, 0, 0.0),
+        rules::Answer::Spent { objective, steps } => answer(21, objective, steps, 0, 0, 0, 0.0),
+        rules::Answer::StoreFull { objective, steps } => answer(22, objective, steps, 0, 0, 0, 0.0),
+        rules::Answer::NotFinite { objective, steps } => answer(23, objective, steps, 0, 0, 0, 0.0),
         rules::Answer::ValueRejected {
             objective,
             steps,
             value,
-        } => answer(24, objective, steps, 4, value, 0),
+            excess,
+        } => answer(24, objective, steps, 4, value, 0, excess),
         rules::Answer::RowRejected {
             objective,
             steps,
             row,
-        } => answer(24, objective, steps, 5, row, 0),
+            excess,
+        } => answer(24, objective, steps, 5, row, 0, excess),
     }
 }

@@ -7,20 +7,18 @@ use Rattle.doubles.specs.Lists.{_#_}
 use Rattle.rules.specs.Plan.{Problem, Workspace, nOf, mOf}
 use Rattle.rules.specs.Invariant.{ProblemFits, Lengths, Maps}
 use Rattle.plan.proofs.Kept.{fits-read}
-use Rattle.final_check.specs.Lent.{sizesOf, rowsOf, Valued, RowReads, RowsRead, Checkable}
-use Rattle.final_check.proofs.Parts.{valuedBy, checkedBy}
+use Rattle.final_check.specs.Lent.{sizesOf, Valued, RowReads, Checkable}
+use Rattle.final_check.proofs.Parts.{valuedBy, checkedBy, measuredBy, rowsBy}
 
--- the rows as `first_row` is lent them
-abbrev rowsBy : Problem → Problem
-rowsBy P =
-    let p = P .plan in
-    rowsOf (p .columns) (p .tolerance) (p .starts) (p .cols) (p .coeffs) (p .rhs) (P .kept)
-
-row-lent : (P : Problem) (r : ℕ) → RowReads P r → RowReads (rowsBy P) r
+pub row-lent : (P : Problem) (r : ℕ) → RowReads P r → RowReads (rowsBy P) r
 row-lent P r h = record { entries = h .entries; has-rhs = h .has-rhs }
 
-pub rows-lent : (P : Problem) → RowsRead P → RowsRead (rowsBy P)
-rows-lent P h = record { room = h .room; row = λ r l. row-lent P r (h .row r l) }
+pub measured : (P : Problem) → Checkable P → Checkable (measuredBy P)
+measured P h =
+    record {
+      sides = record { lower = h .sides .lower; upper = h .sides .upper };
+      rows = record { room = h .rows .room; row = λ r l. record { entries = h .rows .row r l .entries; has-rhs = h .rows .row r l .has-rhs } };
+    }
 
 module _ (P : Problem) (f : ProblemFits P) where
   few : nOf P + mOf P ≤ vars

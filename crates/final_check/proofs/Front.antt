@@ -1,36 +1,31 @@
 -- The final check reads the values of the columns and slacks alone, so it may read them in an array that is longer. Assumes nothing.
 use mathlib.Core.Path.{_≡_, refl, sym, ap, _∙_}
-use mathlib.Core.Bool.{true, false, not}
+use mathlib.Core.Bool.{true, false}
 use mathlib.Core.List.{List}
-use Prim.Native.Nat.{ℕ, _+_, _<_}
+use Prim.Native.Nat.{ℕ, _+_, _-_, _<_}
 use native.Mathlib.Omega.{arith}
 use lib.ListN.{length, drop, List·getD-append}
 use lib.Seq.{ext-getD}
 use lib.Dec.{ltb}
-use lib.Ieee.{Float, nan}
-use Rattle.doubles.specs.Num.{_⊕_, _⊗_, f0}
+use lib.Ieee.{Float, nan, lt}
+use borrow.Author.Tests.{ltb-true, ltb-false}
+use Rattle.doubles.specs.Num.{_⊕_, _⊖_, _⊗_, f0, +inf, finite}
 use Rattle.doubles.specs.Loop.{table}
 use Rattle.doubles.specs.Lists.{_!_, _#_, over}
-use Rattle.doubles.proofs.Loops.{run-same, first-same, length-tab, getD-table}
-use Rattle.rules.specs.Plan.{Problem, Workspace, nOf, mOf, dot, dotTurn, rowSum, rowCols, rowCoeffs}
-use Rattle.rules.specs.FinalCheck.{valueOf, valuesOf, valueHolds, rowHolds, firstValue, firstRow, finalCheck}
+use Rattle.doubles.proofs.Bools.{by-test}
+use Rattle.doubles.proofs.Loops.{run-same, length-tab, getD-table}
+use Rattle.rules.specs.Plan.{Problem, Workspace, nOf, mOf, varMin, varMax, dot, dotTurn, rowSum, rowCols, rowCoeffs}
+use Rattle.rules.specs.FinalCheck.{valueOf, valuesOf, beyond, larger, placesOf, worstOf, valueExcess, rowExcess, excessAt, worstTurn, worst, judged, finalCheck}
 use Rattle.rules.specs.declared.Checked.{Checked}
-use Rattle.rules.specs.declared.Checked.the-variants.{Passed, Value, Row}
 use Rattle.final_check.specs.Lent.{sizesOf, RowsRead}
 use Rattle.final_check.proofs.Parts.{valuedBy, checkedBy, values-part, final-part}
 
--- the answer, by the first rejected value and row
-abbrev answerOf : Problem → ℕ → ℕ → Checked
-answerOf P v r =
-    elim (ltb v (nOf P + mOf P)) [
-      | true ↦ Value v
-      | false ↦ elim (ltb r (mOf P)) [ true ↦ Row r | false ↦ Passed ]
-    ]
-
 module _ (P : Problem) (xs ys : List Float) (h : RowsRead P) (same : (v : ℕ) → v < nOf P + mOf P → xs ! v ≡ ys ! v) where
-  value-same : (v : ℕ) → v < nOf P + mOf P → valueHolds P xs v ≡ valueHolds P ys v
-  unfolding valueHolds
-  value-same v l = rw (same v l, valueHolds) refl
+  value-same : (v : ℕ) → v < nOf P + mOf P → valueExcess P xs v ≡ valueExcess P ys v
+  unfolding valueExcess
+  value-same v l =
+      ap (λ (x : Float). elim (finite x) [ true ↦ larger (beyond (varMin P v) (varMin P v ⊖ x)) (beyond (varMax P v) (x ⊖ varMax P v)) | false ↦ +inf ])
+      (same v l)
 
   sum-same : (r : ℕ) → r < mOf P → rowSum (P .plan) (P .kept # r) xs ≡ rowSum (P .plan) (P .kept # r) ys
   unfolding dot
@@ -40,21 +35,26 @@ module _ (P : Problem) (xs ys : List Float) (h : RowsRead P) (same : (v : ℕ) �
       run-same (dotTurn at cs xs) (dotTurn at cs ys) (length at)
       (λ k s g. ap (λ (x : Float). s ⊕ cs ! k ⊗ x) (same (at # k) (omega (arith, h .row r l .entries .col k g)))) f0
 
-  row-same : (r : ℕ) → r < mOf P → rowHolds P xs r ≡ rowHolds P ys r
-  unfolding rowHolds
-  row-same r l = rw (sum-same r l, same (nOf P + r) (omega arith), rowHolds) refl
+  row-same : (r : ℕ) → r < mOf P → rowExcess P xs r ≡ rowExcess P ys r
+  unfolding rowExcess
+  row-same r l = rw (sum-same r l, same (nOf P + r) (omega arith), rowExcess) refl
 
-  value-first : firstValue P xs ≡ firstValue P ys
-  unfolding firstValue
-  value-first = first-same _ _ (nOf P + mOf P) (λ v l. ap not (value-same v l))
+  excess-same : (k : ℕ) → k < placesOf P → excessAt P xs k ≡ excessAt P ys k
+  unfolding excessAt
+  excess-same k l =
+      by-test (ltb k (nOf P + mOf P))
+      (λ h. rw (h, excessAt) (value-same k (ltb-true _ _ h)))
+      (λ h. rw (h, excessAt) (row-same (k - (nOf P + mOf P)) (omega (arith, ltb-false k (nOf P + mOf P) h))))
 
-  row-first : firstRow P xs ≡ firstRow P ys
-  unfolding firstRow
-  row-first = first-same _ _ (mOf P) (λ r l. ap not (row-same r l))
+  worst-same : worst P xs ≡ worst P ys
+  unfolding worst worstTurn
+  worst-same =
+      run-same (worstTurn P xs) (worstTurn P ys) (placesOf P)
+      (λ k w l. ap (λ (x : Float). elim (lt (w .excess) x) [ true ↦ worstOf k x | false ↦ w ]) (excess-same k l)) (worstOf (placesOf P) f0)
 
   pub final-same : finalCheck P xs ≡ finalCheck P ys
   unfolding finalCheck
-  final-same = ap (λ (v : ℕ). answerOf P v (firstRow P xs)) value-first ∙ ap (λ (r : ℕ). answerOf P (firstValue P ys) r) row-first
+  final-same = ap (judged P) worst-same
 
 -- ---- an array with the values over its front
 module _ (P : Problem) (w : Workspace) (l : List Float) where

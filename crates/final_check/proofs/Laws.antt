@@ -1,19 +1,20 @@
 -- What the code's tests and reads say of the definitions. Assumes nothing.
 use mathlib.Core.Path.{_≡_, refl, sym, ap, _∙_}
-use mathlib.Core.Bool.{Bool, true, false, _&&_}
+use mathlib.Core.Bool.{Bool, true, false}
 use mathlib.Core.List.{List}
 use Prim.Native.Nat.{ℕ, _+_, _-_, _<_, _≤_}
 use native.Mathlib.Omega.{arith}
 use lib.Dec.{ltb}
 use lib.Ieee.{Float, le}
 use borrow.Author.Tests.{ltb-true, ltb-false, lt-ltb, le-ltb}
-use Rattle.doubles.specs.Num.{_⊕_, _⊖_, finite}
 use Rattle.doubles.specs.Lists.{_!_, _#_}
-use Rattle.rules.specs.Plan.{Problem, Workspace, nOf, mOf, varStateOf, varMin, varMax}
-use Rattle.rules.specs.FinalCheck.{valueOf, valueHolds, firstValue, firstRow, finalCheck}
+use Rattle.rules.specs.Plan.{Problem, Workspace, nOf, mOf, varStateOf}
+use Rattle.rules.specs.FinalCheck.{valueOf, worst, judged, finalCheck}
 use Rattle.rules.specs.declared.VarState.{VarState}
 use Rattle.rules.specs.declared.VarState.the-variants.{Basic, NonBasic}
+use Rattle.rules.specs.declared.Worst.{Worst}
 use Rattle.rules.specs.declared.Checked.the-variants.{Passed, Value, Row}
+use Rattle.final_check.proofs.Parts.{measuredBy, worst-part}
 
 -- ---- get_value: the cell that it reads is there
 module _ (n cell : ℕ) where
@@ -42,24 +43,20 @@ module _ (n : ℕ) (w : Workspace) (v : ℕ) where
   unfolding valueOf
   value-non-basic e q = rw (sym e ∙ q, valueOf) refl
 
--- ---- value_holds: its three tests
-pub value-tested : (P : Problem) (xs : List Float) (v : ℕ) {b : Bool} {min max : Float} → min ≡ varMin P v → max ≡ varMax P v → b ≡ finite (xs ! v)
-    → b && le (min ⊖ P .plan .tolerance) (xs ! v) && le (xs ! v) (max ⊕ P .plan .tolerance) ≡ valueHolds P xs v
-unfolding valueHolds
-value-tested P xs v e f g = rw (e, f, g)
-
--- ---- final_check: by its two tests
-module _ (P : Problem) (xs : List Float) where
-  pub value-named : {v : ℕ} → v ≡ firstValue P xs → v < nOf P + mOf P → Value v ≡ finalCheck P xs
+-- ---- final_check: by its two tests, of what `worst` says
+module _ (P : Problem) (xs : List Float) (w : Worst) (e : w ≡ worst (measuredBy P) xs) where
+  is-judged : judged P w ≡ finalCheck P xs
   unfolding finalCheck
-  value-named {v} e h = rw (lt-ltb (firstValue P xs) (nOf P + mOf P) (omega arith), finalCheck) (ap Value e)
+  is-judged = ap (judged P) (e ∙ sym (worst-part P xs))
 
-  pub row-named : {v r : ℕ} → v ≡ firstValue P xs → nOf P + mOf P ≤ v → r ≡ firstRow P xs → r < mOf P → Row r ≡ finalCheck P xs
-  unfolding finalCheck
-  row-named {v} {r} e h f g =
-      rw (le-ltb (firstValue P xs) (nOf P + mOf P) (omega arith), lt-ltb (firstRow P xs) (mOf P) (omega arith), finalCheck) (ap Row f)
+  pub accepts : le (w .excess) (P .plan .tolerance) ≡ true → Passed (w .excess) ≡ finalCheck P xs
+  unfolding judged
+  accepts h = rw (h, judged) at is-judged
 
-  pub none-named : {v r : ℕ} → v ≡ firstValue P xs → nOf P + mOf P ≤ v → r ≡ firstRow P xs → mOf P ≤ r → Passed ≡ finalCheck P xs
-  unfolding finalCheck
-  none-named {v} {r} e h f g =
-      rw (le-ltb (firstValue P xs) (nOf P + mOf P) (omega arith), le-ltb (firstRow P xs) (mOf P) (omega arith), finalCheck) refl
+  pub rejects-value : le (w .excess) (P .plan .tolerance) ≡ false → w .at < nOf P + mOf P → Value (w .at) (w .excess) ≡ finalCheck P xs
+  unfolding judged
+  rejects-value h l = rw (h, lt-ltb (w .at) (nOf P + mOf P) l, judged) at is-judged
+
+  pub rejects-row : le (w .excess) (P .plan .tolerance) ≡ false → nOf P + mOf P ≤ w .at → Row (w .at - (nOf P + mOf P)) (w .excess) ≡ finalCheck P xs
+  unfolding judged
+  rejects-row h l = rw (h, le-ltb (w .at) (nOf P + mOf P) l, judged) at is-judged

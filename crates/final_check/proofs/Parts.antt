@@ -4,8 +4,8 @@ use mathlib.Core.List.{List}
 use Prim.Native.Nat.{ℕ}
 use lib.Ieee.{Float}
 use Rattle.rules.specs.Plan.{Problem, Workspace, nOf, varMin, varMax}
-use Rattle.rules.specs.FinalCheck.{valueOf, valuesOf, valueHolds, rowHolds, firstValue, firstRow, finalCheck}
-use Rattle.final_check.specs.Lent.{valuedOf, sizesOf, checkedOf}
+use Rattle.rules.specs.FinalCheck.{valueOf, valuesOf, valueExcess, rowExcess, excessAt, worstTurn, worst, judged, finalCheck}
+use Rattle.final_check.specs.Lent.{valuedOf, sizesOf, rowsOf, measuredOf, checkedOf}
 
 -- what `values_into` and `final_check` are lent
 abbrev pub valuedBy : Workspace → Workspace
@@ -16,6 +16,17 @@ checkedBy P =
     let p = P .plan in
     checkedOf (p .columns) (p .tolerance) (p .lowers) (p .uppers) (p .starts) (p .cols) (p .coeffs) (p .ops) (p .rhs) (P .kept)
 
+abbrev pub measuredBy : Problem → Problem
+measuredBy P =
+    let p = P .plan in
+    measuredOf (p .columns) (p .lowers) (p .uppers) (p .starts) (p .cols) (p .coeffs) (p .ops) (p .rhs) (P .kept)
+
+-- the rows as `row_excess` is lent them
+abbrev pub rowsBy : Problem → Problem
+rowsBy P =
+    let p = P .plan in
+    rowsOf (p .columns) (p .starts) (p .cols) (p .coeffs) (p .rhs) (P .kept)
+
 pub value-part : (n : ℕ) (w : Workspace) (v : ℕ) → valueOf n w v ≡ valueOf n (valuedBy w) v
 unfolding valueOf
 value-part n w v = refl
@@ -24,6 +35,11 @@ pub values-part : (P : Problem) (w : Workspace) → valuesOf P w ≡ valuesOf (s
 unfolding valuesOf valueOf
 values-part P w = refl
 
+-- the excess reads no tolerance
+pub worst-part : (P : Problem) (xs : List Float) → worst P xs ≡ worst (measuredBy P) xs
+unfolding worst worstTurn excessAt valueExcess rowExcess varMin varMax
+worst-part P xs = refl
+
 pub final-part : (P : Problem) (xs : List Float) → finalCheck P xs ≡ finalCheck (checkedBy P) xs
-unfolding finalCheck firstValue firstRow valueHolds rowHolds varMin varMax
+unfolding finalCheck judged worst worstTurn excessAt valueExcess rowExcess varMin varMax
 final-part P xs = refl

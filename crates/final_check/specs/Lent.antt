@@ -1,13 +1,16 @@
 -- The parts of a problem and of a workspace that a function is lent, the others empty, and what the functions ask of them. Assumes nothing.
+use mathlib.Core.Bool.{true, false}
 use mathlib.Core.List.{List, []}
 use Prim.Native.Nat.{ℕ, _+_, _<_, _≤_}
 use lib.ListN.{length}
-use lib.Ieee.{Float}
+use lib.Ieee.{Float, lt}
 use Rattle.doubles.specs.Num.{f0}
 use Rattle.doubles.specs.Limits.{vars}
 use Rattle.doubles.specs.Lists.{_#_}
 use Rattle.rules.specs.Plan.{Problem, Workspace, nOf, mOf}
 use Rattle.rules.specs.Parts.{planOf, problem, workspaceOf, noEtas}
+use Rattle.rules.specs.FinalCheck.{worstOf}
+use Rattle.rules.specs.declared.Worst.{Worst}
 use Rattle.cells.specs.Bounds.{Sides}
 use Rattle.plan.specs.Kept.{bare, RowReads as Kept·RowReads}
 
@@ -19,15 +22,15 @@ valuedOf varStates basicVarVals nbVarVals = workspaceOf [] basicVarVals [] nbVar
 abbrev pub sizesOf : ℕ → List ℕ → Problem
 sizesOf n kept = problem (planOf n 0 0 0 f0 [] [] [] [] [] [] [] []) kept
 
--- what the values are checked by, what the rows are, and both
-abbrev pub sidesOf : ℕ → Float → List Float → List Float → List ℕ → List ℕ → Problem
-sidesOf n t lowers uppers ops kept = problem (planOf n 0 0 0 t [] lowers uppers [] [] [] ops []) kept
-
-abbrev pub rowsOf : ℕ → Float → List ℕ → List ℕ → List Float → List Float → List ℕ → Problem
-rowsOf n t starts cols coeffs rhs kept = problem (planOf n 0 0 0 t [] [] [] starts cols coeffs [] rhs) kept
+-- what the rows are; what is measured; and the tolerance too
+abbrev pub rowsOf : ℕ → List ℕ → List ℕ → List Float → List Float → List ℕ → Problem
+rowsOf n starts cols coeffs rhs kept = problem (planOf n 0 0 0 f0 [] [] [] starts cols coeffs [] rhs) kept
 
 abbrev pub checkedOf : ℕ → Float → List Float → List Float → List ℕ → List ℕ → List Float → List ℕ → List Float → List ℕ → Problem
 checkedOf n t lowers uppers starts cols coeffs ops rhs kept = problem (planOf n 0 0 0 t [] lowers uppers starts cols coeffs ops rhs) kept
+
+abbrev pub measuredOf : ℕ → List Float → List Float → List ℕ → List ℕ → List Float → List ℕ → List Float → List ℕ → Problem
+measuredOf n lowers uppers starts cols coeffs ops rhs kept = checkedOf n f0 lowers uppers starts cols coeffs ops rhs kept
 
 -- the cell of variable v is a place or a row
 pub record Placed (n : ℕ) (w : Workspace) (v : ℕ) : Type 0 where
@@ -52,3 +55,7 @@ pub record RowsRead (P : Problem) : Type 0 where
 pub record Checkable (P : Problem) : Type 0 where
   pub sides : Sides P
   pub rows : RowsRead P
+
+-- the turn at a place whose excess is x
+unfoldable pub worseOf : ℕ → Float → Worst → Worst
+worseOf k x w = elim (lt (w .excess) x) [ true ↦ worstOf k x | false ↦ w ]

@@ -7,8 +7,9 @@ ghost use Rattle.doubles.specs.Limits.{vars};
 ghost use Rattle.doubles.specs.Loop.{table};
 ghost use Rattle.doubles.specs.Lists.{_!_, over};
 ghost use Rattle.cells.specs.Bounds.{Sides};
-ghost use Rattle.rules.specs.FinalCheck.{valueOf, valuesOf, valueHolds, rowHolds, firstValue, firstRow, finalCheck};
-ghost use Rattle.final_check.specs.Lent.{valuedOf, sizesOf, sidesOf, rowsOf, checkedOf, Placed, Valued, RowReads, RowsRead, Checkable};
+ghost use Rattle.rules.specs.Parts.{bounded};
+ghost use Rattle.rules.specs.FinalCheck.{valueOf, valuesOf, counted, beyond, larger, valueExcess, rowExcess, excessAt, worst, finalCheck};
+ghost use Rattle.final_check.specs.Lent.{valuedOf, sizesOf, rowsOf, measuredOf, checkedOf, Placed, Valued, RowReads, Checkable, worseOf};
 
 // The value of variable v, by where it stands.
 pub fn get_value(
@@ -50,54 +51,60 @@ pub fn values_into(
     }
 }
 
-// 01: "every value finite, at least lower - tol and at most upper + tol".
-fn value_holds(
+// 02: "a NaN or +inf excess of a finite bound or row, counts as +inf".
+fn counted(x: f64) -> f64
+    ensures { λ r. ⌜ r ≡ counted x ⌝ }
+{
+    if doubles::is_nan(x) {
+        return doubles::infinity();
+    }
+    x
+}
+
+// 02: "An infinite bound gives no excess".
+fn beyond(bound: f64, x: f64) -> f64
+    ensures { λ r. ⌜ r ≡ beyond bound x ⌝ }
+{
+    if doubles::is_finite(bound) {
+        return counted(x);
+    }
+    0.0
+}
+
+fn larger(x: f64, y: f64) -> f64
+    ensures { λ r. ⌜ r ≡ larger x y ⌝ }
+{
+    if x < y {
+        return y;
+    }
+    x
+}
+
+// 02: "lower - value or value - upper", the larger of the two; "a value that isn't finite … counts as +inf".
+fn value_excess(
     n: usize,
-    tolerance: f64,
     lowers: &[f64],
     uppers: &[f64],
     ops: &[u8],
     kept: &[usize],
     xs: &[f64; doubles::VARS],
     v: usize,
-) -> bool
-    requires { ⌜ Sides (sidesOf n tolerance (now lowers) (now uppers) (now ops) (now kept)) × (v < n + length (now kept)) × (v < vars) ⌝ }
-    ensures { λ r. ⌜ r ≡ valueHolds (sidesOf n tolerance (now (lowers .entry)) (now (uppers .entry)) (now (ops .entry)) (now (kept .entry))) (now (xs .entry)) v ⌝ }
+) -> f64
+    requires { ⌜ Sides (bounded n (now lowers) (now uppers) (now ops) (now kept)) × (v < n + length (now kept)) × (v < vars) ⌝ }
+    ensures { λ r. ⌜ r ≡ valueExcess (bounded n (now (lowers .entry)) (now (uppers .entry)) (now (ops .entry)) (now (kept .entry))) (now (xs .entry)) v ⌝ }
 {
     let x = xs[v];
-    let min = cells::var_min(n, lowers, ops, kept, v);
-    let max = cells::var_max(n, uppers, ops, kept, v);
-    doubles::is_finite(x) & (min - tolerance <= x) & (x <= max + tolerance)
-}
-
-// 01: "columns before slacks". The number of variables where every value holds.
-fn first_value(
-    n: usize,
-    tolerance: f64,
-    lowers: &[f64],
-    uppers: &[f64],
-    ops: &[u8],
-    kept: &[usize],
-    xs: &[f64; doubles::VARS],
-) -> usize
-    requires { ⌜ Sides (sidesOf n tolerance (now lowers) (now uppers) (now ops) (now kept)) × (n + length (now kept) ≤ vars) ⌝ }
-    ensures { λ r. ⌜ r ≡ firstValue (sidesOf n tolerance (now (lowers .entry)) (now (uppers .entry)) (now (ops .entry)) (now (kept .entry))) (now (xs .entry)) ⌝ }
-{
-    let count = n + kept.len();
-    let mut v = 0;
-    while v < count {
-        if !value_holds(n, tolerance, lowers, uppers, ops, kept, xs, v) {
-            return v;
-        }
-        v += 1;
+    if doubles::is_finite(x) {
+        let min = cells::var_min(n, lowers, ops, kept, v);
+        let max = cells::var_max(n, uppers, ops, kept, v);
+        return larger(beyond(min, min - x), beyond(max, x - max));
     }
-    v
+    doubles::infinity()
 }
 
-// 01: "the size of rhs - (row sum + slack) at most tol", at kept row r.
-fn row_holds(
+// 01: "the size of rhs - (row sum + slack)", at kept row r.
+fn row_excess(
     n: usize,
-    tolerance: f64,
     starts: &[usize],
     cols: &[usize],
     coeffs: &[f64],
@@ -105,42 +112,100 @@ fn row_holds(
     kept: &[usize],
     xs: &[f64; doubles::VARS],
     r: usize,
-) -> bool
-    requires { ⌜ RowReads (rowsOf n tolerance (now starts) (now cols) (now coeffs) (now rhs) (now kept)) r ⌝ }
+) -> f64
+    requires { ⌜ RowReads (rowsOf n (now starts) (now cols) (now coeffs) (now rhs) (now kept)) r ⌝ }
     requires { ⌜ (n + length (now kept) ≤ vars) × (r < length (now kept)) ⌝ }
-    ensures { λ b. ⌜ b ≡ rowHolds (rowsOf n tolerance (now (starts .entry)) (now (cols .entry)) (now (coeffs .entry)) (now (rhs .entry)) (now (kept .entry))) (now (xs .entry)) r ⌝ }
+    ensures { λ x. ⌜ x ≡ rowExcess (rowsOf n (now (starts .entry)) (now (cols .entry)) (now (coeffs .entry)) (now (rhs .entry)) (now (kept .entry))) (now (xs .entry)) r ⌝ }
 {
     let i = kept[r];
     let at = plan::row_cols(starts, cols, i);
     let sum = eta::dot(at, plan::row_coeffs(starts, coeffs, i), xs);
-    doubles::abs(rhs[i] - (sum + xs[n + r])) <= tolerance
+    counted(doubles::abs(rhs[i] - (sum + xs[n + r])))
 }
 
-// The number of kept rows where every one holds.
-fn first_row(
+// The excess of place k: the values, then the kept rows.
+fn excess_at(
     n: usize,
-    tolerance: f64,
+    lowers: &[f64],
+    uppers: &[f64],
     starts: &[usize],
     cols: &[usize],
     coeffs: &[f64],
+    ops: &[u8],
     rhs: &[f64],
     kept: &[usize],
     xs: &[f64; doubles::VARS],
-) -> usize
-    requires { ⌜ RowsRead (rowsOf n tolerance (now starts) (now cols) (now coeffs) (now rhs) (now kept)) ⌝ }
-    ensures { λ r. ⌜ r ≡ firstRow (rowsOf n tolerance (now (starts .entry)) (now (cols .entry)) (now (coeffs .entry)) (now (rhs .entry)) (now (kept .entry))) (now (xs .entry)) ⌝ }
+    k: usize,
+) -> f64
+    requires { ⌜ Checkable (measuredOf n (now lowers) (now uppers) (now starts) (now cols) (now coeffs) (now ops) (now rhs) (now kept))
+        × (k < n + length (now kept) + length (now kept)) ⌝ }
+    ensures { λ r. ⌜ r ≡ excessAt (measuredOf n (now (lowers .entry)) (now (uppers .entry)) (now (starts .entry)) (now (cols .entry))
+        (now (coeffs .entry)) (now (ops .entry)) (now (rhs .entry)) (now (kept .entry))) (now (xs .entry)) k ⌝ }
 {
-    let mut r = 0;
-    while r < kept.len() {
-        if !row_holds(n, tolerance, starts, cols, coeffs, rhs, kept, xs, r) {
-            return r;
-        }
-        r += 1;
+    let count = n + kept.len();
+    if k < count {
+        return value_excess(n, lowers, uppers, ops, kept, xs, k);
     }
-    r
+    row_excess(n, starts, cols, coeffs, rhs, kept, xs, k - count)
 }
 
-// 01, "Final check": the first rejected value, else the first rejected kept row.
+// 02: "first on a tie".
+fn worse(k: usize, x: f64, w: rules::Worst) -> rules::Worst
+    ensures { λ r. ⌜ r ≡ worseOf k x w ⌝ }
+{
+    if w.excess < x {
+        return rules::Worst { at: k, excess: x };
+    }
+    w
+}
+
+// 02: "the largest excess over all bounds and rows, with its place, first on a tie, and 0.0 when nothing exceeds 0".
+pub fn worst(
+    n: usize,
+    lowers: &[f64],
+    uppers: &[f64],
+    starts: &[usize],
+    cols: &[usize],
+    coeffs: &[f64],
+    ops: &[u8],
+    rhs: &[f64],
+    kept: &[usize],
+    xs: &[f64; doubles::VARS],
+) -> rules::Worst
+    requires { ⌜ Checkable (measuredOf n (now lowers) (now uppers) (now starts) (now cols) (now coeffs) (now ops) (now rhs) (now kept)) ⌝ }
+    ensures { λ r. ⌜ r ≡ worst (measuredOf n (now (lowers .entry)) (now (uppers .entry)) (now (starts .entry)) (now (cols .entry))
+        (now (coeffs .entry)) (now (ops .entry)) (now (rhs .entry)) (now (kept .entry))) (now (xs .entry)) ⌝ }
+{
+    let places = n + kept.len() + kept.len();
+    let mut w = rules::Worst {
+        at: places,
+        excess: 0.0,
+    };
+    let mut k = 0;
+    while k < places {
+        w = worse(
+            k,
+            excess_at(
+                n,
+                lowers,
+                uppers,
+                starts,
+                cols,
+                coeffs,
+                ops,
+                rhs,
+                kept,
+                xs,
+                k,
+            ),
+            w,
+        );
+        k += 1;
+    }
+    w
+}
+
+// 02: "Acceptance is excess <= tol". A rejection names the largest excess's place.
 pub fn final_check(
     n: usize,
     tolerance: f64,
@@ -158,15 +223,20 @@ pub fn final_check(
     ensures { λ r. ⌜ r ≡ finalCheck (checkedOf n tolerance (now (lowers .entry)) (now (uppers .entry)) (now (starts .entry)) (now (cols .entry))
         (now (coeffs .entry)) (now (ops .entry)) (now (rhs .entry)) (now (kept .entry))) (now (xs .entry)) ⌝ }
 {
-    let value = first_value(n, tolerance, lowers, uppers, ops, kept, xs);
-    if value < n + kept.len() {
-        return rules::Checked::Value(value);
+    let w = worst(n, lowers, uppers, starts, cols, coeffs, ops, rhs, kept, xs);
+    let at = w.at;
+    let excess = w.excess;
+    if excess <= tolerance {
+        return rules::Checked::Passed(excess);
     }
-    let row = first_row(n, tolerance, starts, cols, coeffs, rhs, kept, xs);
-    if row < kept.len() {
-        return rules::Checked::Row(row);
+    let count = n + kept.len();
+    if at < count {
+        return rules::Checked::Value { value: at, excess };
     }
-    rules::Checked::Passed
+    rules::Checked::Row {
+        row: at - count,
+        excess,
+    }
 }
 
 // 01: "Status 0 is Optimal and writes values, slacks last": the first `count` of xs over the front of `values`.

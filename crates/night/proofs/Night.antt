@@ -13,7 +13,7 @@ use Rattle.rules.specs.Basis.{factorSolve, factorSolveTransp, takeOff, etaTurn,
 use Rattle.rules.specs.Ratio.{towardsMax, ahead, limitBy, limit, examined, relaxed, stepTo, soundRatios, passOne, candidate, passTwoTurn, passTwo, flipOf, exchangeOf, pivotOf, soundDistance, ratio}
 use Rattle.rules.specs.Pivot.{stored, storesFinite, flagsAt, newObjective, movedVal, flipFinite, flipped, newVal, newPrice, newNorm, etaFinite, exchangeFinite, exchanged}
 use Rattle.rules.specs.Step.{exchange, flip, pivot, step, next, atBudget, runOf}
-use Rattle.rules.specs.FinalCheck.{valueOf, valuesOf, valueHolds, rowHolds, firstValue, firstRow, finalCheck}
+use Rattle.rules.specs.FinalCheck.{valueOf, valuesOf, counted, beyond, larger, valueExcess, rowExcess, excessAt, worstTurn, worst, judged, finalCheck}
 use Rattle.rules.specs.Answers.{asRow}
 use Rattle.rules.specs.Solve.{checkedAnswer, answerOf, valuesAfter, memoryAfter, close, endOf, solvePlan}
 use Rattle.sheet_rules.specs.Sum.{sum, bit}
@@ -33,7 +33,7 @@ unfolding
     factorSolve factorSolveTransp takeOff etaTurn solveEtas solve etaTurnTransp solveEtasTransp solveTransp colCoeffs addEntry addRow combine rowCoeffsOf relisted helperOf listedFinite etaEntry etaFits writeColumn pushEta
     towardsMax ahead limitBy limit examined relaxed stepTo soundRatios passOne candidate passTwoTurn passTwo flipOf exchangeOf pivotOf soundDistance ratio
     stored storesFinite flagsAt newObjective movedVal flipFinite flipped newVal newPrice newNorm etaFinite exchangeFinite exchanged
-    exchange flip pivot step next atBudget runOf valueOf valuesOf valueHolds rowHolds firstValue firstRow finalCheck asRow
+    exchange flip pivot step next atBudget runOf valueOf valuesOf counted beyond larger valueExcess rowExcess excessAt worstTurn worst judged finalCheck asRow
     checkedAnswer answerOf valuesAfter memoryAfter close endOf solvePlan
     sum bit holds wrong outside termBy term lacksBy lacks activity price cost floor brokenRows outsideAmounts wrongSigns absentNeeded fresh overKept
     firstFailed sizesFine allWithin boundFine boundsFine opsFine arraysFine numbersFine crosses uncrossed opening opened countFine countsFine keptFine isZero gap noneExists verdictBy verdict

@@ -41,16 +41,16 @@ wanted (sheet s w) = w
 unfoldable pub cases : List Case
 cases =
     -- "N1: … Optimal -4, x 4, slack 0, 1 step. * Budget 0: 21, 0 steps"
-    plan (N1 10) (solves (row 0 (below 4) 1 nowhere) (num 4 ∷ f0 ∷ []) (exchanges ∷ []))
-    ∷ plan (N1 0) (solves (row 21 f0 0 nowhere) (f0 ∷ f0 ∷ []) [])
+    plan (N1 10) (solves (row 0 (below 4) 1 f0 nowhere) (num 4 ∷ f0 ∷ []) (exchanges ∷ []))
+    ∷ plan (N1 0) (solves (row 21 f0 0 f0 nowhere) (f0 ∷ f0 ∷ []) [])
     -- "N2: … exchange, flip; Optimal -12, amounts 4, 0, 2 steps. * Budget 1: 21, objective -8"
-    ∷ plan (N2 10) (solves (row 0 (below 12) 2 nowhere) (num 4 ∷ f0 ∷ f0 ∷ []) (exchanges ∷ flips ∷ []))
-    ∷ plan (N2 1) (solves (row 21 (below 8) 1 nowhere) (f0 ∷ f0 ∷ f0 ∷ []) (exchanges ∷ []))
+    ∷ plan (N2 10) (solves (row 0 (below 12) 2 f0 nowhere) (num 4 ∷ f0 ∷ f0 ∷ []) (exchanges ∷ flips ∷ []))
+    ∷ plan (N2 1) (solves (row 21 (below 8) 1 f0 nowhere) (f0 ∷ f0 ∷ f0 ∷ []) (exchanges ∷ []))
     -- "N3: … 20, 0 steps"
-    ∷ plan N3 (solves (row 20 f0 0 nowhere) (f0 ∷ f0 ∷ []) [])
+    ∷ plan N3 (solves (row 20 f0 0 f0 nowhere) (f0 ∷ f0 ∷ []) [])
     -- "N4: cost 1, 0 to +inf, x >= 1: 7; x >= 0: Optimal 0"
-    ∷ plan (N4 1) (solves (row 7 f0 0 nowhere) (f0 ∷ f0 ∷ []) [])
-    ∷ plan (N4 0) (solves (row 0 f0 0 nowhere) (f0 ∷ f0 ∷ []) [])
+    ∷ plan (N4 1) (solves (row 7 f0 0 f0 nowhere) (f0 ∷ f0 ∷ []) [])
+    ∷ plan (N4 0) (solves (row 0 f0 0 f0 nowhere) (f0 ∷ f0 ∷ []) [])
     -- "N5: N2 as a sheet, amounts 4, 0, Y -3072: D 0, 2048; B -12288; gap 0. * Y -4096: gap 4096. * Y -2048: no floor"
     ∷ sheet (n2 (pos 4) (minus 3072)) (judges 0 (pos 0 ∷ pos 2048 ∷ []) (minus 12288 ∷ []) (Gap (pos 0)))
     ∷ sheet (n2 (pos 4) (minus 4096)) (judges 0 (pos 1024 ∷ pos 3072 ∷ []) (minus 16384 ∷ []) (Gap (pos 4096)))

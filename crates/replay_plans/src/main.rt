@@ -55,16 +55,25 @@ fn ended(number_and_place: &[u8], objective: f64, steps: usize) -> Shown {
 }
 
 // The final check's rejection.
-fn rejected(number_and_place: &[u8], at: usize, objective: f64, steps: usize) -> Shown {
+fn rejected(
+    number_and_place: &[u8],
+    at: usize,
+    excess: f64,
+    objective: f64,
+    steps: usize,
+) -> Shown {
     words::text(number_and_place);
     words::decimal(at as u64);
+    words::text(b":");
+    words::hex(words::bits_of(excess), 16);
     words::double(objective);
     words::place(steps);
     Shown::State
 }
 
-fn optimal(objective: f64, steps: usize) -> Shown {
-    words::text(b"0 -");
+fn optimal(excess: f64, objective: f64, steps: usize) -> Shown {
+    words::text(b"0 x:");
+    words::hex(words::bits_of(excess), 16);
     words::double(objective);
     words::place(steps);
     Shown::ValuesToo
@@ -72,7 +81,11 @@ fn optimal(objective: f64, steps: usize) -> Shown {
 
 fn show_answer(answer: Answer) -> Shown {
     match answer {
-        Answer::Optimal { objective, steps } => optimal(objective, steps),
+        Answer::Optimal {
+            objective,
+            steps,
+            excess,
+        } => optimal(excess, objective, steps),
         Answer::BadSize => refused(b"1 -"),
         Answer::BadNumber => refused(b"2 -"),
         Answer::BadEntry { row, place } => refused_entry(row, place),
@@ -88,12 +101,14 @@ fn show_answer(answer: Answer) -> Shown {
             objective,
             steps,
             value,
-        } => rejected(b"24 v:", value, objective, steps),
+            excess,
+        } => rejected(b"24 v:", value, excess, objective, steps),
         Answer::RowRejected {
             objective,
             steps,
             row,
-        } => rejected(b"24 k:", row, objective, steps),
+            excess,
+        } => rejected(b"24 k:", row, excess, objective, steps),
     }
 }
 

@@ -10,7 +10,7 @@ use lib.ListN.{length, take, drop}
 use lib.Seq.{take-at}
 use lib.Ieee.{Float, le}
 use borrow.Author.Tests.{eq-eqb, ne-eqb}
-use Rattle.doubles.specs.Num.{eps, size}
+use Rattle.doubles.specs.Num.{f0, f1, eps, size}
 use Rattle.doubles.specs.Loop.{until}
 use Rattle.doubles.specs.Lists.{over}
 use Rattle.doubles.proofs.Bools.{never}
@@ -22,11 +22,12 @@ use Rattle.rules.specs.Step.{Outcome, moved, stopped, step, Ended, ended
 use Rattle.rules.specs.FinalCheck.{valuesOf, finalCheck}
 use Rattle.rules.specs.Answers.{Row as Told, asRow, numberOf}
 use Rattle.rules.specs.Solve.{Solved, checkedAnswer, answerOf, valuesAfter, memoryAfter, close, endOf, solvePlan}
-use Rattle.rules.specs.Conditions.{NoneBelow, Checks, StopsWith, Halts, reached, written, Ends, Line, optimal, unbounded, spent, store-full, not-finite, value-rejected, row-rejected}
+use Rattle.rules.specs.Conditions.{NoneBelow, Checks, AllSound, StopsWith, Halts, reached, written, Passes, Ends, Line, optimal, unbounded, spent, store-full, not-finite, value-rejected, row-rejected}
 use Rattle.rules.specs.Steps.{Steps, none, one-more, Reached, RunsTo}
-use Rattle.rules.proofs.Refusals.{Case, refused, accepted, cases}
+use Rattle.rules.proofs.Refusals.{Case, refused, accepted, cases, none-refused}
+use Rattle.rules.proofs.Lengths.{tolerance-fits}
 use Rattle.rules.proofs.EnteringColumn.{entering-priced, enters-exactly}
-use Rattle.rules.proofs.FinalCheck.{final-check}
+use Rattle.rules.proofs.FinalCheck.{final-only, final-check, accepted-exactly}
 use Rattle.rules.proofs.Stops.{step-stops}
 use Rattle.rules.proofs.Steps.{step-counts, steps-same, end-reached}
 use Rattle.rules.specs.declared.Entering.{Entering}
@@ -165,39 +166,43 @@ module _ (P : Problem) (m : Memory) where
 
 -- ---- the answers
 module _ (P : Problem) (s : State) where
-  checked-line : Ends P s Finished → (c : Checked) → finalCheck P (valuesOf P (s .ws)) ≡ c → Line P s (asRow (checkedAnswer s c))
-  unfolding checkedAnswer asRow
-  checked-line h Passed q = optimal h (final-check P (valuesOf P (s .ws)) Passed .0 q)
-  checked-line h (Value v) q = value-rejected v h (final-check P (valuesOf P (s .ws)) (Value v) .0 q)
-  checked-line h (Row r) q = row-rejected r h (final-check P (valuesOf P (s .ws)) (Row r) .0 q)
+  module _ (low : le f0 (P .plan .tolerance) ≡ true) where
+    checked-line : Ends P s Finished → (c : Checked) → finalCheck P (valuesOf P (s .ws)) ≡ c → Line P s (asRow (checkedAnswer s c))
+    unfolding checkedAnswer asRow
+    checked-line h (Passed x) q = optimal x h (final-check P (valuesOf P (s .ws)) low (Passed x) .0 q)
+    checked-line h (Value v x) q = value-rejected v x h (final-check P (valuesOf P (s .ws)) low (Value v x) .0 q)
+    checked-line h (Row r x) q = row-rejected r x h (final-check P (valuesOf P (s .ws)) low (Row r x) .0 q)
 
-  line : (w : Stop) → Ends P s w → Line P s (asRow (answerOf P (ended w s)))
-  unfolding answerOf asRow
-  line Finished h = checked-line h (finalCheck P (valuesOf P (s .ws))) refl
-  line Stop·Spent h = spent h
-  line Stop·Unbounded h = unbounded h
-  line Stop·StoreFull h = store-full h
-  line Stop·NotFinite h = not-finite h
+    line : (w : Stop) → Ends P s w → Line P s (asRow (answerOf P (ended w s)))
+    unfolding answerOf asRow
+    line Finished h = checked-line h (finalCheck P (valuesOf P (s .ws))) refl
+    line Stop·Spent h = spent h
+    line Stop·Unbounded h = unbounded h
+    line Stop·StoreFull h = store-full h
+    line Stop·NotFinite h = not-finite h
 
   checked-so : (c : Checked) → Checks P (valuesOf P (s .ws)) c
       → asRow (answerOf P (ended Finished s)) ≡ asRow (checkedAnswer s c)
   unfolding answerOf
-  checked-so c g = ap (λ x. asRow (checkedAnswer s x)) (final-check P (valuesOf P (s .ws)) c .1 g)
+  checked-so c g = ap (λ x. asRow (checkedAnswer s x)) (final-only P (valuesOf P (s .ws)) c g)
 
   -- a line that holds of s is what an end there is told by
   line-only : {t : Told} → Line P s t → (w : Stop) × Ends P s w × (asRow (answerOf P (ended w s)) ≡ t)
   unfolding answerOf checkedAnswer asRow
-  line-only (optimal h g) = (Finished, h, checked-so Passed g)
-  line-only (value-rejected v h g) = (Finished, h, checked-so (Value v) g)
-  line-only (row-rejected r h g) = (Finished, h, checked-so (Row r) g)
+  line-only (optimal x h g) = (Finished, h, checked-so (Passed x) g)
+  line-only (value-rejected v x h g) = (Finished, h, checked-so (Value v x) g)
+  line-only (row-rejected r x h g) = (Finished, h, checked-so (Row r x) g)
   line-only (spent h) = (Stop·Spent, h, refl)
   line-only (unbounded h) = (Stop·Unbounded, h, refl)
   line-only (store-full h) = (Stop·StoreFull, h, refl)
   line-only (not-finite h) = (Stop·NotFinite, h, refl)
 
 module _ (p : Plan) (m : Memory) where
-  pub end-line : Line (problemOf p) (reached p m) (asRow (answerOf (problemOf p) (endOf (problemOf p) m)))
-  end-line = let e = endOf (problemOf p) m in line (problemOf p) (e .state) (e .why) (end-so (problemOf p) m)
+  tolerance : NoneBelow 8 p m → (le f0 (p .tolerance) ≡ true) × (le (p .tolerance) f1 ≡ true)
+  tolerance n = tolerance-fits p (none-refused p m n .passes-2)
+
+  pub end-line : NoneBelow 8 p m → Line (problemOf p) (reached p m) (asRow (answerOf (problemOf p) (endOf (problemOf p) m)))
+  end-line n = let e = endOf (problemOf p) m in line (problemOf p) (e .state) (tolerance n .0) (e .why) (end-so (problemOf p) m)
 
   module _ (t : Told) (ran : (t .number ≡ 0) ⊎ (20 ≤ t .number)) where
     exact : {r : Solved} → Case p m r
@@ -206,7 +211,7 @@ module _ (p : Plan) (m : Memory) where
     exact (refused k l h g n says) =
         (λ q. let e : t .number ≡ k = ap (λ (x : Told). x .number) (sym q) ∙ says .number in absurd (⊎-elim (λ z. omega arith) (λ z. omega arith) ran), λ s. absurd (s .0 k h g))
     exact (accepted n) = (
-      λ q. (n, (reached p m, end-reached (problemOf p) m, subst (Line (problemOf p) (reached p m)) q end-line)),
+      λ q. (n, (reached p m, end-reached (problemOf p) m, subst (Line (problemOf p) (reached p m)) q (end-line n))),
       λ s.
           let P = problemOf p in
           let x = line-only P (s .1 .0) (s .1 .2) in
@@ -223,9 +228,9 @@ module _ (p : Plan) (m : Memory) where
 -- 20"
 entered : {P : Problem} {s : State} {t : Told} → Line P s t → t .number ≡ 20 → (e : Entering) × (choose P (s .ws) ≡ Enters e)
 unfolding Ends
-entered (optimal h g) q = absurd (omega arith)
-entered (value-rejected v h g) q = absurd (omega arith)
-entered (row-rejected r h g) q = absurd (omega arith)
+entered (optimal x h g) q = absurd (omega arith)
+entered (value-rejected v x h g) q = absurd (omega arith)
+entered (row-rejected r x h g) q = absurd (omega arith)
 entered (spent h) q = absurd (omega arith)
 entered (unbounded h) q = (h .0, h .1 .1)
 entered (store-full h) q = absurd (omega arith)
@@ -241,7 +246,7 @@ module _ (p : Plan) (m : Memory) where
   by-price (accepted n) q =
       let P = problemOf p in
       let w = reached p m .ws in
-      let x = entered (end-line p m) q in
+      let x = entered (end-line p m n) q in
       (x .0, x .1, entering-priced P w (x .0) (enters-exactly P w (x .0) .0 (x .1)))
 
   -- it comes only by a column whose price's size is at least EPS
@@ -249,10 +254,10 @@ module _ (p : Plan) (m : Memory) where
   unbounded-priced = by-price (cases p m)
 
 -- ---- what the lent memory holds afterwards
-passed : {P : Problem} {s : State} {t : Told} → Line P s t → t .number ≡ 0 → Checks P (valuesOf P (s .ws)) Passed
-passed (optimal h g) q = g
-passed (value-rejected v h g) q = absurd (omega arith)
-passed (row-rejected r h g) q = absurd (omega arith)
+passed : {P : Problem} {s : State} {t : Told} → Line P s t → t .number ≡ 0 → Checks P (valuesOf P (s .ws)) (Passed (t .excess))
+passed (optimal x h g) q = g
+passed (value-rejected v x h g) q = absurd (omega arith)
+passed (row-rejected r x h g) q = absurd (omega arith)
 passed (spent h) q = absurd (omega arith)
 passed (unbounded h) q = absurd (omega arith)
 passed (store-full h) q = absurd (omega arith)
@@ -272,7 +277,7 @@ module _ (P : Problem) (s : State) (a : Answer) (l : List Float) where
   values-kept n = rw (ne-eqb (numberOf a) 0 n, valuesAfter) refl
 
 module _ (p : Plan) (m : Memory) where
-  writes : {r : Solved} → Case p m r → numberOf (r .answer) ≡ 0 → (written p (r .memory) ≡ valuesOf (problemOf p) (reached p m .ws)) × Checks (problemOf p) (written p (r .memory)) Passed
+  writes : {r : Solved} → Case p m r → numberOf (r .answer) ≡ 0 → Passes p m r
   unfolding close memoryAfter
   writes (refused k l h g n says) q = absurd (omega (arith, says .number))
   writes (accepted n) q =
@@ -281,10 +286,16 @@ module _ (p : Plan) (m : Memory) where
       let xs = valuesOf P (e .state .ws) in
       let w : take (nOf P + mOf P) (valuesAfter P (e .state) (answerOf P e) (m .values)) ≡ xs =
       ap (take (nOf P + mOf P)) (values-put P (e .state) (answerOf P e) (m .values) q) ∙ take-at xs (drop (length xs) (m .values)) (nOf P + mOf P) (length-values P (e .state)) in
-      (w, subst (λ (l : List Float). Checks P l Passed) (sym w) (passed (end-line p m) q))
+      let c = passed (end-line p m n) q in
+      let t = tolerance p m n in
+      record {
+        values-of = w;
+        checked = subst (λ (l : List Float). Checks P l (Passed (asRow (answerOf P e) .excess))) (sym w) c;
+        sound = subst (AllSound P) (sym w) (accepted-exactly P xs (t .0) (t .1) .0 (_, c));
+      }
 
   -- 01: "Status 0 is Optimal and writes values, slacks last": the values of the state that was reached, and they have passed the final check
-  pub optimal-writes : numberOf (solvePlan p m .answer) ≡ 0 → (written p (solvePlan p m .memory) ≡ valuesOf (problemOf p) (reached p m .ws)) × Checks (problemOf p) (written p (solvePlan p m .memory)) Passed
+  pub optimal-writes : numberOf (solvePlan p m .answer) ≡ 0 → Passes p m (solvePlan p m)
   optimal-writes = writes (cases p m)
 
   left-alone : {r : Solved} → Case p m r → ¬ (numberOf (r .answer) ≡ 0) → r .memory .values ≡ m .values

@@ -9,7 +9,8 @@ use lib.Dec.{leb, ltb}
 use lib.ListN.{length, List·getD-append}
 use lib.Seq.{getD-append-seam}
 use borrow.Author.Tests.{leb-true, leb-false, eqb-true, eqb-false, ltb-false, lt-ltb}
-use Rattle.doubles.specs.Num.{finite}
+use lib.Ieee.{le}
+use Rattle.doubles.specs.Num.{f0, f1, finite}
 use Rattle.doubles.specs.Limits.{maxColumns, maxRows, maxEntries, maxBudget}
 use Rattle.doubles.specs.Lists.{_!_, _#_}
 use Rattle.rules.proofs.Lists.{below-or-at, part-long, length-snoc, snoc-at}
@@ -121,6 +122,9 @@ module _ (p : Plan) where
         right = all-at (λ i. isNumber (p .rhs ! i)) (p .rows) (g .1);
         tolerance = f .1;
       }
+
+  pub tolerance-fits : passes2 p ≡ true → (le f0 (p .tolerance) ≡ true) × (le (p .tolerance) f1 ≡ true)
+  tolerance-fits e = both-true _ _ (contents e .tolerance)
 
   pub cost-finite : passes2 p ≡ true → (j : ℕ) → j < p .columns → finite (p .costs ! j) ≡ true
   cost-finite two = contents two .cost

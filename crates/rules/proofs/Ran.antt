@@ -42,13 +42,13 @@ module _ (P : Problem) (m : Memory) (e : Ended) where
 
 -- a line of the table tells what its state has
 tells : {P : Problem} {s : State} {t : Told} → Line P s t → (t .steps ≡ s .steps) × (t .objective ≡ s .objective)
-tells (optimal h g) = (refl, refl)
+tells (optimal x h g) = (refl, refl)
 tells (unbounded h) = (refl, refl)
 tells (spent h) = (refl, refl)
 tells (store-full h) = (refl, refl)
 tells (not-finite h) = (refl, refl)
-tells (value-rejected v h g) = (refl, refl)
-tells (row-rejected r h g) = (refl, refl)
+tells (value-rejected v x h g) = (refl, refl)
+tells (row-rejected r x h g) = (refl, refl)
 
 module _ (p : Plan) (m : Memory) where
   closes : {r : Solved} → Case p m r → NoneBelow 8 p m → r ≡ close (problemOf p) m (endOf (problemOf p) m)
@@ -67,7 +67,7 @@ module _ (p : Plan) (m : Memory) where
       let P : Problem = problemOf p in
       let given = answer-exact p m (asRow (solvePlan p m .answer)) h .0 refl in
       let whole : solvePlan p m ≡ close P m (endOf P m) = solved-closes (given .0) in
-      let told = tells (end-line p m) in
+      let told = tells (end-line p m (given .0)) in
       let pass = none-refused p m (given .0) in
       let fits = passed-fits p m (pass .passes-1) (pass .passes-2) (pass .passes-3) in
       let start = start-sound p m (pass .passes-1) (pass .passes-2) (pass .passes-3) (pass .passes-6) in

@@ -135,13 +135,13 @@ module _ (p : Plan) (m : Memory) where
   pub cases : Case p m (solvePlan p m)
   unfolding solvePlan Gives Names asRow firstCrossed firstFalse
   cases =
-      rung 1 BadSize _ (omega arith) (omega arith) (one p m) (λ _. record { number = refl; objective = refl; steps = refl; place = refl; memory = refl })
-      (rung 2 BadNumber _ (omega arith) (omega arith) (two p) (λ _. record { number = refl; objective = refl; steps = refl; place = refl; memory = refl })
-      (rung 3 (BadEntry _ _) _ (omega arith) (omega arith) (three p) (λ f. record { number = refl; objective = refl; steps = refl; place = (_, _, refl, first-bad p f); memory = refl })
-      (rung 4 (BadBounds _) _ (omega arith) (omega arith) (four p) (λ f. record { number = refl; objective = refl; steps = refl; place = (_, refl, first-named _ (cross p) f); memory = refl })
-      (rung 5 (FalseRow _) _ (omega arith) (omega arith) (five p) (λ f. record { number = refl; objective = refl; steps = refl; place = (_, refl, first-named _ (empty-false p) f); memory = refl })
-      (rung 6 StartNotFinite _ (omega arith) (omega arith) (six (problemOf p)) (λ _. record { number = refl; objective = refl; steps = refl; place = refl; memory = refl })
-      (rung 7 SlackOutside _ (omega arith) (omega arith) (seven (problemOf p)) (λ _. record { number = refl; objective = refl; steps = refl; place = refl; memory = refl })
+      rung 1 BadSize _ (omega arith) (omega arith) (one p m) (λ _. record { number = refl; objective = refl; steps = refl; excess = refl; place = refl; memory = refl })
+      (rung 2 BadNumber _ (omega arith) (omega arith) (two p) (λ _. record { number = refl; objective = refl; steps = refl; excess = refl; place = refl; memory = refl })
+      (rung 3 (BadEntry _ _) _ (omega arith) (omega arith) (three p) (λ f. record { number = refl; objective = refl; steps = refl; excess = refl; place = (_, _, refl, first-bad p f); memory = refl })
+      (rung 4 (BadBounds _) _ (omega arith) (omega arith) (four p) (λ f. record { number = refl; objective = refl; steps = refl; excess = refl; place = (_, refl, first-named _ (cross p) f); memory = refl })
+      (rung 5 (FalseRow _) _ (omega arith) (omega arith) (five p) (λ f. record { number = refl; objective = refl; steps = refl; excess = refl; place = (_, refl, first-named _ (empty-false p) f); memory = refl })
+      (rung 6 StartNotFinite _ (omega arith) (omega arith) (six (problemOf p)) (λ _. record { number = refl; objective = refl; steps = refl; excess = refl; place = refl; memory = refl })
+      (rung 7 SlackOutside _ (omega arith) (omega arith) (seven (problemOf p)) (λ _. record { number = refl; objective = refl; steps = refl; excess = refl; place = refl; memory = refl })
       accepted))))))
       (none-more 0 (λ j h. absurd (omega arith)) (λ g. g))
 
@@ -165,9 +165,9 @@ module _ (p : Plan) (m : Memory) where
 -- a run's answer has another number
 checked-late : (s : State) (c : Checked) → (numberOf (checkedAnswer s c) ≡ 0) ⊎ (8 ≤ numberOf (checkedAnswer s c))
 unfolding checkedAnswer asRow
-checked-late s Passed = inl refl
-checked-late s (Value v) = inr (omega arith)
-checked-late s (Row r) = inr (omega arith)
+checked-late s (Passed x) = inl refl
+checked-late s (Value v x) = inr (omega arith)
+checked-late s (Row r x) = inr (omega arith)
 
 late : (P : Problem) (w : Stop) (s : State) → (numberOf (answerOf P (ended w s)) ≡ 0) ⊎ (8 ≤ numberOf (answerOf P (ended w s)))
 unfolding answerOf asRow

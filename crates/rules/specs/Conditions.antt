@@ -17,7 +17,7 @@ use Rattle.rules.specs.Choose.{choose}
 use Rattle.rules.specs.Basis.{colCoeffs, rowCoeffsOf, helperOf, etaUsed, etaEntryAt}
 use Rattle.rules.specs.Choices.{RatioGives}
 use Rattle.rules.specs.Pivot.{newObjective, movedVal, flipped, newVal, newPrice, newNorm, exchanged}
-use Rattle.rules.specs.FinalCheck.{valuesOf}
+use Rattle.rules.specs.FinalCheck.{valuesOf, counted, placesOf}
 use Rattle.rules.specs.Answers.{Row as Told, row, Place, nowhere, entryAt, columnAt, rowAt, valueAt, keptRowAt, asRow}
 use Rattle.rules.specs.Solve.{Solved, endOf}
 use Rattle.rules.specs.declared.Entering.{Entering}
@@ -175,24 +175,54 @@ pub record Refusal (k : ℕ) (p : Plan) (m : Memory) (r : Solved) : Type 0 where
   pub number : asRow (r .answer) .number ≡ k
   pub objective : asRow (r .answer) .objective ≡ f0
   pub steps : asRow (r .answer) .steps ≡ 0
+  pub excess : asRow (r .answer) .excess ≡ f0
   pub place : Names k p (asRow (r .answer) .place)
   pub memory : r .memory ≡ m
 
--- ---- the final check: "every value finite, at least lower - tol and at most upper + tol, columns before slacks"
+-- ---- the final check, its places in order: the values, columns before slacks, then the kept rows
+
+-- 02's excesses at a place: "An infinite bound gives no excess; a value that isn't finite … counts as +inf"
+pub data Excess (P : Problem) (xs : List Float) : ℕ → Float → Type 0 where
+  not-finite : (v : ℕ) → v < nOf P + mOf P → NotFinite (xs ! v) → Excess P xs v +inf
+  below : (v : ℕ) → v < nOf P + mOf P → finite (xs ! v) ≡ true → finite (varMin P v) ≡ true → Excess P xs v (counted (varMin P v ⊖ xs ! v))
+  above : (v : ℕ) → v < nOf P + mOf P → finite (xs ! v) ≡ true → finite (varMax P v) ≡ true → Excess P xs v (counted (xs ! v ⊖ varMax P v))
+  residual : (r : ℕ) → r < mOf P
+      → Excess P xs (nOf P + mOf P + r) (counted (size (P .plan .rhs ! (P .kept # r) ⊖ (rowSum (P .plan) (P .kept # r) xs ⊕ xs ! (nOf P + r)))))
+
+-- 02: "the largest excess over all bounds and rows, with its place, first on a tie": it is one of them, at least every one,
+-- and none before its place is as large
+pub record LargestExcess (P : Problem) (xs : List Float) (k : ℕ) (x : Float) : Type 0 where
+  pub exceeds : lt f0 x ≡ true
+  pub one-of : Excess P xs k x
+  pub at-least : (j : ℕ) (y : Float) → Excess P xs j y → le y x ≡ true
+  pub first : (j : ℕ) (y : Float) → j < k → Excess P xs j y → le x y ≡ false
+
+-- 02: "and 0.0 when nothing exceeds 0"
+abbrev pub NothingExceeds : Problem → List Float → Type 0
+NothingExceeds P xs = (j : ℕ) (y : Float) → Excess P xs j y → lt f0 y ≡ false
+
+pub data IsWorst (P : Problem) (xs : List Float) : ℕ → Float → Type 0 where
+  nothing : NothingExceeds P xs → IsWorst P xs (placesOf P) f0
+  largest : (k : ℕ) (x : Float) → LargestExcess P xs k x → IsWorst P xs k x
+
+-- 02: "Acceptance is excess <= tol"; a rejection names the place of the largest excess
+unfoldable pub Checks : Problem → List Float → Checked → Type 0
+Checks P xs (Passed x) = (k : ℕ) × IsWorst P xs k x × (le x (P .plan .tolerance) ≡ true)
+Checks P xs (Value v x) = (v < nOf P + mOf P) × LargestExcess P xs v x × (le x (P .plan .tolerance) ≡ false)
+Checks P xs (Row r x) = (r < mOf P) × LargestExcess P xs (nOf P + mOf P + r) x × (le x (P .plan .tolerance) ≡ false)
+
+-- what that comes to: every value finite and, by its own excess, within tol of each finite bound
 pub record ValueSound (P : Problem) (xs : List Float) (v : ℕ) : Type 0 where
   pub is-finite : finite (xs ! v) ≡ true
-  pub at-least : le (varMin P v ⊖ P .plan .tolerance) (xs ! v) ≡ true
-  pub at-most : le (xs ! v) (varMax P v ⊕ P .plan .tolerance) ≡ true
+  pub at-least : finite (varMin P v) ≡ true → le (varMin P v ⊖ xs ! v) (P .plan .tolerance) ≡ true
+  pub at-most : finite (varMax P v) ≡ true → le (xs ! v ⊖ varMax P v) (P .plan .tolerance) ≡ true
 
--- "then, row by row, the size of rhs - (row sum + slack) at most tol"
+-- and 01: "row by row, the size of rhs - (row sum + slack) at most tol"
 pub record RowSound (P : Problem) (xs : List Float) (r : ℕ) : Type 0 where
   pub within : le (size (P .plan .rhs ! (P .kept # r) ⊖ (rowSum (P .plan) (P .kept # r) xs ⊕ xs ! (nOf P + r)))) (P .plan .tolerance) ≡ true
 
--- it passes, or names "its first rejected place": a value, or a row where no value is rejected
-unfoldable pub Checks : Problem → List Float → Checked → Type 0
-Checks P xs Passed = Every (nOf P + mOf P) (ValueSound P xs) × Every (mOf P) (RowSound P xs)
-Checks P xs (Value v) = FirstWithout (nOf P + mOf P) (ValueSound P xs) v
-Checks P xs (Row r) = Every (nOf P + mOf P) (ValueSound P xs) × FirstWithout (mOf P) (RowSound P xs) r
+abbrev pub AllSound : Problem → List Float → Type 0
+AllSound P xs = Every (nOf P + mOf P) (ValueSound P xs) × Every (mOf P) (RowSound P xs)
 
 -- ---- a step, said of the state, the entering column and its solved column c
 
@@ -282,6 +312,13 @@ reached p m = endOf (problemOf p) m .state
 abbrev pub written : Plan → Memory → List Float
 written p after = take (p .columns + mOf (problemOf p)) (after .values)
 
+-- they are the values of the state that was reached, and have passed the final check with the answer's excess: all of
+-- them are sound
+pub record Passes (p : Plan) (m : Memory) (r : Solved) : Type 0 where
+  pub values-of : written p (r .memory) ≡ valuesOf (problemOf p) (reached p m .ws)
+  pub checked : Checks (problemOf p) (written p (r .memory)) (Passed (asRow (r .answer) .excess))
+  pub sound : AllSound (problemOf p) (written p (r .memory))
+
 -- a column enters, and the plan wasn't dual feasible at the start
 abbrev pub Goes : Problem → State → Entering → Type 0
 Goes P s e = (dualFeasible (P .plan) ≡ false) × (choose P (s .ws) ≡ Enters e)
@@ -301,18 +338,21 @@ Ends P s Stop·Unbounded = Halts P s Stop·Unbounded
 Ends P s Stop·StoreFull = Halts P s Stop·StoreFull
 Ends P s Stop·NotFinite = Halts P s Stop·NotFinite
 
--- ---- the table's lines for 0 and 20 to 24. "Answers 0 and 20 to 24 carry the objective and step count of that state"
+-- ---- the table's lines for 0 and 20 to 24. "Answers 0 and 20 to 24 carry the objective and step count of that state";
+-- 02: "Every caller and answer 24 carries the excess"
 pub data Line (P : Problem) (s : State) : Told → Type 0 where
   -- "Status 0 is Optimal"
-  optimal : Ends P s Finished → Checks P (valuesOf P (s .ws)) Passed → Line P s (row 0 (s .objective) (s .steps) nowhere)
+  optimal : (x : Float) → Ends P s Finished → Checks P (valuesOf P (s .ws)) (Passed x) → Line P s (row 0 (s .objective) (s .steps) x nowhere)
   -- "Unbounded"
-  unbounded : Ends P s Stop·Unbounded → Line P s (row 20 (s .objective) (s .steps) nowhere)
+  unbounded : Ends P s Stop·Unbounded → Line P s (row 20 (s .objective) (s .steps) f0 nowhere)
   -- "budget spent and a column would enter"
-  spent : Ends P s Stop·Spent → Line P s (row 21 (s .objective) (s .steps) nowhere)
+  spent : Ends P s Stop·Spent → Line P s (row 21 (s .objective) (s .steps) f0 nowhere)
   -- "the next eta column doesn't fit the room left"
-  store-full : Ends P s Stop·StoreFull → Line P s (row 22 (s .objective) (s .steps) nowhere)
+  store-full : Ends P s Stop·StoreFull → Line P s (row 22 (s .objective) (s .steps) f0 nowhere)
   -- "a named number of the step isn't finite"
-  not-finite : Ends P s Stop·NotFinite → Line P s (row 23 (s .objective) (s .steps) nowhere)
-  -- "the final check rejects, with its first rejected place"
-  value-rejected : (v : ℕ) → Ends P s Finished → Checks P (valuesOf P (s .ws)) (Value v) → Line P s (row 24 (s .objective) (s .steps) (valueAt v))
-  row-rejected : (r : ℕ) → Ends P s Finished → Checks P (valuesOf P (s .ws)) (Row r) → Line P s (row 24 (s .objective) (s .steps) (keptRowAt r))
+  not-finite : Ends P s Stop·NotFinite → Line P s (row 23 (s .objective) (s .steps) f0 nowhere)
+  -- "the final check rejects", with the largest excess and its place
+  value-rejected : (v : ℕ) (x : Float) → Ends P s Finished → Checks P (valuesOf P (s .ws)) (Value v x)
+      → Line P s (row 24 (s .objective) (s .steps) x (valueAt v))
+  row-rejected : (r : ℕ) (x : Float) → Ends P s Finished → Checks P (valuesOf P (s .ws)) (Row r x)
+      → Line P s (row 24 (s .objective) (s .steps) x (keptRowAt r))

@@ -26,11 +26,12 @@ solved a m = record { answer = a; memory = m }
 
 -- ---- the end of a run
 
--- "after the final check", at one place for the dual feasible start and the end of a run
+-- "after the final check", at one place for the dual feasible start and the end of a run. 02: "Every caller and answer 24
+-- carries the excess"
 unfoldable pub checkedAnswer : State → Checked → Answer
-checkedAnswer s Passed = Optimal (s .objective) (s .steps)
-checkedAnswer s (Value v) = ValueRejected (s .objective) (s .steps) v
-checkedAnswer s (Row r) = RowRejected (s .objective) (s .steps) r
+checkedAnswer s (Passed x) = Optimal (s .objective) (s .steps) x
+checkedAnswer s (Value v x) = ValueRejected (s .objective) (s .steps) v x
+checkedAnswer s (Row r x) = RowRejected (s .objective) (s .steps) r x
 
 unfoldable pub answerOf : Problem → Ended → Answer
 answerOf P e =

@@ -55,18 +55,26 @@ pub enum Stop {
     NotFinite,
 }
 
-// What the final check says: the first rejected place is a value or a kept row.
-pub enum Checked {
-    Passed,
-    Value(usize),
-    Row(usize),
+// The largest excess so far and its place: a value's number, or the number of values and then a kept row's. `at` is the number of all places
+// where nothing exceeds 0.0.
+pub struct Worst {
+    pub at: usize,
+    pub excess: f64,
 }
 
-// The answer of a solve. Those that a run gives carry the objective and the steps.
+// What the final check says, with the largest excess: a rejection names its place, a value or a kept row.
+pub enum Checked {
+    Passed(f64),
+    Value { value: usize, excess: f64 },
+    Row { row: usize, excess: f64 },
+}
+
+// The answer of a solve. Those that a run gives carry the objective and the steps, those that the final check gives its excess too.
 pub enum Answer {
     Optimal {
         objective: f64,
         steps: usize,
+        excess: f64,
     },
     BadSize,
     BadNumber,
@@ -102,10 +110,12 @@ pub enum Answer {
         objective: f64,
         steps: usize,
         value: usize,
+        excess: f64,
     },
     RowRejected {
         objective: f64,
         steps: usize,
         row: usize,
+        excess: f64,
     },
 }

@@ -14,13 +14,12 @@ use Rattle.rules.specs.Step.{Ended, ended}
 use Rattle.rules.specs.FinalCheck.{valuesOf, finalCheck}
 use Rattle.rules.specs.Answers.{Row as Told, asRow, numberOf}
 use Rattle.rules.specs.Solve.{Solved, checkedAnswer, answerOf, close, endOf, solvePlan}
-use Rattle.rules.specs.Conditions.{Gives, NoneBelow, Refusal, Checks, reached, written, Ends, Line}
+use Rattle.rules.specs.Conditions.{Gives, NoneBelow, Refusal, reached, Passes, Ends, Line}
 use Rattle.rules.specs.Invariant.{Maps, Numbers}
 use Rattle.rules.specs.Steps.{Steps, RunsTo, LentTails, Ran}
 use Rattle.rules.specs.declared.Entering.{Entering}
 use Rattle.rules.specs.declared.Choice.the-variants.{Enters}
 use Rattle.rules.specs.declared.Stop.{Stop}
-use Rattle.rules.specs.declared.Checked.the-variants.{Passed}
 use Rattle.rules.proofs.Refusals.{refusal-exact, refusal-says}
 use Rattle.rules.proofs.Answers.{at-once, end-exact, answer-exact, unbounded-priced, optimal-writes, values-left}
 use Rattle.rules.proofs.Steps.{steps-same}
@@ -64,18 +63,18 @@ module _ (p : Plan) (m : Memory) (r : Solved) (e : Promised p m r) where
 
   -- ---- the other answers
 
-  -- 0 and 20 to 24, each with its objective, steps and place, exactly when no refusal is called for and the rules' own
+  -- 0 and 20 to 24, each with its objective, steps, excess and place, exactly when no refusal is called for and the rules' own
   -- steps lead from the start, within the budget, to a state that its line of the table holds of. By `last-exactly` that
   -- is the state `reached p m`, and no other.
   pub answers-exactly : (t : Told) → (t .number ≡ 0) ⊎ (20 ≤ t .number)
       → (asRow (r .answer) ≡ t) ↔ (NoneBelow 8 p m × ((s : State) × RunsTo p m s × Line (problemOf p) s t))
   answers-exactly t h = rw e (answer-exact p m t h)
 
-  -- 01: "Status 0 is Optimal and writes values, slacks last": the values of the state that was reached, and they pass the final check
-  pub optimal-passes : numberOf (r .answer) ≡ 0 → (written p (r .memory) ≡ valuesOf (problemOf p) (reached p m .ws)) × Checks (problemOf p) (written p (r .memory)) Passed
-  optimal-passes =
-      subst (λ (x : Solved). numberOf (x .answer) ≡ 0 → (written p (x .memory) ≡ valuesOf (problemOf p) (reached p m .ws)) × Checks (problemOf p) (written p (x .memory)) Passed)
-      (sym e) (optimal-writes p m)
+  -- 01: "Status 0 is Optimal and writes values, slacks last": the values of the state that was reached. They have passed
+  -- the final check, with the answer's excess: each is finite and, by its own excess, within the tolerance of its finite
+  -- bounds, and each kept row's residual is within it
+  pub optimal-passes : numberOf (r .answer) ≡ 0 → Passes p m r
+  optimal-passes = subst (λ (x : Solved). numberOf (x .answer) ≡ 0 → Passes p m x) (sym e) (optimal-writes p m)
 
   -- 01: "20 to 24 leave the values array alone", and refusals do
   pub values-stay : ¬ (numberOf (r .answer) ≡ 0) → r .memory .values ≡ m .values

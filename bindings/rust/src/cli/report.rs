@@ -121,6 +121,12 @@ pub fn as_json(file: &str, plan: &Plan, solved: &Solved, with_bits: bool, more: 
             out += &format!(",\"objective_bits\":\"{}\"", bits(objective));
         }
     }
+    if matches!(answer.status, Status::Optimal | Status::Rejected) {
+        out += &format!(",\"excess\":{}", json(answer.excess));
+        if with_bits {
+            out += &format!(",\"excess_bits\":\"{}\"", bits(answer.excess));
+        }
+    }
     if answer.status == Status::Optimal {
         let (columns, slacks) = solved.values.split_at(plan.columns);
         let named = columns.iter().enumerate();
@@ -157,9 +163,10 @@ pub fn sentence(plan: &Plan, solved: &Solved) -> String {
         false => ("cheaper", "the cost falls without end"),
     };
     match (status, place) {
-        (Status::Optimal, _) => {
-            format!("Optimal: no column would make the plan {better}, and the final check accepts it.")
-        }
+        (Status::Optimal, _) => format!(
+            "Optimal: no column would make the plan {better}, and the final check accepts it{}.",
+            largest(solved)
+        ),
         (Status::BadSize, _) => format!("refused: {}.", too_large(plan)),
         (Status::BadNumber, _) => format!("refused: {}.", bad_number(plan)),
         (Status::BadEntry, Place::Entry { row, within }) => format!(
@@ -198,19 +205,30 @@ pub fn sentence(plan: &Plan, solved: &Solved) -> String {
         ),
         (Status::Rejected, Place::Value(v)) => match v.checked_sub(plan.columns) {
             None => format!(
-                "Rejected: the final check finds column {} out of its bounds.",
-                plan.column_name(v)
+                "Rejected: the final check finds column {} out of its bounds{}.",
+                plan.column_name(v),
+                largest(solved)
             ),
             Some(k) => format!(
-                "Rejected: the final check finds the slack of row {} out of its bounds.",
-                kept_name(plan, solved, k)
+                "Rejected: the final check finds the slack of row {} out of its bounds{}.",
+                kept_name(plan, solved, k),
+                largest(solved)
             ),
         },
         (Status::Rejected, Place::KeptRow(k)) => format!(
-            "Rejected: the final check finds row {} off by more than the tolerance.",
-            kept_name(plan, solved, k)
+            "Rejected: the final check finds row {} off by more than the tolerance{}.",
+            kept_name(plan, solved, k),
+            largest(solved)
         ),
         (status, _) => format!("{}.", status.sentence()),
+    }
+}
+
+/// How far the values are beyond a bound or off a row, where they are at all.
+fn largest(solved: &Solved) -> String {
+    match solved.answer.excess {
+        0.0 => String::new(),
+        excess => format!("; the largest excess is {excess:?}"),
     }
 }
 

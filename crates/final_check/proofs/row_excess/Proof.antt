@@ -1,11 +1,11 @@
--- `final_check::row_holds`: the row's sum, its slack, and the test. Assumes nothing.
+-- `final_check::row_excess`: the row's sum and its slack. Assumes nothing.
 use native.Mathlib.Omega.{arith}
 use lib.ListN.{length}
-use Rattle.rules.specs.FinalCheck.{rowHolds}
+use Rattle.rules.specs.FinalCheck.{rowExcess}
 use Rattle.plan.proofs.Kept.{row-read, wider}
 use borrow.Author.Needs.{needs}
-use Rattle.final_check.proofs.row_holds.Statement.{statement}
-use Rattle.final_check.proofs.row_holds.Tie as tie
+use Rattle.final_check.proofs.row_excess.Statement.{statement}
+use Rattle.final_check.proofs.row_excess.Tie as tie
 
 mul-i : tie.Need-mul-i
 mul-i c = search needs
@@ -44,16 +44,20 @@ element-copy-out-abs c = search needs
 abs-requires : tie.Need-abs-requires
 abs-requires c κs = search needs
 
+counted-requires : tie.Need-counted-requires
+counted-requires c κs = search needs
+
 returns : tie.Need-returns
-unfolding rowHolds
+unfolding rowExcess
 returns c =
     let a : tie.After-row-cols = search in
     let b : tie.After-row-coeffs = search in
     let d : tie.After-dot = search in
-    rw (c .abs .ensures, d .dot .ensures, a .row-cols .ensures, b .row-coeffs .ensures)
+    let e : tie.After-abs = search in
+    rw (c .counted .ensures, e .abs .ensures, d .dot .ensures, a .row-cols .ensures, b .row-coeffs .ensures)
 
-pub row-holds-spec : {M : Type 1} → statement M
-row-holds-spec =
+pub row-excess-spec : {M : Type 1} → statement M
+row-excess-spec =
     tie.close
     (tie.spec
     mul-i
@@ -67,4 +71,5 @@ row-holds-spec =
     mul-abs-2
     element-copy-out-abs
     abs-requires
+    counted-requires
     returns)
