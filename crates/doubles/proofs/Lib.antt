@@ -7,3 +7,4 @@ pub mod Order
 pub mod Largest
 pub mod Quotients
 pub mod Nearest
+pub mod Bounds
