@@ -9,7 +9,7 @@ use crate::{
     sparse::{Error, Perm, SparseMat, TriangleMat},
 };
 
-/// One correction of document 01, or of 02 where it says so, that can be switched off.
+/// One correction of document 01 or 02 that can be switched off.
 #[derive(Clone, Copy, Debug, PartialEq, Eq, Hash)]
 pub enum Correction {
     /// "a row with an infinite bound ahead is no candidate in pass two"
@@ -30,10 +30,13 @@ pub enum Correction {
     /// 02, Ask 4: "a column at neither bound enters only if its price's size is at least EPS". The
     /// shown filter lets it enter at any price.
     FreeFilter,
+    /// 02: "every finite cost, coefficient, right side or bound whose size is above 1e12" is
+    /// refused; the source takes it.
+    Wild,
 }
 
 impl Correction {
-    pub const ALL: [Correction; 8] = [
+    pub const ALL: [Correction; 9] = [
         Correction::InfiniteRow,
         Correction::StaleHelper,
         Correction::NanBounds,
@@ -42,6 +45,7 @@ impl Correction {
         Correction::Recalc,
         Correction::SumStart,
         Correction::FreeFilter,
+        Correction::Wild,
     ];
 
     pub fn name(self) -> &'static str {
@@ -54,6 +58,7 @@ impl Correction {
             Correction::Recalc => "recalc",
             Correction::SumStart => "sum",
             Correction::FreeFilter => "free-filter",
+            Correction::Wild => "wild",
         }
     }
 }
