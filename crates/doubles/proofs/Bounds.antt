@@ -1,5 +1,6 @@
--- How large doubles can grow. `Within n x`: x is finite, and n at most in size. Rounding keeps within any bound that is a double itself, so sums and products of
--- what is bounded are bounded, and finite: no rounding error has to be followed. Assumes nothing.
+-- How large doubles can grow. `Within n x`: x is finite, and n at most in size. Rounding keeps within any bound that is
+-- a double itself, so sums and products of what is bounded are bounded, and finite: no rounding error has to be
+-- followed. Assumes nothing.
 use mathlib.Core.Path.{_≡_, refl, sym}
 use mathlib.Core.Bool.{Bool, true, false, not, _&&_, _||_, Bool·beq, cond}
 use mathlib.Core.Logic.{_↔_, _⊎_, inl, inr}
@@ -73,7 +74,9 @@ capped (inf false) (fin u k d) p h w = absurd (not-both h refl)
 capped (fin true m e) y p h w = absurd (not-both p refl)
 capped (fin false m e) nan p h w = absurd (not-both h refl)
 capped (fin false m e) (inf u) p h w = absurd (not-both (w .is-finite) refl)
-capped {n} (fin false m e) (fin u k d) p h w = record { is-finite = refl; most = omega (arith, through (m * up e) (k * up d) n (down e) (down d) 1 (down-pos d) (at-most u h) (omega (arith, w .most))) }
+capped {n} (fin false m e) (fin u k d) p h w =
+    let l = through (m * up e) (k * up d) n (down e) (down d) 1 (down-pos d) (at-most u h) (omega (arith, w .most)) in
+    record { is-finite = refl; most = omega (arith, l) }
   where
     at-most : (u : Bool) → le (fin false m e) (fin u k d) ≡ true → m * up e * down d ≤ k * up d * down e
     at-most false q = le-means _ _ _ q
@@ -181,7 +184,9 @@ above : (s : Bool) (m : ℕ) (e : ℤ) → (le (size (fin s m e)) maxNumber ≡ 
 unfolding finite
 above s m e =
     let x = fin s m e in (
-      λ f. record { is-finite = refl; more = lt-of-not-le (λ h. never (reaches x (record { is-finite = refl; most = h })) f) },
+      λ f.
+          let l : 10 ^ 12 * den x < num x = lt-of-not-le (λ h. never (reaches x (record { is-finite = refl; most = h })) f) in
+          record { is-finite = refl; more = omega (arith, l) },
       λ a. false-by (λ t. omega (arith, a .more, max-exactly x .0 t .most)),
     )
 

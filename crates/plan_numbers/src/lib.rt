@@ -8,7 +8,8 @@ ghost use Rattle.doubles.specs.Lists.{_!_, _#_};
 ghost use Rattle.rules.specs.Refusals.{isNumber, isLower, isUpper, isTolerance, isOp, passes2};
 ghost use Rattle.plan_numbers.specs.Lent.{numbersOf, Numbers};
 
-// 2: "NaN anywhere in the plan; an infinite cost, coefficient or right side", and one above 1e12 in size. Of a NaN the comparison is false.
+// 2: "NaN anywhere in the plan; an infinite cost, coefficient or right side", and one above 1e12 in size. Of a NaN the
+// comparison is false.
 fn is_number(x: f64) -> bool
     ensures { λ r. ⌜ r ≡ isNumber x ⌝ }
 {

@@ -1,5 +1,6 @@
--- 02: "Refuse under 2, before solving, every finite cost, coefficient, right side or bound whose size is above 1e12. Infinite bounds stay allowed. 1e12 itself is accepted":
--- what the tests behind 2 let through, in exact numbers. Assumes nothing.
+-- 02: "Refuse under 2, before solving, every finite cost, coefficient, right side or bound whose size is above 1e12.
+-- Infinite bounds stay allowed. 1e12 itself is accepted": what the tests behind 2 let through, in exact numbers. Assumes
+-- nothing.
 use mathlib.Core.Path.{_≡_}
 use mathlib.Core.Bool.{true, false}
 use mathlib.Core.Logic.{_↔_, _⊎_}

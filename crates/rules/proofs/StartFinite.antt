@@ -1,5 +1,6 @@
--- Every number of the plan is 1e12 at most in size, so what the start reckons with is finite, and 6 is never given. A start value, a coefficient, a cost and a right side are within 2 ^ 40,
--- a product of two of them within 2 ^ 80, and a sum of k products within k * 2 ^ 80, for the k of at most 96 * 2,048 + 1 that can stand in one. Assumes nothing.
+-- Every number of the plan is 1e12 at most in size, so what the start reckons with is finite, and 6 is never given. A
+-- start value, a coefficient, a cost and a right side are within 2 ^ 40, a product of two of them within 2 ^ 80, and a
+-- sum of k products within k * 2 ^ 80, for the k of at most 96 * 2,048 + 1 that can stand in one. Assumes nothing.
 use mathlib.Core.Path.{_≡_, refl}
 use mathlib.Core.Bool.{Bool, true, false}
 use mathlib.Core.List.{List, [], _∷_, _++_}

@@ -93,8 +93,9 @@ StartsBad p = (¬ (p .starts # 0 ≡ 0)) ⊎ Some (p .rows) (λ r. p .starts # (
 unfoldable pub Gives1 : Plan → Memory → Type 0
 Gives1 p m = SizeOver p ⊎ PlanShort p ⊎ MemoryShort p m ⊎ StartsBad p
 
--- ---- 2: "NaN anywhere in the plan; an infinite cost, coefficient or right side; lower bound +inf, upper -inf; tolerance outside 0 to 1; a comparison above 2".
--- 02: "every finite cost, coefficient, right side or bound whose size is above 1e12"
+-- ---- 2: "NaN anywhere in the plan; an infinite cost, coefficient or right side; lower bound +inf, upper -inf;
+-- tolerance outside 0 to 1; a comparison above 2". 02: "every finite cost, coefficient, right side or bound whose size
+-- is above 1e12"
 abbrev pub Wild : Float → Type 0
 Wild x = Above (10 ^ 12) x
 

@@ -63,8 +63,9 @@ startsRise p = eqb (p .starts # 0) 0 && all (p .rows) (λ r. leb (p .starts # r)
 unfoldable pub passes1 : Plan → Memory → Bool
 passes1 p m = sizesFit p && planLong p && memoryLong p m && startsRise p
 
--- ---- 2: "NaN anywhere in the plan; an infinite cost, coefficient or right side; lower bound +inf, upper -inf"; 02: "every finite cost, coefficient, right side or bound
--- whose size is above 1e12". One comparison for all three: it is false of a NaN and of an infinity too.
+-- ---- 2: "NaN anywhere in the plan; an infinite cost, coefficient or right side; lower bound +inf, upper -inf"; 02:
+-- "every finite cost, coefficient, right side or bound whose size is above 1e12". One comparison for all: it is false of
+-- a NaN and of an infinity too.
 abbrev pub isNumber : Float → Bool
 isNumber x = le (size x) maxNumber
 
