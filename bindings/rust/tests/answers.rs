@@ -280,7 +280,7 @@ fn a_number_above_1e12_is_2() {
             }
         }
     }
-    let largest = one_column(1e12, (1e12, INF), &[(1e12, GE, 1e12)]);
+    let largest = one_column(1e12, (1e12, INF), &[(1e12, GE, 0.0)]);
     assert_eq!(largest.solve().unwrap().objective(), 1e24);
     // 6 before, by a slack, by the objective and by a norm.
     for problem in [
@@ -558,7 +558,7 @@ fn a_refusal_changes_no_cell_and_a_solve_keeps_the_tails() {
     let solution = reaching(Status::Optimal).solve_in(&mut work).unwrap();
     assert_eq!(solution.steps(), 1);
     let before = bits(&work);
-    for status in Status::ALL.into_iter().filter(|status| status.is_refusal()) {
+    for status in given().filter(|status| status.is_refusal()) {
         assert!(reaching(status).solve_in(&mut work).is_err());
         assert_eq!(bits(&work), before, "{status:?}");
     }

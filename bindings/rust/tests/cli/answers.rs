@@ -162,14 +162,15 @@ fn a_number_that_is_too_large() {
     // 1e12 itself, and a bound that means none.
     for file in [
         mps(
-            row,
-            " x c 1e12 r 1e12\n",
-            " RHS r 1e12\n",
+            " L r\n L s\n",
+            " x c 1e12 r 1e12\n x s 1\n",
+            " RHS s 1e12\n",
             " UP B x 1e12\n LO B x -1e12\n",
         ),
         mps(row, column, "", " UP B x 1e30\n"),
     ] {
-        assert_eq!(run(&["solve", "t.mps"], &file).exit, 0);
+        let told = run(&["solve", "t.mps"], &file);
+        assert_eq!(told.exit, 0, "{}", told.out);
     }
 }
 
