@@ -21,9 +21,10 @@ extern "C" {
  * status     0 optimal; refused, the lowest number that applies, objective 0.0 and 0 steps:
  *            1 a size or the budget over its limit, an array too short, bad row starts
  *            2 NaN; an infinite cost, coefficient or right side; a lower bound of +inf or an upper of
- *              -inf; a tolerance outside 0 to 1; a comparison above 2
+ *              -inf; a finite one of these above 1e12 in size; a tolerance outside 0 to 1; a comparison
+ *              above 2
  *            3 a column number that is too large or doesn't rise     4 lower > upper
- *            5 an empty row that is false                            6 a start that isn't finite
+ *            5 an empty row that is false                            6 no longer given
  *            7 a slack that starts outside its bounds
  *            ended with the state after the last whole step, and the values left alone:
  *            20 unbounded   21 the budget is spent   22 the eta store is full
@@ -48,7 +49,8 @@ typedef struct {
 
 /* columns 0 to 128, rows 0 to 96, entries 0 to 2,048, budget 0 to 10,000, tolerance 0 to 1.
  * Read:
- *   costs, lowers, uppers          columns cells; a bound may be -inf or +inf
+ *   costs, lowers, uppers          columns cells; a lower bound may be -inf, an upper one +inf; every
+ *                                  other number of the plan is at most 1e12 in size
  *   starts                         rows + 1: the entries of row i are starts[i] up to starts[i + 1]
  *   cols, coeffs                   entries; column numbers rise within a row
  *   ops, rhs                       rows; 0 is <=, 1 is =, 2 is >=

@@ -7,6 +7,9 @@ use crate::plan::{Lent, Plan};
 /// "EPS is the double nearest 1e-8".
 const EPS: f64 = 1e-8;
 
+/// 02: "1e12 itself is accepted".
+const LARGEST: f64 = 1e12;
+
 /// "A touched list grows at first touch; a place that becomes 0.0 stays".
 #[derive(Clone, Default)]
 struct Touched(Vec<(usize, f64)>);
@@ -151,27 +154,30 @@ fn too_large_or_short(plan: &Plan) -> bool {
         || plan.starts[rows] != entries
 }
 
+/// NaN, an infinity, or a size above 1e12.
+fn off(number: f64) -> bool {
+    !(-LARGEST..=LARGEST).contains(&number)
+}
+
 /// Refusal 2.
 fn bad_number(plan: &Plan) -> bool {
     let columns = plan.columns as usize;
     let rows = plan.rows as usize;
     for c in 0..columns {
-        if !plan.cost[c].is_finite()
-            || plan.lower[c].is_nan()
-            || plan.upper[c].is_nan()
-            || plan.lower[c] == f64::INFINITY
-            || plan.upper[c] == f64::NEG_INFINITY
+        if off(plan.cost[c])
+            || plan.lower[c] != f64::NEG_INFINITY && off(plan.lower[c])
+            || plan.upper[c] != f64::INFINITY && off(plan.upper[c])
         {
             return true;
         }
     }
     for e in 0..plan.entries as usize {
-        if !plan.coef[e].is_finite() {
+        if off(plan.coef[e]) {
             return true;
         }
     }
     for r in 0..rows {
-        if !plan.rhs[r].is_finite() || plan.ops[r] > 2 {
+        if off(plan.rhs[r]) || plan.ops[r] > 2 {
             return true;
         }
     }

@@ -121,25 +121,31 @@ fn sizes_fit(plan: &Plan) -> bool {
 }
 
 // 2: "NaN anywhere in the plan; an infinite cost, coefficient or right side; lower bound +inf, upper
-// -inf; tolerance outside 0 to 1; a comparison above 2". What stands past the needed length is no
-// part of the plan.
+// -inf; tolerance outside 0 to 1; a comparison above 2". 02: "every finite cost, coefficient, right
+// side or bound whose size is above 1e12". What stands past the needed length is no part of the plan.
 fn numbers_fit(plan: &Plan, options: Options) -> bool {
     let columns = plan.columns as usize;
     let rows = plan.rows as usize;
     let entries = plan.entries as usize;
     // "The source lets NaN bounds through: a difference."
     let nan_fits = options.shows(Correction::NanBounds);
-    let finite = |vals: &[f64]| vals.iter().all(|val| val.is_finite());
+    // The source takes a finite number of any size.
+    let largest = if options.shows(Correction::Wild) {
+        f64::MAX
+    } else {
+        limits::NUMBER
+    };
+    let number = |val: f64| val.abs() <= largest;
+    let bound =
+        |val: f64, infinite: f64| val == infinite || number(val) || (nan_fits && val.is_nan());
+    let numbers = |vals: &[f64]| vals.iter().all(|&val| number(val));
+    let bounds = |vals: &[f64], infinite| vals.iter().all(|&val| bound(val, infinite));
 
-    finite(&plan.cost[..columns])
-        && plan.lower[..columns]
-            .iter()
-            .all(|&min| min < f64::INFINITY || (nan_fits && min.is_nan()))
-        && plan.upper[..columns]
-            .iter()
-            .all(|&max| max > f64::NEG_INFINITY || (nan_fits && max.is_nan()))
-        && finite(&plan.coef[..entries])
-        && finite(&plan.rhs[..rows])
+    numbers(&plan.cost[..columns])
+        && bounds(&plan.lower[..columns], f64::NEG_INFINITY)
+        && bounds(&plan.upper[..columns], f64::INFINITY)
+        && numbers(&plan.coef[..entries])
+        && numbers(&plan.rhs[..rows])
         && plan.tolerance >= 0.0
         && plan.tolerance <= 1.0
         && plan.ops[..rows].iter().all(|&op| op <= 2)

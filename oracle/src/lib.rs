@@ -52,4 +52,5 @@ pub mod limits {
     pub const ETA_ENTRIES: u64 = 4_096;
     pub const TRI_PLACES: u64 = 96;
     pub const TRI_ENTRIES: u64 = 4_560;
+    pub const NUMBER: f64 = 1e12;
 }

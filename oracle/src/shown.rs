@@ -9,7 +9,7 @@ use crate::{
     sparse::{Error, Perm, SparseMat, TriangleMat},
 };
 
-/// One correction of document 01, or of 02 where it says so, that can be switched off.
+/// One correction of document 01 or 02 that can be switched off.
 #[derive(Clone, Copy, Debug, PartialEq, Eq, Hash)]
 pub enum Correction {
     /// "a row with an infinite bound ahead is no candidate in pass two"
@@ -33,10 +33,13 @@ pub enum Correction {
     /// 02, Ask 7: "Acceptance is excess <= tol", and 24 names the largest excess. 01 has each value
     /// within lower - tol and upper + tol, and names the first that isn't.
     Acceptance,
+    /// 02: "every finite cost, coefficient, right side or bound whose size is above 1e12" is
+    /// refused; the source takes it.
+    Wild,
 }
 
 impl Correction {
-    pub const ALL: [Correction; 9] = [
+    pub const ALL: [Correction; 10] = [
         Correction::InfiniteRow,
         Correction::StaleHelper,
         Correction::NanBounds,
@@ -46,6 +49,7 @@ impl Correction {
         Correction::SumStart,
         Correction::FreeFilter,
         Correction::Acceptance,
+        Correction::Wild,
     ];
 
     pub fn name(self) -> &'static str {
@@ -59,6 +63,7 @@ impl Correction {
             Correction::SumStart => "sum",
             Correction::FreeFilter => "free-filter",
             Correction::Acceptance => "acceptance",
+            Correction::Wild => "wild",
         }
     }
 }

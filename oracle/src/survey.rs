@@ -5,13 +5,13 @@ use std::collections::{BTreeMap, HashSet};
 use std::hash::{DefaultHasher, Hash, Hasher};
 
 use crate::answer::{Answer, Named, Outcome, Rejected, Room, StartNumber, State};
-use crate::families::{bad_number_kind, BAD_NUMBERS, FREE_KINDS, TURNING};
+use crate::families::{bad_number_kind, BAD_NUMBERS, FREE_KINDS, LARGEST, TURNING};
 use crate::gate;
 use crate::limits;
 use crate::plan::Plan;
-use crate::shown::Options;
+use crate::shown::{Correction, Options};
 
-/// The answers that a call can give.
+/// The answers of the table. 02: "6 is no longer given".
 pub const NUMBERS: [u8; 13] = [0, 1, 2, 3, 4, 5, 6, 7, 20, 21, 22, 23, 24];
 
 #[derive(Default)]
@@ -36,9 +36,6 @@ impl Survey {
             self.count(format!("{} after 3 or more steps", number));
         }
         match answer.outcome {
-            Outcome::StartNotFinite(StartNumber::Value) => self.count("6 by a slack"),
-            Outcome::StartNotFinite(StartNumber::Objective) => self.count("6 by the objective"),
-            Outcome::StartNotFinite(StartNumber::Norm) => self.count("6 by a norm"),
             Outcome::NoRoom(Room::Columns) => self.count("22 by columns"),
             Outcome::NoRoom(Room::Entries) => self.count("22 by entries"),
             Outcome::NotFinite { named, flip } => {
@@ -52,8 +49,15 @@ impl Survey {
             Outcome::Rejected(Rejected::Row(_)) => self.count("24 by a row"),
             _ => {}
         }
-        if let (2, Some(("number", index))) = (number, family(plan)) {
-            self.count(format!("2 by {}", bad_number_kind(index)));
+        match family(plan) {
+            Some(("number", index)) if number == 2 => {
+                self.count(format!("2 by {}", bad_number_kind(index)))
+            }
+            Some(("largest", index)) if number != 2 => {
+                self.count(format!("accepted: {}", LARGEST[index % LARGEST.len()]))
+            }
+            Some(("overflow", _)) if number == 2 => self.count_six(plan),
+            _ => {}
         }
 
         if plan.rows == limits::ROWS && plan.columns == limits::COLUMNS && answer.state.is_some() {
@@ -73,6 +77,18 @@ impl Survey {
         }
         if let Some((family, _)) = family(plan) {
             self.count(format!("family {}", family));
+        }
+    }
+
+    /// What a plan that is refused under 2 answered when numbers of any size were taken.
+    fn count_six(&mut self, plan: &Plan) {
+        match of_any_size(plan) {
+            Outcome::StartNotFinite(StartNumber::Value) => self.count("2, once 6 by a slack"),
+            Outcome::StartNotFinite(StartNumber::Objective) => {
+                self.count("2, once 6 by the objective")
+            }
+            Outcome::StartNotFinite(StartNumber::Norm) => self.count("2, once 6 by a norm"),
+            _ => {}
         }
     }
 
@@ -135,8 +151,13 @@ impl Survey {
     pub fn targets(&self) -> Vec<(String, u64, u64)> {
         let mut targets = vec![("plans".to_string(), 120_000, self.plans)];
         for number in NUMBERS {
-            let name = format!("different plans for {}", number);
-            targets.push((name, 1_000, self.different(number)));
+            if number == 6 {
+                let others = self.plans - self.different(6);
+                targets.push(("plans not for 6".to_string(), self.plans, others));
+            } else {
+                let name = format!("different plans for {}", number);
+                targets.push((name, 1_000, self.different(number)));
+            }
         }
         let mut at_least = |least: u64, name: String| {
             let count = self.get(&name);
@@ -148,10 +169,13 @@ impl Survey {
         for kind in BAD_NUMBERS {
             at_least(50, format!("2 by {}", kind));
         }
+        for place in LARGEST {
+            at_least(50, format!("accepted: {}", place));
+        }
         for (least, name) in [
-            (100, "6 by a slack"),
-            (100, "6 by the objective"),
-            (100, "6 by a norm"),
+            (100, "2, once 6 by a slack"),
+            (100, "2, once 6 by the objective"),
+            (100, "2, once 6 by a norm"),
             (100, "22 by columns"),
             (100, "22 by entries"),
             (100, "24 by a column"),
@@ -163,6 +187,7 @@ impl Survey {
             (1_000, "runs with dropped rows"),
             (100_000, "family tiny"),
             (1_000, "family limits"),
+            (1_000, "family largest"),
             (1_000, "family short"),
             (1_000, "family ties"),
             (1_000, "family wild"),
@@ -193,6 +218,10 @@ impl Survey {
     }
 }
 
+fn of_any_size(plan: &Plan) -> Outcome {
+    gate::solve(plan, Options::showing(Correction::Wild)).outcome
+}
+
 /// Prints each target that is missed and how many aren't; whether none is missed.
 pub fn met(targets: &[(String, u64, u64)]) -> bool {
     let missed: Vec<_> = targets
@@ -210,8 +239,14 @@ pub fn met(targets: &[(String, u64, u64)]) -> bool {
     missed.is_empty()
 }
 
-/// Places of document 01's order that no plan reaches; families::named says why.
-pub const UNREACHED: [Named; 2] = [Named::Leaving, Named::Eta];
+/// Places of document 01's order that no plan reaches; docs/DECISIONS.md, "23's places", says why.
+pub const UNREACHED: [Named; 5] = [
+    Named::Limit,
+    Named::Distance,
+    Named::Value,
+    Named::Leaving,
+    Named::Eta,
+];
 
 /// The name of a count of free columns.
 fn free_column(price: &str, in_row: bool, what: &str) -> String {
@@ -237,7 +272,7 @@ fn hash_of(plan: &Plan) -> u64 {
 }
 
 /// Picks the plans of the fixed list: of each family, of each kind of answer, the first few that
-/// are short. A 22 is long; of these the first of each family is taken.
+/// are short. A 22 and a 23 may be long.
 #[derive(Default)]
 pub struct Fixed {
     taken: BTreeMap<(String, String), usize>,
@@ -248,9 +283,15 @@ impl Fixed {
         let answer = gate::solve(plan, Options::default());
         let (family, index) = family(plan).unwrap_or(("", 0));
         let kind = match answer.outcome {
-            // The families "short", "number" and "free" go through their kinds in turn.
+            // The families "short", "number", "largest" and "free" go through their kinds in turn.
             Outcome::BadSize if family == "short" => format!("1, {}", index % 92),
             Outcome::BadNumber if family == "number" => bad_number_kind(index).to_string(),
+            Outcome::BadNumber if family == "overflow" => {
+                format!("2, once {:?}", of_any_size(plan))
+            }
+            outcome if family == "largest" && outcome != Outcome::BadNumber => {
+                LARGEST[index % LARGEST.len()].to_string()
+            }
             outcome if family == "free" => {
                 format!("{}, {}", outcome.number(), index % FREE_KINDS)
             }
@@ -263,6 +304,7 @@ impl Fixed {
         };
         let (most_taken, longest) = match answer.outcome.number() {
             22 => (1, usize::MAX),
+            23 => (2, usize::MAX),
             1 | 2 => (1, 700),
             3..=7 => (4, 700),
             _ if family == "free" => (1, 900),

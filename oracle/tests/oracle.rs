@@ -172,6 +172,125 @@ fn plans_without_a_reset_are_the_same_as_shown() {
     assert!(same > 1_000);
 }
 
+/// One column x from 0.0 up with cost 1.0 and one row x <= 1.0, changed.
+fn small_plan(change: impl Fn(&mut Plan)) -> Plan {
+    let mut plan = Plan {
+        columns: 1,
+        rows: 1,
+        entries: 1,
+        budget: 10,
+        cost: vec![1.0],
+        lower: vec![0.0],
+        upper: vec![f64::INFINITY],
+        starts: vec![0, 1],
+        cols: vec![0],
+        coef: vec![1.0],
+        ops: vec![0],
+        rhs: vec![1.0],
+        ..Plan::default()
+    };
+    change(&mut plan);
+    plan
+}
+
+fn number_of(plan: &Plan) -> u8 {
+    let number = gate::solve(plan, Options::default()).outcome.number();
+    assert_eq!(fresh::solve(plan).outcome.number(), number);
+    number
+}
+
+/// 02: "Refuse under 2, before solving, every finite cost, coefficient, right side or bound whose size
+/// is above 1e12. Infinite bounds stay allowed. 1e12 itself is accepted."
+#[test]
+fn numbers_up_to_1e12() {
+    let next = |x: f64| f64::from_bits(x.to_bits() + 1);
+    let before = |x: f64| f64::from_bits(x.to_bits() - 1);
+    let (inf, nan) = (f64::INFINITY, f64::NAN);
+    let places: [fn(&mut Plan, f64); 5] = [
+        |plan, x| plan.cost[0] = x,
+        |plan, x| plan.lower[0] = x,
+        |plan, x| plan.upper[0] = x,
+        |plan, x| plan.coef[0] = x,
+        |plan, x| plan.rhs[0] = x,
+    ];
+    for (place, put) in places.iter().enumerate() {
+        let with = |x| small_plan(|plan| put(plan, x));
+        for sign in [1.0, -1.0] {
+            for size in [5e-324, before(1e12), 1e12] {
+                assert_ne!(
+                    number_of(&with(sign * size)),
+                    2,
+                    "{} {}",
+                    place,
+                    sign * size
+                );
+            }
+            for size in [next(1e12), 2e12, 1e200, f64::MAX] {
+                let plan = with(sign * size);
+                assert_eq!(number_of(&plan), 2, "{} {}", place, sign * size);
+                // Only this correction refuses it.
+                let shown = gate::solve(&plan, Options::showing(Correction::Wild));
+                assert_ne!(shown.outcome.number(), 2, "{} {}", place, sign * size);
+            }
+            // A lower bound may be -inf and an upper one +inf.
+            let allowed = (place, sign) == (1, -1.0) || (place, sign) == (2, 1.0);
+            assert_eq!(number_of(&with(sign * inf)) != 2, allowed, "{}", place);
+        }
+        assert_eq!(number_of(&with(nan)), 2, "{}", place);
+    }
+}
+
+/// 2 comes after 1 and before 3, 4 and 5; what stands past the needed length is no part of the plan.
+#[test]
+fn a_wild_number_among_other_reasons() {
+    let wild = |change: &dyn Fn(&mut Plan)| {
+        number_of(&small_plan(|plan| {
+            plan.cost[0] = 1e200;
+            change(plan);
+        }))
+    };
+    assert_eq!(wild(&|plan| plan.budget = 10_001), 1);
+    assert_eq!(wild(&|plan| plan.cols[0] = 1), 2);
+    assert_eq!(wild(&|plan| plan.upper[0] = -1.0), 2);
+    assert_eq!(wild(&|plan| plan.rhs[0] = -1.0), 2);
+    let past = small_plan(|plan| {
+        plan.cost.push(1e200);
+        plan.lower.push(1e200);
+        plan.coef.push(f64::NAN);
+    });
+    assert_eq!(number_of(&past), 0);
+}
+
+/// 02: "Update the cases where 6 was reached by overflow": these are refused under 2.
+#[test]
+fn six_is_two() {
+    let slack = small_plan(|plan| {
+        plan.lower[0] = 1e300;
+        plan.coef[0] = 1e300;
+    });
+    let objective = small_plan(|plan| {
+        plan.cost[0] = 1e200;
+        plan.lower[0] = 1e200;
+        plan.ops[0] = 2;
+    });
+    let norm = small_plan(|plan| plan.coef[0] = 1e200);
+    for plan in [slack, objective, norm] {
+        let shown = gate::solve(&plan, Options::showing(Correction::Wild));
+        assert_eq!(shown.outcome.number(), 6);
+        assert_eq!(number_of(&plan), 2);
+    }
+    // The largest that is let through: sums of products of 1e12 are far from the largest double.
+    let largest = small_plan(|plan| {
+        plan.cost[0] = 1e12;
+        plan.lower[0] = 1e12;
+        plan.coef[0] = 1e12;
+        plan.ops[0] = 2;
+        plan.rhs[0] = 0.0;
+    });
+    let answer = gate::solve(&largest, Options::default());
+    assert_eq!((answer.outcome.number(), answer.objective), (0, 1e24));
+}
+
 /// A refusal has objective 0.0, 0 steps, no values and no state, whatever it is.
 #[test]
 fn refusals_carry_nothing() {

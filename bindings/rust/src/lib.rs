@@ -49,7 +49,7 @@ Change `use minilp::…` to `use tevalumi::…`. What differs:
 | runs until it is done | at most [`Problem::set_budget`] steps (10,000 unless set), else error 21 |
 | no check of the result | every value and constraint is checked within [`Problem::set_tolerance`] (1e-6 unless set), else error 24 |
 | refactors the basis | a store of 256 exchanges and 4,096 entries; when it is full, error 22 |
-| NaN and overflow go on | errors 2, 6 and 23 |
+| NaN, numbers above 1e12 and overflow go on | errors 2 and 23 |
 | a variable with no bounds enters at any reduced cost: one with coefficient 0 in no constraint can be called unbounded | it enters only where its reduced cost is at least 1e-8 in size, as every variable does |
 | `Error::Infeasible`, `Error::Unbounded` | [`Error::status`] is one of [`Status`]; [`Status::Unbounded`] is 20; [`Status::CrossedBounds`] (4) and [`Status::FalseEmptyRow`] (5) are infeasible, [`Status::SlackOutside`] (7) may be |
 | `add_constraint` panics where a variable stands twice or is of a larger problem | [`Problem::solve`] gives error 3 and names the constraint |

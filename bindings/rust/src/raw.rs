@@ -53,6 +53,8 @@ pub mod limits {
     pub const BUDGET: usize = 10_000;
     /// The largest tolerance of the final check; the smallest is 0.
     pub const TOLERANCE: f64 = 1.0;
+    /// A plan's costs, coefficients, right sides and finite bounds, in size.
+    pub const NUMBER: f64 = 1e12;
     /// Columns of the eta store.
     pub const ETA_COLUMNS: usize = 256;
     /// Entries of the eta store.
@@ -91,7 +93,8 @@ pub enum Status {
     /// don't begin at 0, fall, or don't end at the entry count.
     BadSize = 1,
     /// 2: NaN in the plan, an infinite cost, coefficient or right side, a lower bound of +inf or
-    /// an upper bound of -inf, a tolerance outside 0 to 1, or an unknown comparison.
+    /// an upper bound of -inf, a finite one of these above 1e12 in size, a tolerance outside 0 to 1,
+    /// or an unknown comparison.
     BadNumber = 2,
     /// 3: an entry's column is too large or doesn't rise within its row.
     BadEntry = 3,
@@ -99,7 +102,8 @@ pub enum Status {
     CrossedBounds = 4,
     /// 5: a row without entries is false.
     FalseEmptyRow = 5,
-    /// 6: a start value, the objective's sum or a start norm isn't finite.
+    /// 6: a start value, the objective's sum or a start norm isn't finite. No longer given: numbers up
+    /// to 1e12 don't reach it.
     StartNotFinite = 6,
     /// 7: a row's slack starts outside its bounds, so the slack start isn't feasible. The plan
     /// may have a solution all the same.
@@ -156,7 +160,7 @@ impl Status {
         match self {
             Status::Optimal => "optimal: no column would enter, and the final check accepts the values",
             Status::BadSize => "a size is over its limit or an array is too short",
-            Status::BadNumber => "a number isn't allowed: NaN, an infinity where none may stand, a tolerance outside 0 to 1, or an unknown comparison",
+            Status::BadNumber => "a number isn't allowed: NaN, an infinity where none may stand, a size above 1e12, a tolerance outside 0 to 1, or an unknown comparison",
             Status::BadEntry => "a row names a column twice, out of order, or that isn't there",
             Status::CrossedBounds => "a lower bound is above its upper bound",
             Status::FalseEmptyRow => "a row without entries is false",

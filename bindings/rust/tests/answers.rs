@@ -70,7 +70,28 @@ fn rounded() -> Problem {
     problem
 }
 
-/// A problem for each number.
+/// A column for each row, with a little over EPS there and a large entry in the next row, and a cost for
+/// the last one: each step makes numbers 2^59 times as large, until a norm is past the largest double.
+fn growing() -> Problem {
+    let (pivot, large) = (2.0f64.powi(-26), 2.0f64.powi(33));
+    let mut problem = minimise();
+    let vars: Vec<Variable> = (0..10)
+        .map(|j| problem.add_var(if j == 9 { -1.0 } else { 0.0 }, (0.0, INF)))
+        .collect();
+    problem.add_constraint([(vars[0], pivot)], LE, 0.0);
+    for pair in vars.windows(2) {
+        problem.add_constraint([(pair[0], -large), (pair[1], pivot)], LE, 0.0);
+    }
+    problem
+}
+
+/// 02: "6 is no longer given".
+fn given() -> impl Iterator<Item = Status> {
+    let all = Status::ALL.into_iter();
+    all.filter(|&status| status != Status::StartNotFinite)
+}
+
+/// A problem for each number that is given.
 fn reaching(status: Status) -> Problem {
     let n1 = || one_column(-1.0, (0.0, INF), &[(1.0, LE, 4.0)]);
     match status {
@@ -96,7 +117,7 @@ fn reaching(status: Status) -> Problem {
             problem.add_constraint(LinearExpr::empty(), LE, -1.0);
             problem
         }
-        Status::StartNotFinite => one_column(0.0, (1e200, 1e200), &[(1e200, LE, 0.0)]),
+        Status::StartNotFinite => unreachable!("6 is no longer given"),
         Status::SlackOutside => one_column(1.0, (0.0, INF), &[(1.0, GE, 1.0)]),
         Status::Unbounded => one_column(-1.0, (0.0, INF), &[(-1.0, LE, 4.0)]),
         Status::Spent => {
@@ -105,14 +126,14 @@ fn reaching(status: Status) -> Problem {
             problem
         }
         Status::NoRoom => crowded(),
-        Status::NotFinite => one_column(-1e308, (0.0, INF), &[(1.0, LE, 100.0)]),
+        Status::NotFinite => growing(),
         Status::Rejected => nearly(0.0),
     }
 }
 
 #[test]
 fn every_number_is_reached_by_a_problem() {
-    for status in Status::ALL {
+    for status in given() {
         let problem = reaching(status);
         match problem.solve() {
             Ok(_) => assert_eq!(status, Status::Optimal),
@@ -132,7 +153,7 @@ fn every_number_is_reached_by_a_problem() {
 #[test]
 fn every_number_is_reached_by_the_raw_call() {
     let mut work = Workspace::new();
-    for status in Status::ALL {
+    for status in given() {
         let problem = reaching(status);
         let plan = problem.plan();
         let mut values = [7.5; limits::COLUMNS + limits::ROWS];
@@ -237,6 +258,38 @@ fn every_bad_number_is_2() {
         let mut problem = one_column(1.0, (0.0, 1.0), &[]);
         problem.set_tolerance(tolerance);
         assert!(problem.solve().is_ok());
+    }
+}
+
+/// 02: "1e12 itself is accepted", and "Infinite bounds stay allowed".
+#[test]
+fn a_number_above_1e12_is_2() {
+    let places: [fn(f64) -> Problem; 5] = [
+        |x| one_column(x, (0.0, 1.0), &[]),
+        |x| one_column(1.0, (x, INF), &[]),
+        |x| one_column(1.0, (-INF, x), &[]),
+        |x| one_column(1.0, (0.0, 1.0), &[(x, LE, 1.0)]),
+        |x| one_column(1.0, (0.0, 1.0), &[(1.0, LE, x)]),
+    ];
+    let above = f64::from_bits(limits::NUMBER.to_bits() + 1);
+    for with in places {
+        for sign in [1.0, -1.0] {
+            let number = |x: f64| with(sign * x).solve().map_or_else(|e| e.number(), |_| 0);
+            assert_ne!(number(limits::NUMBER), 2);
+            for x in [above, 1e200, f64::MAX] {
+                assert_eq!(number(x), 2, "{x}");
+            }
+        }
+    }
+    let largest = one_column(1e12, (1e12, INF), &[(1e12, GE, 0.0)]);
+    assert_eq!(largest.solve().unwrap().objective(), 1e24);
+    // 6 before, by a slack, by the objective and by a norm.
+    for problem in [
+        one_column(0.0, (1e200, 1e200), &[(1e200, LE, 0.0)]),
+        one_column(1e200, (1e200, INF), &[]),
+        one_column(1.0, (0.0, INF), &[(1e200, LE, 1.0)]),
+    ] {
+        assert_eq!(error(&problem).number(), 2);
     }
 }
 
@@ -507,7 +560,7 @@ fn a_refusal_changes_no_cell_and_a_solve_keeps_the_tails() {
     let solution = reaching(Status::Optimal).solve_in(&mut work).unwrap();
     assert_eq!(solution.steps(), 1);
     let before = bits(&work);
-    for status in Status::ALL.into_iter().filter(|status| status.is_refusal()) {
+    for status in given().filter(|status| status.is_refusal()) {
         assert!(reaching(status).solve_in(&mut work).is_err());
         assert_eq!(bits(&work), before, "{status:?}");
     }

@@ -1,7 +1,7 @@
 -- The comparisons with an infinity and with zero, by cases.
 use mathlib.Core.Path.{_≡_, refl, sym}
 use mathlib.Core.Bool.{Bool, true, false, _&&_, true≢false}
-use mathlib.Core.Logic.{_↔_, _⊎_, inl, inr, ⊎-elim}
+use mathlib.Core.Logic.{_↔_}
 use Prim.Native.Nat.{ℕ, zero, suc, _+_, _*_, _^_, _<_}
 use native.Mathlib.Nat.{zero-mul, mul-pos, pow-suc}
 use native.Mathlib.Omega.{arith}
@@ -89,13 +89,6 @@ size-pos (fin true m e) h g =
     let a0 : a ≡ 0 = omega (arith, ltb-false 0 (a + b) h) in
     let b0 : b ≡ 0 = zero-mul (down e) in
     absurd (both a b a0 b0 g)
-
--- not finite: a NaN or an infinity
-pub not-finite : (x : Float) → (finite x ≡ false) ↔ ((isNan x ≡ true) ⊎ (infinite x ≡ true))
-unfolding finite infinite isNan
-not-finite nan = (λ _. inl refl, λ _. refl)
-not-finite (inf s) = (λ _. inr refl, λ _. refl)
-not-finite (fin s m e) = (λ h. absurd (true≢false h), ⊎-elim (λ h. sym h) (λ h. sym h))
 
 pub equals-inf : (s : Bool) (x : Float) → (eq x (inf s) ≡ true) ↔ (x ≡ inf s)
 unfolding eq

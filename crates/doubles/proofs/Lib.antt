@@ -8,3 +8,4 @@ pub mod Largest
 pub mod Quotients
 pub mod Once
 pub mod Nearest
+pub mod Bounds

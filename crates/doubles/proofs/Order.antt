@@ -47,7 +47,7 @@ fill : (a b c : Bool) → (a ≡ false → b ≡ true) → (a ≡ false → c �
 fill true b c f g = refl
 fill false b c f g = rw (f refl, g refl)
 
-le-by : (a b : ℕ) → a ≤ b → ltb a b || (eqb a b && true) ≡ true
+pub le-by : (a b : ℕ) → a ≤ b → ltb a b || (eqb a b && true) ≡ true
 le-by a b h = fill (ltb a b) (eqb a b) true (λ t. eq-eqb a b (omega (arith, ltb-false a b t))) (λ t. refl)
 
 le-back : (a b : ℕ) → a ≤ b → ltb a b || (eqb b a && true) ≡ true

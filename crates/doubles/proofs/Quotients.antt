@@ -38,7 +38,7 @@ units-sign f q k = go (ltb (q * 2 ^ k) (2 ^ (low f + suc (emax f))))
     go true = odd-sign (suc (prec f)) q k (low f)
     go false = refl
 
-round-sign : (f : Format) (a b : ℕ) → notNegative (round f false a b) ≡ true
+pub round-sign : (f : Format) (a b : ℕ) → notNegative (round f false a b) ≡ true
 unfolding round
 round-sign f a b = units-sign f _ _
 

@@ -32,6 +32,11 @@ f2 = ofBits binary64 0x4000_0000_0000_0000
 abbrev pub eps : Float
 eps = ofBits binary64 0x3e45_798e_e230_8c3a
 
+-- 02: "every finite cost, coefficient, right side or bound whose size is above 1e12" is refused. 1e12 is a double,
+-- 5 ^ 12 * 2 ^ 12.
+abbrev pub maxNumber : Float
+maxNumber = ofBits binary64 0x426d_1a94_a200_0000
+
 abbrev pub +inf : Float
 +inf = inf false
 

@@ -6,6 +6,9 @@ ghost use Rattle.doubles.specs.Num.{finite, infinite, size, eps, +inf};
 // 01: "EPS is the double nearest 1e-8".
 pub const EPS: f64 = 1e-8;
 
+// 02: "every finite cost, coefficient, right side or bound whose size is above 1e12" is refused.
+pub const MAX_NUMBER: f64 = 1e12;
+
 // The limits of 01. specs/Limits.antt has the same names for the definitions.
 pub const MAX_COLUMNS: usize = 128;
 

@@ -2,23 +2,32 @@
 ghost use mathlib.Core.Path.{_≡_};
 ghost use Prim.Native.Nat.{_≤_};
 ghost use lib.ListN.{length};
+ghost use Rattle.doubles.specs.Num.{finite};
 ghost use Rattle.doubles.specs.Loop.{all};
 ghost use Rattle.doubles.specs.Lists.{_!_, _#_};
 ghost use Rattle.rules.specs.Refusals.{isNumber, isLower, isUpper, isTolerance, isOp, passes2};
 ghost use Rattle.plan_numbers.specs.Lent.{numbersOf, Numbers};
 
-// 2: "lower bound +inf"
+// 2: "NaN anywhere in the plan; an infinite cost, coefficient or right side", and one above 1e12 in size. Of a NaN the
+// comparison is false.
+fn is_number(x: f64) -> bool
+    ensures { λ r. ⌜ r ≡ isNumber x ⌝ }
+{
+    doubles::abs(x) <= doubles::MAX_NUMBER
+}
+
+// "lower bound +inf"
 fn is_lower(x: f64) -> bool
     ensures { λ r. ⌜ r ≡ isLower x ⌝ }
 {
-    !doubles::is_nan(x) & !(x == doubles::infinity())
+    (x == -doubles::infinity()) | is_number(x)
 }
 
 // "upper -inf"
 fn is_upper(x: f64) -> bool
     ensures { λ r. ⌜ r ≡ isUpper x ⌝ }
 {
-    !doubles::is_nan(x) & !(x == -doubles::infinity())
+    (x == doubles::infinity()) | is_number(x)
 }
 
 // "tolerance outside 0 to 1"
@@ -35,14 +44,28 @@ fn is_op(op: u8) -> bool
     op <= 2
 }
 
-// "NaN anywhere in the plan; an infinite cost, coefficient or right side"
-pub fn all_numbers(n: usize, xs: &[f64]) -> bool
+// What the start reckons is finite: 6 asks it of values, slacks and norms.
+pub fn all_finite(n: usize, xs: &[f64]) -> bool
+    requires { ⌜ n ≤ length (now xs) ⌝ }
+    ensures { λ r. ⌜ r ≡ all n (λ k. finite (now (xs .entry) ! k)) ⌝ }
+{
+    let mut k = 0;
+    while k < n {
+        if !doubles::is_finite(xs[k]) {
+            return false;
+        }
+        k += 1;
+    }
+    true
+}
+
+fn all_numbers(n: usize, xs: &[f64]) -> bool
     requires { ⌜ n ≤ length (now xs) ⌝ }
     ensures { λ r. ⌜ r ≡ all n (λ k. isNumber (now (xs .entry) ! k)) ⌝ }
 {
     let mut k = 0;
     while k < n {
-        if !doubles::is_finite(xs[k]) {
+        if !is_number(xs[k]) {
             return false;
         }
         k += 1;

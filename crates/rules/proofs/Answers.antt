@@ -199,7 +199,7 @@ module _ (P : Problem) (s : State) where
 
 module _ (p : Plan) (m : Memory) where
   tolerance : NoneBelow 8 p m → (le f0 (p .tolerance) ≡ true) × (le (p .tolerance) f1 ≡ true)
-  tolerance n = tolerance-fits p (none-refused p m n .passes-2)
+  tolerance n = tolerance-fits p (none-refused p m (λ j h. n j (omega arith)) .passes-2)
 
   pub end-line : NoneBelow 8 p m → Line (problemOf p) (reached p m) (asRow (answerOf (problemOf p) (endOf (problemOf p) m)))
   end-line n = let e = endOf (problemOf p) m in line (problemOf p) (e .state) (tolerance n .0) (e .why) (end-so (problemOf p) m)

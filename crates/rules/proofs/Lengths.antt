@@ -19,6 +19,7 @@ use Rattle.doubles.proofs.Loops.{both-true, all-at, keeps, first-means}
 use Rattle.rules.specs.Plan.{Plan, Memory, problemOf, keptRows, keptTurn, isEmpty, rowCols}
 use Rattle.rules.specs.Refusals.{sizesFit, planLong, startsRise, memoryLong, workspaceLong, storeLong, passes1, passes2, isNumber, isLower, isUpper, isOp, isTolerance, badAt, hasBad, firstBadIn, firstBadRow}
 use Rattle.rules.specs.Invariant.{PlanFits, ProblemFits, MemoryFits, Lengths}
+use Rattle.rules.proofs.Numbers.{number-exactly}
 
 -- ---- what each test says
 
@@ -95,16 +96,16 @@ module _ (p : Plan) where
         rises = λ i h. leb-true _ _ (all-at (λ r. leb (p .starts # r) (p .starts # (r + 1))) (p .rows) (a .1) i h);
       }
 
-  record Contents : Type 0 where
-    cost : (j : ℕ) → j < p .columns → isNumber (p .costs ! j) ≡ true
-    lower : (j : ℕ) → j < p .columns → isLower (p .lowers ! j) ≡ true
-    upper : (j : ℕ) → j < p .columns → isUpper (p .uppers ! j) ≡ true
-    coeff : (k : ℕ) → k < p .entries → isNumber (p .coeffs ! k) ≡ true
-    op : (i : ℕ) → i < p .rows → isOp (p .ops # i) ≡ true
-    right : (i : ℕ) → i < p .rows → isNumber (p .rhs ! i) ≡ true
-    tolerance : isTolerance (p .tolerance) ≡ true
+  pub record Contents : Type 0 where
+    pub cost : (j : ℕ) → j < p .columns → isNumber (p .costs ! j) ≡ true
+    pub lower : (j : ℕ) → j < p .columns → isLower (p .lowers ! j) ≡ true
+    pub upper : (j : ℕ) → j < p .columns → isUpper (p .uppers ! j) ≡ true
+    pub coeff : (k : ℕ) → k < p .entries → isNumber (p .coeffs ! k) ≡ true
+    pub op : (i : ℕ) → i < p .rows → isOp (p .ops # i) ≡ true
+    pub right : (i : ℕ) → i < p .rows → isNumber (p .rhs ! i) ≡ true
+    pub tolerance : isTolerance (p .tolerance) ≡ true
 
-  contents : passes2 p ≡ true → Contents
+  pub contents : passes2 p ≡ true → Contents
   unfolding passes2
   contents e =
       let f = both-true _ _ e in
@@ -127,7 +128,7 @@ module _ (p : Plan) where
   tolerance-fits e = both-true _ _ (contents e .tolerance)
 
   pub cost-finite : passes2 p ≡ true → (j : ℕ) → j < p .columns → finite (p .costs ! j) ≡ true
-  cost-finite two = contents two .cost
+  cost-finite two j h = number-exactly _ .0 (contents two .cost j h) .is-finite
 
   -- no start is past the entry count
   pub ends : Rising → (k i : ℕ) → i + k ≡ p .rows → p .starts # i ≤ p .entries

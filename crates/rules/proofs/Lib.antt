@@ -1,7 +1,9 @@
 pub mod Lists
 pub mod Zeros
+pub mod Numbers
 pub mod Lengths
 pub mod Start
+pub mod StartFinite
 pub mod Vectors
 pub mod Maps
 pub mod Store

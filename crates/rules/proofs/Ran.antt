@@ -3,6 +3,7 @@ use mathlib.Core.Path.{_≡_, refl, ap, _∙_}
 use mathlib.Core.Bool.{Bool, true, false}
 use mathlib.Core.Logic.{_⊎_}
 use Prim.Native.Nat.{_+_, _≤_}
+use native.Mathlib.Omega.{arith}
 use lib.Dec.{eqb}
 use lib.ListN.{drop}
 use lib.Seq.{drop-append-seam}
@@ -68,7 +69,7 @@ module _ (p : Plan) (m : Memory) where
       let given = answer-exact p m (asRow (solvePlan p m .answer)) h .0 refl in
       let whole : solvePlan p m ≡ close P m (endOf P m) = solved-closes (given .0) in
       let told = tells (end-line p m (given .0)) in
-      let pass = none-refused p m (given .0) in
+      let pass = none-refused p m (λ j h. given .0 j (omega arith)) in
       let fits = passed-fits p m (pass .passes-1) (pass .passes-2) (pass .passes-3) in
       let start = start-sound p m (pass .passes-1) (pass .passes-2) (pass .passes-3) (pass .passes-6) in
       let steps = end-reached P m .by-steps in

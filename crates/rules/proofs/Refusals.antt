@@ -7,12 +7,13 @@ use native.Mathlib.Nat.{eq-or-lt-of-le, le-of-suc-le-suc, le-antisymm}
 use native.Mathlib.Omega.{arith}
 use borrow.Author.Tests.{ltb-true, ltb-false, eqb-true}
 use lib.Dec.{ltb, eqb}
-use Rattle.doubles.proofs.Bools.{_or_, _both_, _either_, by-test, itself, never, turned, turned-true, leb-fails, leb-holds, ltb-holds, eqb-holds, eqb-fails, some-fails, first-has, first-below, first-named, first-misses}
+use Rattle.doubles.proofs.Bools.{_or_, _both_, _either_, by-test, itself, never, turned-true, leb-fails, leb-holds, ltb-holds, eqb-holds, eqb-fails, some-fails, first-has, first-below, first-named, first-misses}
 use Rattle.doubles.proofs.Tests.{true-by}
-use Rattle.doubles.proofs.Floats.{not-finite, equals-inf}
+use Rattle.doubles.proofs.Bounds.{number-fails, bound-fails}
 use Rattle.rules.specs.Plan.{Plan, Memory, Workspace, State, Problem, problemOf, mOf, rowCols}
 use Rattle.rules.specs.Refusals.{sizesFit, planLong, storeLong, workspaceLong, memoryLong, startsRise, passes1, passes2, badAt, hasBad, firstBadRow, firstBadIn, crossed, firstCrossed, falseRow, firstFalse}
 use Rattle.rules.specs.Start.{passes6, passes7}
+use Rattle.rules.proofs.StartFinite.{start-finite}
 use Rattle.rules.specs.FinalCheck.{valuesOf, finalCheck}
 use Rattle.rules.specs.Step.{ended}
 use Rattle.rules.specs.Answers.{asRow, numberOf}
@@ -67,12 +68,12 @@ two : (p : Plan) → (passes2 p ≡ false) ↔ Gives2 p
 unfolding passes2 Gives2
 two p =
     simp and-assoc
-    (some-fails _ (λ j. not-finite _)
-    or some-fails _ (λ j. turned itself or turned (equals-inf false _))
-    or some-fails _ (λ j. turned itself or turned (equals-inf true _))
-    or some-fails _ (λ k. not-finite _)
+    (some-fails _ (λ j. number-fails _)
+    or some-fails _ (λ j. bound-fails true _)
+    or some-fails _ (λ j. bound-fails false _)
+    or some-fails _ (λ k. number-fails _)
     or some-fails _ (λ i. leb-fails _ _)
-    or some-fails _ (λ i. not-finite _)
+    or some-fails _ (λ i. number-fails _)
     or itself
     or itself)
 
@@ -145,22 +146,20 @@ module _ (p : Plan) (m : Memory) where
       accepted))))))
       (none-more 0 (λ j h. absurd (omega arith)) (λ g. g))
 
-  -- where no refusal is called for, each test passes
+  -- where 1 to 3 aren't called for, their tests pass, and 6's with them
   pub record Passes : Type 0 where
     pub passes-1 : passes1 p m ≡ true
     pub passes-2 : passes2 p ≡ true
     pub passes-3 : firstBadRow p ≡ p .rows
     pub passes-6 : passes6 (problemOf p) ≡ true
 
-  pub none-refused : NoneBelow 8 p m → Passes
+  pub none-refused : NoneBelow 4 p m → Passes
   unfolding Gives
   none-refused n =
-      record {
-        passes-1 = true-by (λ f. n 1 (omega arith) (one p m .0 f));
-        passes-2 = true-by (λ f. n 2 (omega arith) (two p .0 f));
-        passes-3 = eqb-true _ _ (true-by (λ f. n 3 (omega arith) (three p .0 f)));
-        passes-6 = true-by (λ f. n 6 (omega arith) (six (problemOf p) .0 f));
-      }
+      let a = true-by (λ f. n 1 (omega arith) (one p m .0 f)) in
+      let b = true-by (λ f. n 2 (omega arith) (two p .0 f)) in
+      let c = eqb-true _ _ (true-by (λ f. n 3 (omega arith) (three p .0 f))) in
+      record { passes-1 = a; passes-2 = b; passes-3 = c; passes-6 = start-finite p m a b c }
 
 -- a run's answer has another number
 checked-late : (s : State) (c : Checked) → (numberOf (checkedAnswer s c) ≡ 0) ⊎ (8 ≤ numberOf (checkedAnswer s c))
@@ -203,3 +202,10 @@ module _ (p : Plan) (m : Memory) (k : ℕ) (low : 1 ≤ k) (high : k < 8) where
   -- 01: "1 to 7 are refusals: all lent memory stays, objective 0.0, 0 steps"; 3, 4 and 5 name the first place: no bad one stands before it
   pub refusal-says : numberOf (solvePlan p m .answer) ≡ k → Refusal k p m (solvePlan p m)
   refusal-says = says-so (cases p m)
+
+-- 02: "show that 6 is no longer given": where 1 to 3 have passed, every number of the start is finite
+pub six-never : (p : Plan) (m : Memory) → ¬ (numberOf (solvePlan p m .answer) ≡ 6)
+unfolding Gives
+six-never p m q =
+    let g = refusal-exact p m 6 (omega arith) (omega arith) .0 q in
+    never (none-refused p m (λ j h. g .1 j (omega arith)) .passes-6) (six (problemOf p) .1 (g .0))

@@ -3,12 +3,13 @@ use mathlib.Core.Path.{_≡_}
 use mathlib.Core.Bool.{true, false}
 use mathlib.Core.Logic.{_⊎_}
 use mathlib.Core.List.{List}
-use Prim.Native.Nat.{ℕ, zero, suc, _+_, _-_, _<_, _≤_}
+use Prim.Native.Nat.{ℕ, zero, suc, _+_, _-_, _^_, _<_, _≤_}
 use lib.ListN.{length, take}
 use lib.Ieee.{Float, lt, le, isNan}
 use Rattle.doubles.specs.Num.{f0, f1, +inf, -inf, finite, infinite, size, _⊕_, _⊖_}
 use Rattle.doubles.specs.Limits.{maxColumns, maxRows, maxEntries, maxBudget, etaColumns, etaEntries, countCells}
 use Rattle.doubles.specs.Lists.{_!_, _#_}
+use Rattle.doubles.specs.Words.{Above}
 use Rattle.rules.specs.Plan.{Plan, Memory, Workspace, State, Problem, problemOf, nOf, mOf, rowCols, rowSum, slackMin, slackMax, varMin, varMax}
 use Rattle.rules.specs.Refusals.{zeroHolds}
 use Rattle.sparse.specs.Scattered.{Sv, listed, listedVal}
@@ -92,18 +93,27 @@ StartsBad p = (¬ (p .starts # 0 ≡ 0)) ⊎ Some (p .rows) (λ r. p .starts # (
 unfoldable pub Gives1 : Plan → Memory → Type 0
 Gives1 p m = SizeOver p ⊎ PlanShort p ⊎ MemoryShort p m ⊎ StartsBad p
 
--- ---- 2: "NaN anywhere in the plan; an infinite cost, coefficient or right side; lower bound +inf, upper -inf; tolerance outside 0 to 1; a comparison above 2"
-abbrev pub NanOrInfinite : Float → Type 0
-NanOrInfinite x = (isNan x ≡ true) ⊎ (infinite x ≡ true)
+-- ---- 2: "NaN anywhere in the plan; an infinite cost, coefficient or right side; lower bound +inf, upper -inf;
+-- tolerance outside 0 to 1; a comparison above 2". 02: "every finite cost, coefficient, right side or bound whose size
+-- is above 1e12"
+abbrev pub Wild : Float → Type 0
+Wild x = Above (10 ^ 12) x
+
+abbrev pub NumberOff : Float → Type 0
+NumberOff x = (isNan x ≡ true) ⊎ (infinite x ≡ true) ⊎ Wild x
+
+-- 02: "Infinite bounds stay allowed": not the one on the other side, +inf of a lower bound and -inf of an upper one
+abbrev pub BoundOff : Float → Float → Type 0
+BoundOff other x = (isNan x ≡ true) ⊎ (x ≡ other) ⊎ Wild x
 
 unfoldable pub Gives2 : Plan → Type 0
 Gives2 p =
-    Some (p .columns) (λ j. NanOrInfinite (p .costs ! j))
-    ⊎ Some (p .columns) (λ j. (isNan (p .lowers ! j) ≡ true) ⊎ (p .lowers ! j ≡ +inf))
-    ⊎ Some (p .columns) (λ j. (isNan (p .uppers ! j) ≡ true) ⊎ (p .uppers ! j ≡ -inf))
-    ⊎ Some (p .entries) (λ k. NanOrInfinite (p .coeffs ! k))
+    Some (p .columns) (λ j. NumberOff (p .costs ! j))
+    ⊎ Some (p .columns) (λ j. BoundOff +inf (p .lowers ! j))
+    ⊎ Some (p .columns) (λ j. BoundOff -inf (p .uppers ! j))
+    ⊎ Some (p .entries) (λ k. NumberOff (p .coeffs ! k))
     ⊎ Some (p .rows) (λ i. 2 < p .ops # i)
-    ⊎ Some (p .rows) (λ i. NanOrInfinite (p .rhs ! i))
+    ⊎ Some (p .rows) (λ i. NumberOff (p .rhs ! i))
     ⊎ (le f0 (p .tolerance) ≡ false)
     ⊎ (le (p .tolerance) f1 ≡ false)
 

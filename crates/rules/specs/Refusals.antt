@@ -4,8 +4,8 @@ use mathlib.Core.List.{List}
 use Prim.Native.Nat.{ℕ, zero, suc, _+_, _-_}
 use lib.Dec.{ltb, leb, eqb}
 use lib.ListN.{length}
-use lib.Ieee.{Float, lt, le, eq, isNan}
-use Rattle.doubles.specs.Num.{f0, f1, +inf, -inf, finite}
+use lib.Ieee.{Float, lt, le, eq}
+use Rattle.doubles.specs.Num.{f0, f1, maxNumber, +inf, -inf, size}
 use Rattle.doubles.specs.Limits.{maxColumns, maxRows, maxEntries, maxBudget, etaColumns, etaEntries, countCells}
 use Rattle.doubles.specs.Loop.{all, first}
 use Rattle.doubles.specs.Lists.{_!_, _#_}
@@ -63,15 +63,18 @@ startsRise p = eqb (p .starts # 0) 0 && all (p .rows) (λ r. leb (p .starts # r)
 unfoldable pub passes1 : Plan → Memory → Bool
 passes1 p m = sizesFit p && planLong p && memoryLong p m && startsRise p
 
--- ---- 2: "NaN anywhere in the plan; an infinite cost, coefficient or right side; lower bound +inf, upper -inf"
+-- ---- 2: "NaN anywhere in the plan; an infinite cost, coefficient or right side; lower bound +inf, upper -inf"; 02:
+-- "every finite cost, coefficient, right side or bound whose size is above 1e12". One comparison for all: it is false of
+-- a NaN and of an infinity too.
 abbrev pub isNumber : Float → Bool
-isNumber x = finite x
+isNumber x = le (size x) maxNumber
 
+-- 02: "Infinite bounds stay allowed"
 abbrev pub isLower : Float → Bool
-isLower x = not (isNan x) && not (eq x +inf)
+isLower x = eq x -inf || isNumber x
 
 abbrev pub isUpper : Float → Bool
-isUpper x = not (isNan x) && not (eq x -inf)
+isUpper x = eq x +inf || isNumber x
 
 -- "tolerance outside 0 to 1; a comparison above 2"
 abbrev pub isTolerance : Float → Bool

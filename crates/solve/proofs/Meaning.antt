@@ -20,7 +20,7 @@ use Rattle.rules.specs.Steps.{Steps, RunsTo, LentTails, Ran}
 use Rattle.rules.specs.declared.Entering.{Entering}
 use Rattle.rules.specs.declared.Choice.the-variants.{Enters}
 use Rattle.rules.specs.declared.Stop.{Stop}
-use Rattle.rules.proofs.Refusals.{refusal-exact, refusal-says}
+use Rattle.rules.proofs.Refusals.{refusal-exact, refusal-says, six-never}
 use Rattle.rules.proofs.Answers.{at-once, end-exact, answer-exact, unbounded-priced, optimal-writes, values-left}
 use Rattle.rules.proofs.Steps.{steps-same}
 use Rattle.rules.proofs.Ran.{solved-closes, solved-ran}
@@ -60,6 +60,10 @@ module _ (p : Plan) (m : Memory) (r : Solved) (e : Promised p m r) where
   -- 01: "1 to 7 are refusals: all lent memory stays, objective 0.0, 0 steps"; 3, 4 and 5 name the first place
   pub refusal-keeps : (k : ℕ) → 1 ≤ k → k < 8 → numberOf (r .answer) ≡ k → Refusal k p m r
   refusal-keeps k l h = subst (λ (x : Solved). numberOf (x .answer) ≡ k → Refusal k p m x) (sym e) (refusal-says p m k l h)
+
+  -- 02: "show that 6 is no longer given"
+  pub six-not-given : ¬ (numberOf (r .answer) ≡ 6)
+  six-not-given = subst (λ (x : Solved). ¬ (numberOf (x .answer) ≡ 6)) (sym e) (six-never p m)
 
   -- ---- the other answers
 

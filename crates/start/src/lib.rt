@@ -56,10 +56,10 @@ pub fn passes_6(
     requires { ⌜ Scratch n m (now xs) (now slacks) (now norms) ⌝ }
     ensures { λ r. ⌜ r ≡ allFinite n m (now (xs .entry)) (now (slacks .entry)) objective (now (norms .entry)) ⌝ }
 {
-    plan_numbers::all_numbers(n, xs)
-        & plan_numbers::all_numbers(m, slacks)
+    plan_numbers::all_finite(n, xs)
+        & plan_numbers::all_finite(m, slacks)
         & doubles::is_finite(objective)
-        & plan_numbers::all_numbers(n, norms)
+        & plan_numbers::all_finite(n, norms)
 }
 
 fn in_bounds(op: u8, x: f64) -> bool

@@ -10,10 +10,10 @@ use std::fs;
 use std::path::Path;
 use std::process::ExitCode;
 
-use oracle::answer::Answer;
+use oracle::answer::{Answer, Outcome};
 use oracle::exchange::{answer_line, tri_answer_line, Extras, Item, Reader};
 use oracle::plan::Plan;
-use oracle::shown::Options;
+use oracle::shown::{Correction, Options};
 use oracle::tri::{Tri, TriAnswer};
 use oracle::{gate, limits, tri, tri_families};
 
@@ -203,7 +203,8 @@ fn plans() -> Result<List, String> {
         } else {
             SHORT
         };
-        if plan_fits(&plan) && (night || words.len() <= long && few.takes(plan_kind(&answer))) {
+        let kind = plan_kind(&plan, &answer);
+        if plan_fits(&plan) && (night || words.len() <= long && few.takes(kind)) {
             let extras = Extras {
                 state: true,
                 ..Extras::default()
@@ -214,16 +215,22 @@ fn plans() -> Result<List, String> {
     Ok(list)
 }
 
-/// Number, sort of place, what its reason is, steps up to 4, and whether a column is left at neither
-/// bound with a price of about EPS or less, where 02's filter decides.
-fn plan_kind(answer: &Answer) -> (u8, String, Option<&'static str>, u64, bool) {
+/// Number, sort of place, what its reason is, whether it arose on a flip, steps up to 4, for a 2 whether
+/// it is 02's, and whether a column is left at neither bound with a price of about EPS or less, where
+/// 02's filter decides.
+type Kind = (u8, String, Option<&'static str>, bool, u64, bool, bool);
+
+fn plan_kind(plan: &Plan, answer: &Answer) -> Kind {
     let line = answer_line("", answer, Extras::default());
     let place = line.split(' ').nth(2).unwrap_or_default();
+    let shown = gate::solve(plan, Options::showing(Correction::Wild));
     (
         answer.outcome.number(),
         place.chars().take(1).collect(),
         answer.outcome.why(),
+        matches!(answer.outcome, Outcome::NotFinite { flip: true, .. }),
         answer.steps.min(4),
+        shown.outcome.number() != answer.outcome.number(),
         answer.state.as_ref().is_some_and(|state| {
             let mut places = state.flags.iter().zip(&state.price);
             places.any(|(&flags, price)| flags == 0 && price.abs() < 2e-8)

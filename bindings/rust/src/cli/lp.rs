@@ -2,7 +2,7 @@
 
 use std::collections::HashMap;
 
-use super::plan::{bound, shown, Draft, DraftColumn, DraftRow, Fault, END};
+use super::plan::{bound, shown, Draft, DraftColumn, DraftRow, Fault, Number, END};
 
 /// A word, number or sign with its line.
 #[derive(Clone, Debug)]
@@ -211,10 +211,11 @@ impl<'a> Reader<'a> {
         Some(value)
     }
 
-    fn signed_number(&mut self) -> Option<f64> {
+    fn signed_number(&mut self) -> Option<Number> {
         let start = self.at;
         let sign = self.sign().unwrap_or(1.0);
-        let number = self.number().map(|n| sign * n);
+        let line = self.line();
+        let number = self.number().map(|n| Number::new(line, sign * n));
         if number.is_none() {
             self.at = start;
         }
@@ -242,9 +243,10 @@ impl<'a> Reader<'a> {
         place
     }
 
-    /// Terms and the sum of the numbers that stand alone. Terms of one column are added up.
-    fn sum(&mut self) -> Result<(Vec<(usize, f64)>, f64), Fault> {
-        let mut terms: Vec<(usize, f64)> = Vec::new();
+    /// Terms and the sum of the numbers that stand alone. Terms of one column are added up; its line is
+    /// the last one's.
+    fn sum(&mut self) -> Result<(Vec<(usize, Number)>, f64), Fault> {
+        let mut terms: Vec<(usize, Number)> = Vec::new();
         let mut alone = 0.0;
         loop {
             if self.peek(0) == "[" {
@@ -254,13 +256,14 @@ impl<'a> Reader<'a> {
                 ));
             }
             let sign = self.sign();
+            let line = self.line();
             let number = self.number();
             if number.is_some() {
                 self.take("*");
             }
             let coeff = sign.unwrap_or(1.0) * number.unwrap_or(1.0);
             match (number, self.name()) {
-                (_, Some(name)) => terms.push((self.column(name), coeff)),
+                (_, Some(name)) => terms.push((self.column(name), Number::new(line, coeff))),
                 (Some(_), None) => alone += coeff,
                 (None, None) if sign.is_some() => return Err(self.expected("a number or a column")),
                 (None, None) => break,
@@ -269,7 +272,9 @@ impl<'a> Reader<'a> {
         terms.sort_by_key(|&(column, _)| column);
         terms.dedup_by(|next, kept| {
             let same = next.0 == kept.0;
-            kept.1 += if same { next.1 } else { 0.0 };
+            if same {
+                kept.1 = Number::new(next.1.line, kept.1.value + next.1.value);
+            }
             same
         });
         Ok((terms, alone))
@@ -306,7 +311,8 @@ impl<'a> Reader<'a> {
                 format!("row `{}` stands twice", shown(&name)),
             ));
         }
-        let (mut low, mut high) = (f64::NEG_INFINITY, f64::INFINITY);
+        let mut low = Number::new(0, f64::NEG_INFINITY);
+        let mut high = Number::new(0, f64::INFINITY);
         let start = self.at;
         let left = self.signed_number();
         match (left, self.comparison()) {
@@ -326,8 +332,8 @@ impl<'a> Reader<'a> {
         }
         self.draft.rows.push(DraftRow {
             name,
-            low: low - alone,
-            high: high - alone,
+            low: Number::new(low.line, low.value - alone),
+            high: Number::new(high.line, high.value - alone),
             entries,
         });
         Ok(())
@@ -347,8 +353,8 @@ impl<'a> Reader<'a> {
         if let (Some(number), Some(sign)) = (left, sign) {
             self.draft.columns[column].limit(turned(sign), bound(number));
         } else if self.take("free") {
-            self.draft.columns[column].limit('>', f64::NEG_INFINITY);
-            self.draft.columns[column].limit('<', f64::INFINITY);
+            self.draft.columns[column].limit('>', Number::new(0, f64::NEG_INFINITY));
+            self.draft.columns[column].limit('<', Number::new(0, f64::INFINITY));
             return Ok(());
         }
         match self.comparison() {
@@ -376,17 +382,18 @@ impl<'a> Reader<'a> {
         let column = &mut self.draft.columns[place];
         column.whole = column.whole.or(Some(line));
         if binary {
-            (column.lower, column.upper) = (Some(0.0), Some(1.0));
+            column.lower = Some(Number::new(line, 0.0));
+            column.upper = Some(Number::new(line, 1.0));
         } else if column.upper.is_none() {
             // Unlike in MPS, a whole column has no upper bound by itself.
-            column.upper = Some(f64::INFINITY);
+            column.upper = Some(Number::new(line, f64::INFINITY));
         }
         Ok(())
     }
 }
 
 impl DraftColumn {
-    fn limit(&mut self, sign: char, number: f64) {
+    fn limit(&mut self, sign: char, number: Number) {
         if sign != '<' {
             self.lower = Some(number);
         }
@@ -396,7 +403,7 @@ impl DraftColumn {
     }
 }
 
-fn limit(sign: char, number: f64, low: &mut f64, high: &mut f64) {
+fn limit(sign: char, number: Number, low: &mut Number, high: &mut Number) {
     if sign != '<' {
         *low = number;
     }

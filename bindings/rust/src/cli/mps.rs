@@ -6,7 +6,7 @@
 
 use std::collections::HashMap;
 
-use super::plan::{bound, counted, shown, Draft, DraftColumn, DraftRow, Fault, END};
+use super::plan::{bound, counted, shown, Draft, DraftColumn, DraftRow, Fault, Number, END};
 
 #[derive(Clone, Copy, Debug, PartialEq)]
 pub enum Layout {
@@ -59,9 +59,9 @@ enum Kind {
 struct Row {
     kind: Kind,
     name: String,
-    rhs: Option<f64>,
-    range: Option<f64>,
-    entries: Vec<(usize, f64)>,
+    rhs: Option<Number>,
+    range: Option<Number>,
+    entries: Vec<(usize, Number)>,
 }
 
 /// The first set named in RHS, RANGES or BOUNDS counts; lines of others are left out.
@@ -442,7 +442,7 @@ impl Reader {
                 for (j, cost) in row.entries {
                     self.draft.columns[j].cost = cost;
                 }
-                let right = row.rhs.unwrap_or(0.0);
+                let right = row.rhs.unwrap_or_default().value;
                 self.draft.constant = if self.by_glpk { right } else { 0.0 - right };
             } else if row.kind == Kind::N {
                 left_out += 1;
@@ -481,9 +481,10 @@ fn bind(
     column: &mut DraftColumn,
     at: usize,
     kind: &str,
-    number: Result<f64, Fault>,
+    number: Result<Number, Fault>,
 ) -> Result<(), Fault> {
     let kind = kind.to_ascii_uppercase();
+    let said = |value: f64| Some(Number::new(at, value));
     let (lower, upper) = (&mut column.lower, &mut column.upper);
     match kind.as_str() {
         "UP" | "UI" => *upper = Some(number?),
@@ -492,10 +493,10 @@ fn bind(
             let number = number?;
             (*lower, *upper) = (Some(number), Some(number));
         }
-        "FR" => (*lower, *upper) = (Some(f64::NEG_INFINITY), Some(f64::INFINITY)),
-        "MI" => *lower = Some(f64::NEG_INFINITY),
-        "PL" => *upper = Some(f64::INFINITY),
-        "BV" => (*lower, *upper) = (Some(0.0), Some(1.0)),
+        "FR" => (*lower, *upper) = (said(f64::NEG_INFINITY), said(f64::INFINITY)),
+        "MI" => *lower = said(f64::NEG_INFINITY),
+        "PL" => *upper = said(f64::INFINITY),
+        "BV" => (*lower, *upper) = (said(0.0), said(1.0)),
         "SC" | "SI" => {
             let what = "a semi-continuous bound is no part of a linear program";
             return Err(Fault::new(at, what));
@@ -517,14 +518,15 @@ type FreeBound<'a> = (&'a str, &'a str, &'a str, Option<&'a str>);
 impl Row {
     /// A range R reaches from the right side down on L, up on G, and by its sign on E.
     fn drafted(self) -> DraftRow {
-        let rhs = self.rhs.unwrap_or(0.0);
-        let (low, high) = match (self.kind, self.range) {
-            (Kind::L, None) => (f64::NEG_INFINITY, rhs),
-            (Kind::G, None) => (rhs, f64::INFINITY),
-            (Kind::L, Some(r)) => (rhs - r.abs(), rhs),
-            (Kind::G, Some(r)) => (rhs, rhs + r.abs()),
-            (Kind::E, Some(r)) if r < 0.0 => (rhs + r, rhs),
-            (Kind::E, Some(r)) => (rhs, rhs + r),
+        let rhs = self.rhs.unwrap_or_default();
+        let end = |value: f64| Number::new(self.range.unwrap_or(rhs).line, value);
+        let (low, high) = match (self.kind, self.range.map(|range| range.value)) {
+            (Kind::L, None) => (end(f64::NEG_INFINITY), rhs),
+            (Kind::G, None) => (rhs, end(f64::INFINITY)),
+            (Kind::L, Some(r)) => (end(rhs.value - r.abs()), rhs),
+            (Kind::G, Some(r)) => (rhs, end(rhs.value + r.abs())),
+            (Kind::E, Some(r)) if r < 0.0 => (end(rhs.value + r), rhs),
+            (Kind::E, Some(r)) => (rhs, end(rhs.value + r)),
             (Kind::E | Kind::N, _) => (rhs, rhs),
         };
         DraftRow {
@@ -542,7 +544,8 @@ fn field(line: &str, from: usize, to: usize) -> &str {
     line[place(from)..place(to)].trim()
 }
 
-fn number_of(at: usize, text: &str) -> Result<f64, Fault> {
-    text.parse()
-        .map_err(|_| Fault::expected(at, "a number", text))
+fn number_of(at: usize, text: &str) -> Result<Number, Fault> {
+    let value = text.parse();
+    let value = value.map_err(|_| Fault::expected(at, "a number", text))?;
+    Ok(Number::new(at, value))
 }

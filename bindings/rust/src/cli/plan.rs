@@ -57,6 +57,30 @@ pub fn shown(text: &str) -> String {
     out
 }
 
+/// A number and the line of the file that says it. Line 0: no line does, and the format's rule stands.
+#[derive(Clone, Copy, Debug, Default, PartialEq)]
+pub struct Number {
+    pub line: usize,
+    pub value: f64,
+}
+
+impl Number {
+    pub fn new(line: usize, value: f64) -> Number {
+        Number { line, value }
+    }
+}
+
+/// The line of each number of a plan, cell by cell.
+#[derive(Clone, Debug, Default)]
+pub struct Lines {
+    pub costs: Vec<usize>,
+    pub lowers: Vec<usize>,
+    pub uppers: Vec<usize>,
+    pub coeffs: Vec<usize>,
+    pub ops: Vec<usize>,
+    pub rhs: Vec<usize>,
+}
+
 /// The sizes and arrays are what the library is lent, wrong ones too: refusing is its part.
 #[derive(Clone, Debug, Default)]
 pub struct Plan {
@@ -78,6 +102,7 @@ pub struct Plan {
     pub coeffs: Vec<f64>,
     pub ops: Vec<u8>,
     pub rhs: Vec<f64>,
+    pub lines: Lines,
     pub column_names: Vec<String>,
     pub row_names: Vec<String>,
     /// Lent arrays that are cut to a length, by their names in docs/EXCHANGE.md.
@@ -145,9 +170,9 @@ pub struct Draft {
 #[derive(Debug)]
 pub struct DraftColumn {
     pub name: String,
-    pub cost: f64,
-    pub lower: Option<f64>,
-    pub upper: Option<f64>,
+    pub cost: Number,
+    pub lower: Option<Number>,
+    pub upper: Option<Number>,
     /// The line that says this column is to be whole.
     pub whole: Option<usize>,
 }
@@ -156,7 +181,7 @@ impl DraftColumn {
     pub fn new(name: &str) -> DraftColumn {
         DraftColumn {
             name: name.to_string(),
-            cost: 0.0,
+            cost: Number::default(),
             lower: None,
             upper: None,
             whole: None,
@@ -165,11 +190,15 @@ impl DraftColumn {
 
     /// The bounds with what the formats take for granted: 0 below; none below where only an upper
     /// bound under 0 is given; 0 to 1 for a whole column of which no bound is given.
-    fn bounds(&self) -> (f64, f64) {
+    fn bounds(&self) -> (Number, Number) {
+        let granted = |value: f64| Number::new(0, value);
         match (self.lower, self.upper) {
-            (None, None) if self.whole.is_some() => (0.0, 1.0),
-            (None, Some(upper)) if upper < 0.0 => (f64::NEG_INFINITY, upper),
-            (lower, upper) => (lower.unwrap_or(0.0), upper.unwrap_or(f64::INFINITY)),
+            (None, None) if self.whole.is_some() => (granted(0.0), granted(1.0)),
+            (None, Some(upper)) if upper.value < 0.0 => (granted(f64::NEG_INFINITY), upper),
+            (lower, upper) => (
+                lower.unwrap_or(granted(0.0)),
+                upper.unwrap_or(granted(f64::INFINITY)),
+            ),
         }
     }
 }
@@ -178,20 +207,20 @@ impl DraftColumn {
 #[derive(Debug)]
 pub struct DraftRow {
     pub name: String,
-    pub low: f64,
-    pub high: f64,
-    pub entries: Vec<(usize, f64)>,
+    pub low: Number,
+    pub high: Number,
+    pub entries: Vec<(usize, Number)>,
 }
 
 /// Bounds of this size mean none, as for HiGHS and CPLEX (Clp writes 1e30).
 pub const NO_BOUND: f64 = 1e20;
 
 /// A bound as read from a file.
-pub fn bound(value: f64) -> f64 {
-    if value.abs() >= NO_BOUND {
-        f64::INFINITY.copysign(value)
+pub fn bound(read: Number) -> Number {
+    if read.value.abs() >= NO_BOUND {
+        Number::new(read.line, f64::INFINITY.copysign(read.value))
     } else {
-        value
+        read
     }
 }
 
@@ -227,9 +256,12 @@ impl Draft {
         };
         for column in self.columns {
             let (lower, upper) = column.bounds();
-            plan.costs.push(column.cost);
-            plan.lowers.push(lower);
-            plan.uppers.push(upper);
+            plan.costs.push(column.cost.value);
+            plan.lines.costs.push(column.cost.line);
+            plan.lowers.push(lower.value);
+            plan.lines.lowers.push(lower.line);
+            plan.uppers.push(upper.value);
+            plan.lines.uppers.push(upper.line);
             plan.column_names.push(column.name);
         }
         let mut parted = 0;
@@ -252,11 +284,11 @@ impl Draft {
 impl Plan {
     /// A row has one comparison, so a range is two rows of one name. Says whether it was.
     fn push(&mut self, row: DraftRow) -> bool {
-        let sides = if row.low == row.high {
+        let sides = if row.low.value == row.high.value {
             vec![(EQ, row.low)]
-        } else if row.low == f64::NEG_INFINITY {
+        } else if row.low.value == f64::NEG_INFINITY {
             vec![(LE, row.high)]
-        } else if row.high == f64::INFINITY {
+        } else if row.high.value == f64::INFINITY {
             vec![(GE, row.low)]
         } else {
             vec![(LE, row.high), (GE, row.low)]
@@ -264,11 +296,13 @@ impl Plan {
         for &(op, rhs) in &sides {
             for &(column, coeff) in &row.entries {
                 self.cols.push(column);
-                self.coeffs.push(coeff);
+                self.coeffs.push(coeff.value);
+                self.lines.coeffs.push(coeff.line);
             }
             self.starts.push(self.cols.len());
             self.ops.push(op);
-            self.rhs.push(rhs);
+            self.rhs.push(rhs.value);
+            self.lines.rhs.push(rhs.line);
             self.row_names.push(row.name.clone());
         }
         sides.len() == 2

@@ -262,35 +262,68 @@ fn too_large(plan: &Plan) -> String {
     }
 }
 
+/// The first number that isn't allowed, and where it stands. What stands past the sizes is no part of
+/// the plan.
 fn bad_number(plan: &Plan) -> String {
-    // What stands past the sizes is no part of the plan.
-    let first = |cells: &[f64], size: usize, bad: fn(f64) -> bool| {
-        let at = cells.iter().take(size).position(|&x| bad(x))?;
-        Some((at, cells[at]))
+    let (columns, lines) = (plan.columns, &plan.lines);
+    let first = |cells: &[f64], size: usize, allowed: Option<f64>| {
+        let off = |x: f64| x.is_nan() || x.abs() > limits::NUMBER;
+        let mut cells = cells.iter().take(size);
+        cells.position(|&x| off(x) && Some(x) != allowed)
     };
-    let wild: fn(f64) -> bool = |x| !x.is_finite();
+    let of_column = |what: &str, j: usize| format!("the {what} of column {}", plan.column_name(j));
     if !(0.0..=limits::TOLERANCE).contains(&plan.tolerance) {
         format!("the tolerance {} isn't from 0 to 1", plan.tolerance)
-    } else if let Some((j, x)) = first(&plan.costs, plan.columns, wild) {
-        format!("the cost of column {} is {x}", plan.column_name(j))
-    } else if let Some((j, x)) = first(&plan.lowers, plan.columns, |x| {
-        x.is_nan() || x == f64::INFINITY
-    }) {
-        format!("the lower bound of column {} is {x}", plan.column_name(j))
-    } else if let Some((j, x)) = first(&plan.uppers, plan.columns, |x| {
-        x.is_nan() || x == f64::NEG_INFINITY
-    }) {
-        format!("the upper bound of column {} is {x}", plan.column_name(j))
-    } else if let Some((i, x)) = first(&plan.rhs, plan.rows, wild) {
-        format!("the right side of row {} is {x}", plan.row_name(i))
-    } else if let Some((e, x)) = first(&plan.coeffs, plan.entries, wild) {
-        let row = plan.starts.iter().rposition(|&start| start <= e);
-        format!(
-            "a coefficient of row {} is {x}",
-            plan.row_name(row.unwrap_or(0))
+    } else if let Some(j) = first(&plan.costs, columns, None) {
+        let sign = if plan.maximise { -1.0 } else { 1.0 };
+        told(of_column("cost", j), sign * plan.costs[j], &lines.costs, j)
+    } else if let Some(j) = first(&plan.lowers, columns, Some(f64::NEG_INFINITY)) {
+        told(
+            of_column("lower bound", j),
+            plan.lowers[j],
+            &lines.lowers,
+            j,
         )
+    } else if let Some(j) = first(&plan.uppers, columns, Some(f64::INFINITY)) {
+        told(
+            of_column("upper bound", j),
+            plan.uppers[j],
+            &lines.uppers,
+            j,
+        )
+    } else if let Some(i) = first(&plan.rhs, plan.rows, None) {
+        let what = format!("the right side of row {}", plan.row_name(i));
+        told(what, plan.rhs[i], &lines.rhs, i)
+    } else if let Some(e) = first(&plan.coeffs, plan.entries, None) {
+        let row = plan.starts.iter().rposition(|&start| start <= e);
+        let row = plan.row_name(row.unwrap_or(0));
+        let what = match plan.cols.get(e) {
+            Some(&j) => of_column("coefficient", j) + &format!(" in row {row}"),
+            None => format!("a coefficient of row {row}"),
+        };
+        told(what, plan.coeffs[e], &lines.coeffs, e)
     } else {
-        "a comparison isn't known, or a number isn't allowed".to_string()
+        let mut ops = plan.ops.iter().take(plan.rows);
+        let i = ops.position(|&op| op > GE).unwrap_or(0);
+        let what = format!("the comparison of row {}", plan.row_name(i));
+        format!("{what} isn't known{}", line(&lines.ops, i))
+    }
+}
+
+/// `the cost of column x is 1e200, above 1e12 in size (line 7)`
+fn told(what: String, value: f64, lines: &[usize], at: usize) -> String {
+    let over = match value.is_finite() {
+        true => format!(", above {:e} in size", limits::NUMBER),
+        false => String::new(),
+    };
+    format!("{what} is {}{over}{}", number(value), line(lines, at))
+}
+
+/// Where the file says the number, if it does.
+fn line(lines: &[usize], at: usize) -> String {
+    match lines.get(at) {
+        None | Some(0) => String::new(),
+        Some(line) => format!(" (line {line})"),
     }
 }
 

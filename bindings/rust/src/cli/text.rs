@@ -55,14 +55,17 @@ fn field(plan: &mut Plan, at: usize, key: &str, words: &[&str]) -> Result<(), Fa
             let wanted = "columns, rows, entries, budget and tolerance behind `dims`";
             return Err(Fault::expected(at, wanted, &words.join(" ")));
         }
-        ("cost", _) => plan.costs = all(at, words, double)?,
-        ("lower", _) => plan.lowers = all(at, words, double)?,
-        ("upper", _) => plan.uppers = all(at, words, double)?,
+        ("cost", _) => (plan.costs, plan.lines.costs) = doubles(at, words)?,
+        ("lower", _) => (plan.lowers, plan.lines.lowers) = doubles(at, words)?,
+        ("upper", _) => (plan.uppers, plan.lines.uppers) = doubles(at, words)?,
         ("starts", _) => plan.starts = all(at, words, whole)?,
         ("cols", _) => plan.cols = all(at, words, whole)?,
-        ("coef", _) => plan.coeffs = all(at, words, double)?,
-        ("ops", _) => plan.ops = all(at, words, comparison)?,
-        ("rhs", _) => plan.rhs = all(at, words, double)?,
+        ("coef", _) => (plan.coeffs, plan.lines.coeffs) = doubles(at, words)?,
+        ("ops", _) => {
+            plan.ops = all(at, words, comparison)?;
+            plan.lines.ops = vec![at; words.len()];
+        }
+        ("rhs", _) => (plan.rhs, plan.lines.rhs) = doubles(at, words)?,
         ("room", &[values, columns, entries]) => {
             let columns = whole(at, columns)?;
             let entries = whole(at, entries)?;
@@ -108,6 +111,11 @@ fn all<T>(
     one: fn(usize, &str) -> Result<T, Fault>,
 ) -> Result<Vec<T>, Fault> {
     words.iter().map(|word| one(at, word)).collect()
+}
+
+/// An array's numbers stand in one line.
+fn doubles(at: usize, words: &[&str]) -> Result<(Vec<f64>, Vec<usize>), Fault> {
+    Ok((all(at, words, double)?, vec![at; words.len()]))
 }
 
 fn whole(at: usize, word: &str) -> Result<usize, Fault> {

@@ -48,10 +48,10 @@ fn refusals() {
     let many: String = (0..129).map(|j| format!(" x{j} c 1 r 1\n")).collect();
     for (file, wanted) in [
         (mps(row, &many, "", ""), "1, refused: 129 columns are more than 128."),
-        (mps(row, " x c 1e400 r 1\n", "", ""), "2, refused: the cost of column x is inf."),
-        (mps(row, column, " RHS r nan\n", ""), "2, refused: the right side of row r is NaN."),
-        (mps(row, " x c 1 r inf\n", "", ""), "2, refused: a coefficient of row r is inf."),
-        (mps(row, column, "", " LO B x 1e99\n"), "2, refused: the lower bound of column x is inf."),
+        (mps(row, " x c 1e400 r 1\n", "", ""), "2, refused: the cost of column x is inf (line 6)."),
+        (mps(row, column, " RHS r nan\n", ""), "2, refused: the right side of row r is NaN (line 8)."),
+        (mps(row, " x c 1 r inf\n", "", ""), "2, refused: the coefficient of column x in row r is inf (line 6)."),
+        (mps(row, column, "", " LO B x 1e99\n"), "2, refused: the lower bound of column x is inf (line 9)."),
         (
             mps(row, column, "", " LO B x 3\n UP B x 2\n"),
             "4, refused: column x has the lower bound 3 above the upper bound 2.",
@@ -60,7 +60,6 @@ fn refusals() {
             mps(" L r\n L empty\n", column, " RHS empty -1\n", ""),
             "5, refused: row empty has no entries, and 0 <= -1 is false.",
         ),
-        (mps(row, " x c 1e200 r 1e200\n", "", " LO B x 1e10\n"), "6, "),
         (
             mps(" G r\n", column, " RHS r 1\n", ""),
             "7, refused: row r is broken at the start (0 >= 1), and this solver begins only where every row is kept. There may be a plan all the same.",
@@ -80,6 +79,99 @@ fn refusals() {
     let told = run(&["solve", "t.txt"], text.as_bytes());
     assert!(told.out.contains("1, refused: an array is too short"));
     assert_eq!(told.exit, 1);
+}
+
+/// 02: "A broken probe sent a cost of 1e200". The message has the number and its line, in every format;
+/// a cost is the file's, whatever the direction.
+#[test]
+fn a_number_that_is_too_large() {
+    let (row, column) = (" L r\n", " x c 1 r 1\n");
+    let two = " x c 1 r 1\n y c 2\n y r 3e12\n";
+    let lp = |costs: &str, row: &str, bounds: &str| {
+        format!("Maximize\n c: {costs}\nSubject To\n r: {row}\nBounds\n {bounds}\nEnd\n")
+            .into_bytes()
+    };
+    let text = |field: &str, was: &str, now: &str| {
+        let night = String::from_utf8_lossy(NIGHT).into_owned();
+        let changed = night.replacen(&format!("\n{field} {was}"), &format!("\n{field} {now}"), 1);
+        assert_ne!(changed, night);
+        changed.into_bytes()
+    };
+    for (file, wanted) in [
+        (
+            mps(row, " x c 1e200 r 1\n", "", ""),
+            "the cost of column x is 1e200, above 1e12 in size (line 6).",
+        ),
+        (
+            mps(row, two, "", ""),
+            "the coefficient of column y in row r is 3000000000000, above 1e12 in size (line 8).",
+        ),
+        (
+            mps(row, column, " RHS r -1e13\n", ""),
+            "the right side of row r is -10000000000000, above 1e12 in size (line 8).",
+        ),
+        (
+            mps(row, column, "", " UP B x 1e19\n"),
+            "the upper bound of column x is 1e19, above 1e12 in size (line 9).",
+        ),
+        (
+            mps(row, column, "", " LO B x -1e19\n"),
+            "the lower bound of column x is -1e19, above 1e12 in size (line 9).",
+        ),
+        (
+            mps(row, column, " RHS r 1e12\nRANGES\n R r 3e12\n", ""),
+            "the right side of row r is -2000000000000, above 1e12 in size (line 10).",
+        ),
+        (
+            lp("x +\n -1e200 y", "x + y <= 4", "x <= 3"),
+            "the cost of column y is -1e200, above 1e12 in size (line 3).",
+        ),
+        (
+            lp("x + y", "x +\n 2e12 y <=\n 4", "x <= 3"),
+            "the coefficient of column y in row r is 2000000000000, above 1e12 in size (line 5).",
+        ),
+        (
+            lp("x + y", "x + y <=\n 2e12", "x <= 3"),
+            "the right side of row r is 2000000000000, above 1e12 in size (line 5).",
+        ),
+        (
+            lp("x + y", "x + y <= 4", "x <= 3\n -2e12 <= y <= 0"),
+            "the lower bound of column y is -2000000000000, above 1e12 in size (line 7).",
+        ),
+        (
+            text("cost", "bff0000000000000", "6974e718d7d7625a"),
+            "the cost of column x0 is 1e200, above 1e12 in size (line 3).",
+        ),
+        (
+            text("rhs", "4010000000000000", "426d1a94a2000001"),
+            "the right side of row r0 is 1000000000000.0001, above 1e12 in size (line 10).",
+        ),
+        (
+            text("ops", "0", "3"),
+            "the comparison of row r0 isn't known (line 9).",
+        ),
+    ] {
+        let told = run(&["solve", "t"], &file);
+        assert!(
+            told.out
+                .contains(&format!("\nstatus     2, refused: {wanted}\n")),
+            "{}",
+            told.out
+        );
+    }
+    // 1e12 itself, and a bound that means none.
+    for file in [
+        mps(
+            " L r\n L s\n",
+            " x c 1e12 r 1e12\n x s 1\n",
+            " RHS s 1e12\n",
+            " UP B x 1e12\n LO B x -1e12\n",
+        ),
+        mps(row, column, "", " UP B x 1e30\n"),
+    ] {
+        let told = run(&["solve", "t.mps"], &file);
+        assert_eq!(told.exit, 0, "{}", told.out);
+    }
 }
 
 #[test]

@@ -22,18 +22,18 @@ loop-holds : tie.Need-loop-holds Inv-loop μ-loop
 unfolding all
 loop-holds c = (omega arith, refl)
 
-mul-is-finite : tie.Need-mul-is-finite Inv-loop μ-loop
-mul-is-finite c = omega arith
+mul-is-number : tie.Need-mul-is-number Inv-loop μ-loop
+mul-is-number c = omega arith
 
-shared-slice-read-is-finite : tie.Need-shared-slice-read-is-finite Inv-loop μ-loop
-shared-slice-read-is-finite c = omega arith
+shared-slice-read-is-number : tie.Need-shared-slice-read-is-number Inv-loop μ-loop
+shared-slice-read-is-number c = omega arith
 
-is-finite-requires : tie.Need-is-finite-requires Inv-loop μ-loop
-is-finite-requires c κs = search needs
+is-number-requires : tie.Need-is-number-requires Inv-loop μ-loop
+is-number-requires c κs = search needs
 
 returns : tie.Need-returns Inv-loop μ-loop
 returns c = let t : tie.In-loop Inv-loop μ-loop = search in
-    sym (all-fails _ _ _ (t .loop-test .taken) (sym (c .before .is-finite .ensures) ∙ turned-true itself .0 (c .if1 .taken)))
+    sym (all-fails _ _ _ (t .loop-test .taken) (sym (c .before .is-number .ensures) ∙ turned-true itself .0 (c .if1 .taken)))
 
 add-k : tie.Need-add-k Inv-loop μ-loop
 add-k c = omega arith
@@ -43,7 +43,7 @@ loop-less c = omega arith
 
 loop-again : tie.Need-loop-again Inv-loop μ-loop
 loop-again c = let a : tie.At-loop Inv-loop μ-loop = search in
-    (omega arith, all-next _ _ (a .loop .inv .1) (sym (c .before .is-finite .ensures) ∙ turned itself .0 (c .if1 .left)))
+    (omega arith, all-next _ _ (a .loop .inv .1) (sym (c .before .is-number .ensures) ∙ turned itself .0 (c .if1 .left)))
 
 returns-2 : tie.Need-returns-2 Inv-loop μ-loop
 returns-2 c = sym (all-done _ _ _ (c .before .loop .inv .0) (c .loop-test .left) (c .before .loop .inv .1))
@@ -55,9 +55,9 @@ all-numbers-spec =
     Inv-loop
     μ-loop
     loop-holds
-    mul-is-finite
-    shared-slice-read-is-finite
-    is-finite-requires
+    mul-is-number
+    shared-slice-read-is-number
+    is-number-requires
     returns
     add-k
     loop-less
