@@ -262,52 +262,60 @@ fn too_large(plan: &Plan) -> String {
     }
 }
 
-/// The first number that isn't allowed, and where it stands. What stands past the sizes is no part of
-/// the plan.
+/// The first number that isn't allowed, and where it stands.
 fn bad_number(plan: &Plan) -> String {
-    let (columns, lines) = (plan.columns, &plan.lines);
-    let first = |cells: &[f64], size: usize, allowed: Option<f64>| {
-        let off = |x: f64| x.is_nan() || x.abs() > limits::NUMBER;
-        let mut cells = cells.iter().take(size);
-        cells.position(|&x| off(x) && Some(x) != allowed)
-    };
-    let of_column = |what: &str, j: usize| format!("the {what} of column {}", plan.column_name(j));
     if !(0.0..=limits::TOLERANCE).contains(&plan.tolerance) {
-        format!("the tolerance {} isn't from 0 to 1", plan.tolerance)
-    } else if let Some(j) = first(&plan.costs, columns, None) {
-        let sign = if plan.maximise { -1.0 } else { 1.0 };
-        told(of_column("cost", j), sign * plan.costs[j], &lines.costs, j)
-    } else if let Some(j) = first(&plan.lowers, columns, Some(f64::NEG_INFINITY)) {
-        told(
-            of_column("lower bound", j),
-            plan.lowers[j],
-            &lines.lowers,
-            j,
-        )
-    } else if let Some(j) = first(&plan.uppers, columns, Some(f64::INFINITY)) {
-        told(
-            of_column("upper bound", j),
-            plan.uppers[j],
-            &lines.uppers,
-            j,
-        )
-    } else if let Some(i) = first(&plan.rhs, plan.rows, None) {
-        let what = format!("the right side of row {}", plan.row_name(i));
-        told(what, plan.rhs[i], &lines.rhs, i)
-    } else if let Some(e) = first(&plan.coeffs, plan.entries, None) {
-        let row = plan.starts.iter().rposition(|&start| start <= e);
-        let row = plan.row_name(row.unwrap_or(0));
-        let what = match plan.cols.get(e) {
-            Some(&j) => of_column("coefficient", j) + &format!(" in row {row}"),
-            None => format!("a coefficient of row {row}"),
-        };
-        told(what, plan.coeffs[e], &lines.coeffs, e)
-    } else {
+        return format!("the tolerance {} isn't from 0 to 1", plan.tolerance);
+    }
+    let found = bad_of_a_column(plan).or_else(|| bad_of_a_row(plan));
+    found.unwrap_or_else(|| {
         let mut ops = plan.ops.iter().take(plan.rows);
         let i = ops.position(|&op| op > GE).unwrap_or(0);
         let what = format!("the comparison of row {}", plan.row_name(i));
-        format!("{what} isn't known{}", line(&lines.ops, i))
-    }
+        format!("{what} isn't known{}", line(&plan.lines.ops, i))
+    })
+}
+
+/// NaN, an infinity but for the allowed one, or above 1e12 in size. What stands past the sizes is no
+/// part of the plan.
+fn first_bad(cells: &[f64], size: usize, allowed: Option<f64>) -> Option<usize> {
+    let bad = |x: f64| x.is_nan() || x.abs() > limits::NUMBER;
+    let mut cells = cells.iter().take(size);
+    cells.position(|&x| bad(x) && Some(x) != allowed)
+}
+
+fn bad_of_a_column(plan: &Plan) -> Option<String> {
+    let (columns, lines) = (plan.columns, &plan.lines);
+    let of = |what: &str, j: usize| format!("the {what} of column {}", plan.column_name(j));
+    let sign = if plan.maximise { -1.0 } else { 1.0 };
+    let cost = |j: usize| told(of("cost", j), sign * plan.costs[j], &lines.costs, j);
+    let lower = |j: usize| told(of("lower bound", j), plan.lowers[j], &lines.lowers, j);
+    let upper = |j: usize| told(of("upper bound", j), plan.uppers[j], &lines.uppers, j);
+    let found = first_bad(&plan.costs, columns, None).map(cost);
+    found
+        .or_else(|| first_bad(&plan.lowers, columns, Some(f64::NEG_INFINITY)).map(lower))
+        .or_else(|| first_bad(&plan.uppers, columns, Some(f64::INFINITY)).map(upper))
+}
+
+fn bad_of_a_row(plan: &Plan) -> Option<String> {
+    let right = |i: usize| {
+        let what = format!("the right side of row {}", plan.row_name(i));
+        told(what, plan.rhs[i], &plan.lines.rhs, i)
+    };
+    let coeff = |e: usize| {
+        let row = plan.starts.iter().rposition(|&start| start <= e);
+        let row = plan.row_name(row.unwrap_or(0));
+        let what = match plan.cols.get(e) {
+            Some(&j) => format!(
+                "the coefficient of column {} in row {row}",
+                plan.column_name(j)
+            ),
+            None => format!("a coefficient of row {row}"),
+        };
+        told(what, plan.coeffs[e], &plan.lines.coeffs, e)
+    };
+    let found = first_bad(&plan.rhs, plan.rows, None).map(right);
+    found.or_else(|| first_bad(&plan.coeffs, plan.entries, None).map(coeff))
 }
 
 /// `the cost of column x is 1e200, above 1e12 in size (line 7)`
