@@ -331,11 +331,12 @@ pub struct Error {
     answer: Answer,
     variable: Option<Variable>,
     constraint: Option<usize>,
-    over: Option<Over>,
+    /// Boxed, since an error is handed back by value and few have it.
+    over: Option<Box<Over>>,
 }
 
 /// The first size of a problem that passes its limit.
-#[derive(Clone, Copy, Debug, PartialEq)]
+#[derive(Clone, Debug, PartialEq)]
 struct Over {
     what: &'static str,
     size: usize,
@@ -371,7 +372,7 @@ impl Error {
             over: sizes
                 .into_iter()
                 .find(|&(_, size, limit)| size > limit)
-                .map(|(what, size, limit)| Over { what, size, limit }),
+                .map(|(what, size, limit)| Box::new(Over { what, size, limit })),
         }
     }
 
@@ -423,7 +424,7 @@ impl Error {
 impl fmt::Display for Error {
     fn fmt(&self, f: &mut fmt::Formatter<'_>) -> fmt::Result {
         write!(f, "{}: ", self.number())?;
-        match self.over {
+        match self.over.as_deref() {
             Some(Over { what, size, limit }) => {
                 write!(f, "{size} {what} are too many, at most {limit} are allowed")?
             }
