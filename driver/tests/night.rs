@@ -8,9 +8,11 @@ use oracle::rng::Rng;
 use oracle_sheet::generate::{night_sheet, NIGHT};
 use oracle_sheet::Block;
 
-/// The place that 01 names; only refusals 4 and 5 of the night name one.
+/// The place that 01 names; only refusals 4 and 5 of the night name one. The values of an Optimal case
+/// keep every bound and row exactly.
 fn place(number: u8) -> Place {
     match number {
+        0 => Place::Accepted { excess: 0.0 },
         4 => Place::Column(0),
         5 => Place::Row(0),
         _ => Place::Nowhere,

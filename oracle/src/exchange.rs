@@ -330,12 +330,23 @@ pub struct Line<'a> {
 pub enum Place {
     Nowhere,
     /// An answer 0 names no place, but its excess.
-    Accepted { excess: f64 },
-    Entry { row: usize, place: usize },
+    Accepted {
+        excess: f64,
+    },
+    Entry {
+        row: usize,
+        place: usize,
+    },
     Column(usize),
     Row(usize),
-    Value { var: usize, excess: f64 },
-    Kept { row: usize, excess: f64 },
+    Value {
+        var: usize,
+        excess: f64,
+    },
+    Kept {
+        row: usize,
+        excess: f64,
+    },
 }
 
 impl fmt::Display for Place {

@@ -844,10 +844,7 @@ impl Solver {
         } else {
             place
         };
-        (
-            rejected.map_or(Outcome::Optimal, Outcome::Rejected),
-            excess,
-        )
+        (rejected.map_or(Outcome::Optimal, Outcome::Rejected), excess)
     }
 
     // ours. 02: "the largest excess over all bounds and rows, with its place, first on a tie, and 0.0

@@ -40,6 +40,39 @@ fn bits() {
         .contains("{\"name\":\"x0\",\"value\":4.0,\"bits\":\"4010000000000000\"}"));
 }
 
+/// x ends 2^-30 above its bound 1: with that tolerance it is accepted, with the double below it isn't.
+#[test]
+fn the_largest_excess() {
+    let plan = |tolerance: &str| {
+        format!(
+            "plan past\ndims 2 2 3 10 {tolerance}\ncost 4059000000000000 c049800000000000\n\
+             lower fff0000000000000 0000000000000000\nupper 3ff0000000000000 7ff0000000000000\n\
+             starts 0 2 3\ncols 0 1 1\ncoef 3ff0000000000000 bfe0000000000000 3ff0000000000000\n\
+             ops 2 0\nrhs 3e10000000000000 4000000000000000\nend\n"
+        )
+        .into_bytes()
+    };
+    let accepted = plan("3e10000000000000");
+    let told = run(&["solve", "past.txt"], &accepted);
+    assert!(told.out.contains(
+        "0, Optimal: no column would make the plan cheaper, and the final check accepts it; the largest excess is 9.313225746154785e-10.\n"
+    ));
+    let told = run(&["solve", "past.txt", "--bits", "--json"], &accepted);
+    assert!(told
+        .out
+        .contains("\"excess\":9.313225746154785e-10,\"excess_bits\":\"3e10000000000000\""));
+    let rejected = plan("3e0fffffffffffff");
+    let told = run(&["solve", "past.txt"], &rejected);
+    assert!(told.out.contains(
+        "24, Rejected: the final check finds column x0 out of its bounds; the largest excess is 9.313225746154785e-10.\n"
+    ));
+    // Where nothing exceeds 0 the sentence says nothing of it, and other answers have no such field.
+    let told = run(&["solve", "night.txt", "--json"], NIGHT);
+    let lines: Vec<&str> = told.out.lines().collect();
+    assert!(lines[0].contains("accepts it.\"") && lines[0].contains("\"excess\":0.0"));
+    assert!(!lines[1].contains("excess"));
+}
+
 /// Every refusal that a file can reach, with its place by name.
 #[test]
 fn refusals() {
