@@ -20,6 +20,9 @@ use Rattle.file_open.specs.declared.Places.{Places}
 pub few : (m n : ℕ) → m ≤ maxRows → n ≤ maxColumns → m * n ≤ 12288
 few m n h g = mul-le-mul h g
 
+pub end-few : (m n : ℕ) → m ≤ maxRows → n ≤ maxColumns → placesOf m n .end ≤ 1000
+end-few m n h g = let q = few m n h g in omega arith
+
 -- each array's blocks are in the file
 pub record Placed (m n : ℕ) (p : Places) (len : ℕ) : Type 0 where
   pub coefs-in : blockSize * (1 + ceil (8 * (m * n))) ≤ len

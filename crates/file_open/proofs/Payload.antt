@@ -27,6 +27,18 @@ use Rattle.file_open.specs.Places.{placesOf, planAt}
 use Rattle.file_open.specs.declared.Places.{Places}
 use Rattle.file_open.proofs.Laws.{placed}
 
+-- the end stands behind all arrays
+pub shape-end : (m n : ℕ) → length (shape m n) ≡ placesOf m n .end
+unfolding shape
+shape-end m n = simp (length-append, pieces-length) (omega arith)
+
+-- a stretch that stands within a longer one
+pub inner : {A : Type 0} (w j m : ℕ) (l : List A) → j + w ≤ m → take w (drop j (take m l)) ≡ take w (drop j l)
+inner w zero m l h = take-take w m l (omega arith)
+inner w (suc j) zero l h = absurd (omega arith)
+inner w (suc j) (suc m) [] h = refl
+inner w (suc j) (suc m) (x ∷ l) h = inner w j m l (omega arith)
+
 module _ (f : List ℕ) where
   abbrev cut : ℕ → List ℕ
   cut place = drop (blockSize * place) f
@@ -75,13 +87,6 @@ module _ (f : List ℕ) where
       let c = cells-length kind (min 504 u) place (omega arith) (omega arith) in
       let i = pieces-bytes kind k (u - 504) (suc place) (omega arith) (omega arith) in
       rw (length-append, c, i) (omega arith)
-
-  -- a stretch that stands within a longer one
-  inner : {A : Type 0} (w j m : ℕ) (l : List A) → j + w ≤ m → take w (drop j (take m l)) ≡ take w (drop j l)
-  inner w zero m l h = take-take w m l (omega arith)
-  inner w (suc j) zero l h = absurd (omega arith)
-  inner w (suc j) (suc m) [] h = refl
-  inner w (suc j) (suc m) (x ∷ l) h = inner w j m l (omega arith)
 
   in-block : (kind u place j w : ℕ) → j + w ≤ u → u ≤ 504 → take w (drop j (cells (slot kind u) (take blockSize (cut place)))) ≡ take w (drop (blockSize * place + (3 + j)) f)
   in-block kind u place j w h g =
@@ -198,7 +203,3 @@ module _ (f : List ℕ) where
           numbers-are 10 n (p .amounts) _ (i .amounts-in),
           numbers-are 10 m (p .mults) _ (i .mults-in),
         )
-
-    pub shape-end : length (shape m n) ≡ p .end
-    unfolding shape
-    shape-end = simp (length-append, pieces-length) (omega arith)
