@@ -1,19 +1,19 @@
 -- What a read answers, and what it leaves. Assumes nothing.
 use mathlib.Core.Path.{_≡_, refl, sym, ap, ap₂, _∙_}
 use mathlib.Core.Bool.{Bool, true, false}
-use mathlib.Core.List.{List, [], _∷_, _++_, append-nil}
+use mathlib.Core.List.{List, [], _∷_, _++_}
 use Prim.Native.Nat.{ℕ, zero, suc, _+_, _-_, _*_, _<_, _≤_}
 use native.Mathlib.Omega.{arith}
-use lib.ListN.{length, take, drop, length-take, length-drop, drop-of-length-le}
-use lib.Seq.{take-take, take-all, drop-drop, length-take-le}
+use lib.ListN.{length, take, drop, length-take, length-drop}
+use lib.Seq.{take-all, drop-drop, length-take-le}
 use borrow.Author.Tests.{leb-true}
 use Rattle.doubles.specs.Limits.{maxRows, maxColumns}
 use Rattle.sheet_rules.specs.Sheet.{Plan, planOf}
 use Rattle.sheet_rules.specs.Opening.{_unless_, firstFailed, numbersFine, uncrossed}
 use Rattle.sheet_tests.specs.Sized.{PlanSized}
 use Rattle.file_rules.specs.Bytes.{value}
-use Rattle.file_rules.specs.Block.{blockSize, Slot, cells, blockRefusal, Walked, refused as Walked·refused, stream, join, walk}
-use Rattle.file_rules.specs.PlanFile.{planKind, shape, sizesSlot, planFrom, Answer, refused, plan, answer, opensAs, planSized, resized, sizedBy, starts, readFile}
+use Rattle.file_rules.specs.Block.{blockSize, Slot, cells, blockRefusal, Walked, refused as Walked·refused, stream, walk}
+use Rattle.file_rules.specs.PlanFile.{planKind, shape, sizesSlot, planFrom, Answer, refused, plan, answer, opensAs, planSized, resized, sizedBy, readFile}
 use Rattle.file_rules.specs.Words.{StraySays, FileSays}
 use Rattle.file_rules.specs.Calls.{readingOf, overPlan, leftOf, Reads}
 use Rattle.file_rules.specs.declared.Reading.{Reading}
@@ -21,6 +21,7 @@ use Rattle.file_rules.specs.declared.Reading.the-variants.{Held, Refused}
 use Rattle.file_rules.proofs.Block.{accepted}
 use Rattle.file_rules.proofs.Exact.{file-says}
 use Rattle.file_rules.proofs.File.{fits}
+use Rattle.file_rules.proofs.Says.{read-first, read-sized}
 use Rattle.file_walk.specs.Stop.{stopAt, stoodAt}
 use Rattle.file_walk.specs.declared.Stop.{Stop}
 use Rattle.file_open.specs.Places.{placesOf, planAt, Whole}
@@ -104,19 +105,13 @@ module _ (f : List ℕ) where
   abbrev pub first : ℕ
   first = blockRefusal planKind sizesSlot 0 (take blockSize f)
 
-  whole-walk : walk planKind (sizesSlot ∷ []) 0 (take blockSize f) ≡ join first 0 (cells sizesSlot (take blockSize f)) (stream [])
-  unfolding walk
-  whole-walk =
-      let d : drop blockSize (take blockSize f) ≡ [] = drop-of-length-le (take blockSize f) {i = blockSize} (rw length-take (omega arith)) in
-      rw (take-take blockSize blockSize f (omega arith), d)
-
   pub first-whole : first ≡ 0 → blockSize ≤ length f
   first-whole z = omega (arith, leb-true blockSize (length (take blockSize f)) (accepted planKind sizesSlot 0 (take blockSize f) z .whole), length-take blockSize f)
 
   pub first-refused : (l : Plan) (k : ℕ) → k ≡ first → (k ≡ 0 → ⊥) → Refused k 0 ≡ readingOf (readFile l f)
-  unfolding readFile starts readingOf join
+  unfolding readingOf
   first-refused l zero e h = absurd (h refl)
-  first-refused l (suc k) e h = rw (whole-walk, ← e)
+  first-refused l (suc k) e h = rw (read-first l f k (sym e))
 
   -- block 0 accepted: its sizes, as they stand in the file
   module _ (z : first ≡ 0) where
@@ -130,11 +125,10 @@ module _ (f : List ℕ) where
     sizes-length = length-take-le 16 (drop 3 (take blockSize f)) (omega (arith, length-drop 3 (take blockSize f), length-take blockSize f, first-whole z))
 
     pub first-sized : (l : Plan) (m n : ℕ) (t : Bool) → m ≡ value (take 8 (drop 3 f)) → n ≡ value (take 8 (drop 11 f)) → t ≡ planSized (resized m n l) → readFile l f ≡ sizedBy t m n (drop blockSize f)
-    unfolding readFile starts join
     first-sized l m n t a b c =
         let r : value (take 8 sizes) ≡ m = ap value (sizes-at 0 (omega arith)) ∙ sym a in
         let k : value (drop 8 sizes) ≡ n = ap value (sym (take-all 8 (drop 8 sizes) (omega (arith, length-drop 8 sizes, sizes-length))) ∙ sizes-at 8 (omega arith)) ∙ sym b in
-        rw (whole-walk, z, append-nil sizes, r, k, c)
+        read-sized l f z ∙ rw (r, k, c)
 
 -- ---- what the answer says of the file and the arrays
 pub record Gives (l : Plan) (f : List ℕ) (m n : ℕ) : Type 0 where

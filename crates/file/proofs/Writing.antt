@@ -28,7 +28,7 @@ use Rattle.file_open.specs.Places.{placesOf}
 use Rattle.file_open.proofs.Payload.{shape-end}
 
 -- ---- 11: the sizes and the ten arrays
-and-true : (b : Bool) → b && true ≡ b
+pub and-true : (b : Bool) → b && true ≡ b
 and-true true = refl
 and-true false = refl
 

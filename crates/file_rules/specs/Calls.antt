@@ -26,9 +26,15 @@ unfoldable pub writtenBy : ℕ → Plan → List ℕ → List ℕ
 writtenBy zero p out = over (writeFile p) out
 writtenBy (suc n) p out = out
 
+abbrev pub writing : Plan → List ℕ → Writing
+writing p out = writingBy (writeRefusal p out) p
+
+abbrev pub written : Plan → List ℕ → List ℕ
+written p out = writtenBy (writeRefusal p out) p out
+
 pub record Writes (p : Plan) (out : List ℕ) (answer : Writing) (out′ : List ℕ) : Type 0 where
-  pub answers : answer ≡ writingBy (writeRefusal p out) p
-  pub left : out′ ≡ writtenBy (writeRefusal p out) p out
+  pub answers : answer ≡ writing p out
+  pub left : out′ ≡ written p out
 
 -- ---- reading: the plan's sizes are handed out, its arrays written over the front of the lent ones
 unfoldable pub readingOf : Answer → Reading
@@ -44,6 +50,12 @@ leftOf (refused n b) l = l
 leftOf (plan p) l = overPlan p l
 
 -- l has the ten lent arrays
+abbrev pub reading : Plan → List ℕ → Reading
+reading l f = readingOf (readFile l f)
+
+abbrev pub taken : Plan → List ℕ → Plan
+taken l f = leftOf (readFile l f) l
+
 pub record Reads (f : List ℕ) (l : Plan) (answer : Reading) (l′ : Plan) : Type 0 where
-  pub answers : answer ≡ readingOf (readFile l f)
-  pub left : l′ ≡ leftOf (readFile l f) l
+  pub answers : answer ≡ reading l f
+  pub left : l′ ≡ taken l f
