@@ -107,7 +107,7 @@ trim-over n g l = take-at (table n g) (drop (length (table n g)) l) n (length-ta
 
 read-plan-is : (f : List ℕ) (m n : ℕ) (l : Plan) → trimmed (resized m n (overPlan (planAt f m n) l)) ≡ planAt f m n
 unfolding trimmed resized overPlan planAt
-read-plan-is f m n l = rw (trim-over, trim-over, trim-over, trim-over, trim-over, trim-over, trim-over, trim-over, trim-over, trim-over)
+read-plan-is f m n l = simp trim-over
 
 pub read-file-is : (f : List ℕ) (l l′ : Plan) (m n : ℕ) → Bytes f → Reads f l (Held m n) l′ → f ≡ writeFile (trimmed (resized m n l′))
 unfolding leftOf
