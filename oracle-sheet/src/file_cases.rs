@@ -75,8 +75,11 @@ impl Tried {
         self.reached.entry(name).or_default().1 = least;
     }
 
+    /// What nobody wants isn't counted.
     pub fn reach(&mut self, name: String) {
-        self.reached.entry(name).or_default().0 += 1;
+        if let Some(count) = self.reached.get_mut(&name) {
+            count.0 += 1;
+        }
     }
 
     /// A line for each, then `N passed, M failed`; whether nothing failed.
@@ -167,6 +170,9 @@ fn trimmed(sheet: &Sheet) -> Sheet {
 /// Runs everything.
 pub fn run<C: FileCalls>(calls: &mut C, seed: u64, amounts: &Amounts) -> Tried {
     let mut tried = Tried::default();
+    for status in [0, 11, 12, 13] {
+        tried.want(format!("writes that answer {status}"), 50);
+    }
     let mut plans = Vec::new();
     blocks(seed, &amounts.sheets, &mut |script| {
         written_and_read(calls, &script.sheet, &mut tried);
@@ -174,9 +180,6 @@ pub fn run<C: FileCalls>(calls: &mut C, seed: u64, amounts: &Amounts) -> Tried {
             plans.push(trimmed(&script.sheet));
         }
     });
-    for status in [0, 11, 12, 13] {
-        tried.want(format!("writes that answer {status}"), 50);
-    }
     let mut rng = Rng::new(seed ^ 0xf11e);
     let files = Files::of(&mut plans, &mut rng);
     every_value_of_the_smallest(calls, &mut tried);
