@@ -192,10 +192,9 @@ pub fn run<C: FileCalls>(calls: &mut C, seed: u64, amounts: &Amounts) -> Tried {
     for _ in 0..amounts.moved {
         blocks_moved(calls, &files.draw(&mut rng), &mut tried);
     }
-    tried.want(
-        "stopped writes that read as a plan of neither file".to_string(),
-        1,
-    );
+    for (what, least) in STOPPED.into_iter().zip([20_000, 1_000, 1]) {
+        tried.want(what.to_string(), least);
+    }
     for _ in 0..amounts.torn {
         torn_writes(calls, &files.pair(&mut rng), &mut tried);
     }
@@ -460,39 +459,33 @@ fn renumber(file: &mut [u8]) {
 }
 
 /// A write that stopped. To a new name, the part is a cut file and is refused, so the old one, which is
-/// still there, is the plan. Over the old file, what stands there then is refused too where one of its
-/// blocks is neither the old file's nor the new one's; where each is whole, and both plans have one
-/// size, it can be a plan that is neither.
+/// still there, is the plan. Over the old file no such thing is promised, and the reference says what
+/// comes: most are refused, but where the write stops between two blocks, or what it changed of one
+/// leaves the sum as it was, blocks of both can be read as a plan that neither file had.
 fn torn_writes<C: FileCalls>(calls: &mut C, (old, new): &(Kept, Kept), tried: &mut Tried) {
     let name = "writes over another file that stopped at every byte";
     let mut room = old.lent.clone();
     for array in PLAN_ARRAYS {
         room.lend(array, room.length(array).max(new.lent.length(array)));
     }
-    let mut lent = calls.lend(&room);
     for stopped in 0..=new.file.len().min(14 * BLOCK) {
         let mut file = new.file[..stopped].to_vec();
         file.extend(old.file.get(stopped..).unwrap_or(&[]));
-        let whole = |place: usize| {
-            let part = |file: &[u8]| file.chunks(BLOCK).nth(place).map(<[u8]>::to_vec);
-            let one = part(&file);
-            one == part(&old.file) || one == part(&new.file)
-        };
-        // Where the write is, the only block that can be neither's.
-        if !whole(stopped / BLOCK) {
-            let told = calls.read(&file, &mut lent);
-            tried.see(name, told.is_err(), || {
-                format!("stopped at {stopped}: {told:?}")
-            });
-            no_fault(calls, name, tried);
-        } else if stopped % BLOCK == 0 {
-            let told = compare(calls, name, &file, &room, tried);
-            if told.is_ok() && file != old.file && file != new.file {
-                tried.reach("stopped writes that read as a plan of neither file".to_string());
-            }
-        }
+        let told = compare(calls, name, &file, &room, tried);
+        tried.reach(match told {
+            Err(_) => STOPPED[0].to_string(),
+            Ok(_) if file == old.file || file == new.file => STOPPED[1].to_string(),
+            Ok(_) => STOPPED[2].to_string(),
+        });
     }
 }
+
+/// What a write over another file leaves.
+const STOPPED: [&str; 3] = [
+    "stopped writes that are refused",
+    "stopped writes that leave the old file or the new one",
+    "stopped writes that read as a plan of neither file",
+];
 
 /// Numbers at and past limits, and others.
 const NUMBERS: [i64; 18] = [

@@ -31,7 +31,7 @@ impl cli::Files for Disk {
     }
 
     /// To another name first, so that a power cut leaves the file that was there or the new one
-    /// whole: over the old one, a write that stops between two blocks could leave a mix of both.
+    /// whole: over the old one, a write that stops could leave a plan that neither was.
     fn keep(&self, file: &OsStr, bytes: &[u8]) -> io::Result<()> {
         let file = Path::new(file);
         let name = file

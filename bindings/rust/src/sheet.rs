@@ -258,8 +258,8 @@ impl Sheet {
     /// The sheet's file: blocks of 512 bytes, as docs/FILES.md lays them out. Kept numbers stand in
     /// none of them.
     ///
-    /// Put it in place whole: write to another name, then rename. A file that is written over
-    /// another can be a mix of both where the write stops between two blocks.
+    /// Put it in place whole: write to another name, then rename. Where it is written over another
+    /// file and the write stops, the blocks of both can be read as a plan that neither was.
     ///
     /// No panic can be reached: an opened sheet that was only edited by these calls is one that
     /// opening accepts, and the file has room for the largest.
