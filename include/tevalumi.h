@@ -1,4 +1,4 @@
-/* Tevalumi: plans (linear programs), triangle solves and the audit sheet.
+/* Tevalumi: plans (linear programs), triangle solves, the audit sheet and its plans in files.
  *
  * Each call answers whatever it is lent, keeps no pointer and takes no memory of its own.
  * An array goes over as a pointer and its number of cells. It may be longer than needed: cells past
@@ -266,6 +266,64 @@ size_t tevalumi_edit(
     int64_t *c, size_t c_len,
     int64_t *b, size_t b_len,
     int64_t *counts, size_t counts_len);
+
+/* ---- Plans in a file ----
+ * A whole-number plan (the sheet's ten arrays of the plan, without the kept numbers) as blocks of 512 bytes;
+ * docs/FILES.md has them byte by byte. One plan has one file, and a file with any one byte changed is refused. */
+
+/* status  0; refused, the lowest number that applies: 11 a size, an array or the lent file too short, 12 and
+ *         13 as at opening
+ * bytes   how many the plan's file has; 0 where refused */
+typedef struct {
+    size_t status;
+    size_t bytes;
+} TevalumiWritten;
+
+/* Writes the plan's file over the front of file: two blocks at least (0 rows, 0 columns), 217 at most (96 rows,
+ * 128 columns). The bytes past it aren't changed. */
+TevalumiWritten tevalumi_write_plan(
+    size_t rows, size_t columns,
+    const int64_t *coefs, size_t coefs_len,
+    const int64_t *costs, size_t costs_len,
+    const int64_t *lowers, size_t lowers_len,
+    const int64_t *uppers, size_t uppers_len,
+    const uint8_t *lower_marks, size_t lower_marks_len,
+    const uint8_t *upper_marks, size_t upper_marks_len,
+    const int64_t *rights, size_t rights_len,
+    const uint8_t *ops, size_t ops_len,
+    const int64_t *amounts, size_t amounts_len,
+    const int64_t *mults, size_t mults_len,
+    uint8_t *file, size_t file_len);
+
+/* status   0; refused, at the first block that isn't accepted, the lowest number that applies to it, but 33
+ *          alone where it is cut:
+ *          31 a kind that isn't known          32 a wrong check
+ *          33 missing, cut, repeated, misplaced, or behind the end     34 an unused byte that isn't 0
+ *          or, right after block 0: 11 a size over its limit or an array too short for the sizes
+ *          or, after the last block: 12 and 13 as at opening
+ * block    the place in the file where reading stood, from 0 on; the end block's for 12 and 13; 0 on status 0
+ * rows, columns   the plan's sizes; 0 where refused */
+typedef struct {
+    size_t status;
+    size_t block;
+    size_t rows;
+    size_t columns;
+} TevalumiRead;
+
+/* Reads a plan's file, all of it and nothing more, and on status 0 writes the plan over the front of the ten
+ * arrays. */
+TevalumiRead tevalumi_read_plan(
+    const uint8_t *file, size_t file_len,
+    int64_t *coefs, size_t coefs_len,
+    int64_t *costs, size_t costs_len,
+    int64_t *lowers, size_t lowers_len,
+    int64_t *uppers, size_t uppers_len,
+    uint8_t *lower_marks, size_t lower_marks_len,
+    uint8_t *upper_marks, size_t upper_marks_len,
+    int64_t *rights, size_t rights_len,
+    uint8_t *ops, size_t ops_len,
+    int64_t *amounts, size_t amounts_len,
+    int64_t *mults, size_t mults_len);
 
 #ifdef __cplusplus
 }

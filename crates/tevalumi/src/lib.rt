@@ -12,6 +12,8 @@ ghost use Rattle.rules.specs.Parts as Parts;
 ghost use Rattle.rules.specs.Solve.{solvePlan};
 ghost use Rattle.face.specs.Face.{triResult, sheetNumbers, faced, facedBy};
 
+mod files;
+
 // with_diag 0: all ones on the diagonal, and diag isn't read.
 #[no_mangle]
 pub extern "C" fn tevalumi_lower_sparse(

@@ -1,0 +1,4 @@
+-- The calls, by their definitions.
+pub mod Writing
+pub mod Reading
+pub mod Meaning

@@ -1,0 +1,2 @@
+-- The numbers of the answers on a file.
+pub mod Numbers

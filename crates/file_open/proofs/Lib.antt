@@ -1,0 +1,3 @@
+-- What stands at the places.
+pub mod Laws
+pub mod Payload

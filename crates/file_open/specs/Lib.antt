@@ -1,0 +1,2 @@
+-- Where a plan's arrays stand in its file.
+pub mod Places

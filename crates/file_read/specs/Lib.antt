@@ -1,0 +1,2 @@
+-- Where the cells of a file stand.
+pub mod Cells

@@ -1,0 +1,2 @@
+-- What the code's loop says of a walk.
+pub mod Laws

@@ -1,0 +1,2 @@
+-- Reading as the code does it.
+pub mod Stop
