@@ -4,6 +4,7 @@
 //! Arrays that a call writes are lent longer than needed, by a seeded number of marked cells. Where
 //! a call changes a cell that it must leave, its line says so and so differs from the oracle's.
 
+pub mod files;
 pub mod lent;
 /// The calls of the library, as the Rust crate over it has them.
 #[path = "../../bindings/rust/src/ffi.rs"]

@@ -5,7 +5,9 @@ use oracle_sheet::reference::{Edit, Sheet, Verdict};
 use oracle_sheet::{answer, Array, Block, Calls, KEPT_ARRAYS};
 
 use crate::lent::{Cell, Lent};
-use crate::library::{tevalumi_edit, tevalumi_open, tevalumi_verdict};
+use crate::library::{
+    tevalumi_edit, tevalumi_open, tevalumi_read_plan, tevalumi_verdict, tevalumi_write_plan, Read,
+};
 use crate::EXTRA;
 
 /// The answer lines of a script; what a call changed that it must leave stands at the end of the
@@ -85,7 +87,7 @@ impl Calls for Library<'_> {
     }
 }
 
-fn number(status: usize) -> u8 {
+pub fn number(status: usize) -> u8 {
     u8::try_from(status).unwrap_or(u8::MAX)
 }
 
@@ -263,5 +265,45 @@ impl Arrays {
             (0, _) => Verdict::Refused(u8::MAX),
             (status, _) => Verdict::Refused(number(status)),
         }
+    }
+
+    /// The status, and how many bytes of the file were written.
+    pub fn write_plan(&self, rows: u64, columns: u64, file: &mut [u8]) -> (usize, usize) {
+        let [coefs, costs, lowers, uppers, rights, amounts, mults, ..] = &self.numbers;
+        let [lower_marks, upper_marks, ops] = &self.bytes;
+        let written = tevalumi_write_plan(
+            rows as usize,
+            columns as usize,
+            coefs.get(),
+            costs.get(),
+            lowers.get(),
+            uppers.get(),
+            lower_marks.get(),
+            upper_marks.get(),
+            rights.get(),
+            ops.get(),
+            amounts.get(),
+            mults.get(),
+            file,
+        );
+        (written.status, written.bytes)
+    }
+
+    pub(crate) fn read_plan(&mut self, file: &[u8]) -> Read {
+        let [coefs, costs, lowers, uppers, rights, amounts, mults, ..] = &mut self.numbers;
+        let [lower_marks, upper_marks, ops] = &mut self.bytes;
+        tevalumi_read_plan(
+            file,
+            coefs.lend(),
+            costs.lend(),
+            lowers.lend(),
+            uppers.lend(),
+            lower_marks.lend(),
+            upper_marks.lend(),
+            rights.lend(),
+            ops.lend(),
+            amounts.lend(),
+            mults.lend(),
+        )
     }
 }

@@ -1,6 +1,8 @@
 //! Sheets as text: reading and writing the sheet blocks and answer lines of the exchange format,
 //! and playing a block on the reference. The format is described in README.md.
 
+pub mod file;
+pub mod file_cases;
 pub mod generate;
 pub mod reference;
 pub mod tally;

@@ -50,6 +50,24 @@ pub(crate) struct SheetVerdict {
     pub value: i64,
 }
 
+/// What `tevalumi_write_plan` answers: how many bytes of the file are written, 0 where it is refused.
+#[repr(C)]
+#[derive(Clone, Copy, Debug)]
+pub(crate) struct Written {
+    pub status: usize,
+    pub bytes: usize,
+}
+
+/// What `tevalumi_read_plan` answers: the block where reading stood, and the plan's sizes.
+#[repr(C)]
+#[derive(Clone, Copy, Debug)]
+pub(crate) struct Read {
+    pub status: usize,
+    pub block: usize,
+    pub rows: usize,
+    pub columns: usize,
+}
+
 /// Makes the safe function of a call. Its arguments move one by one from the last list to three
 /// others: as the function takes them, as C declares them, and as they are handed over.
 macro_rules! call {
@@ -137,6 +155,27 @@ call! {
         amounts: &[i64], mults: &[i64],
         r: &[i64], d: &[i64], c: &[i64], b: &[i64], counts: &[i64],
     ) -> SheetVerdict
+}
+
+call! {
+    /// Writes a plan's file: writes the file alone.
+    fn tevalumi_write_plan(
+        rows: usize, columns: usize,
+        coefs: &[i64], costs: &[i64], lowers: &[i64], uppers: &[i64],
+        lower_marks: &[u8], upper_marks: &[u8], rights: &[i64], ops: &[u8],
+        amounts: &[i64], mults: &[i64],
+        file: &mut [u8],
+    ) -> Written
+}
+
+call! {
+    /// Reads a plan's file: writes the plan's ten slices.
+    fn tevalumi_read_plan(
+        file: &[u8],
+        coefs: &mut [i64], costs: &mut [i64], lowers: &mut [i64], uppers: &mut [i64],
+        lower_marks: &mut [u8], upper_marks: &mut [u8], rights: &mut [i64], ops: &mut [u8],
+        amounts: &mut [i64], mults: &mut [i64],
+    ) -> Read
 }
 
 call! {

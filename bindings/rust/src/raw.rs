@@ -3,10 +3,12 @@
 //! This is the level for firmware. A [`PlanRef`] borrows the plan's arrays, a [`Workspace`] is one
 //! block of fixed arrays that can stand in a `static`, and [`solve_into`] answers an [`Answer`].
 //! A caller with memory of its own layout lends a [`WorkspaceMut`] to [`solve_lent`]. The audit
-//! sheet's arrays are lent as a [`SheetMut`].
+//! sheet's arrays are lent as a [`SheetMut`]; its plan is written into a file's bytes by
+//! [`SheetRef::write_plan`] and read back by [`FiguresMut::read_plan`].
 //!
 //! Whatever is handed in is answered: a size over its limit or an array that is too short is
-//! answer 1 (11 for a sheet), never a panic. A refusal (1 to 7, 11 to 16) changes no lent cell.
+//! answer 1 (11 for a sheet or a file), never a panic. A refusal (1 to 7, 11 to 16, 31 to 34)
+//! changes no lent cell.
 //! Lent arrays may be longer than needed; the cells past what is needed are neither read nor
 //! written.
 //!
@@ -69,6 +71,10 @@ pub mod limits {
     pub const SHEET_AMOUNT: i64 = 1 << 16;
     /// A sheet's multipliers (in 1/1024), in size.
     pub const SHEET_MULTIPLIER: i64 = 1 << 20;
+    /// Bytes of one block of a file.
+    pub const BLOCK: usize = 512;
+    /// Bytes of the largest plan's file: 217 blocks.
+    pub const FILE: usize = 217 * BLOCK;
 }
 
 /// The comparison codes of [`PlanRef::ops`] and [`SheetMut::ops`].
@@ -460,17 +466,29 @@ pub enum Refusal {
     KeptForLater = 15,
     /// 16: an edit kind that isn't known (0, or 32 and up).
     UnknownKind = 16,
+    /// 31: a file's block of a kind that isn't known.
+    UnknownBlock = 31,
+    /// 32: a block's check is wrong.
+    WrongCheck = 32,
+    /// 33: a block is missing, cut, repeated or misplaced, or something stands behind the end.
+    MisplacedBlock = 33,
+    /// 34: an unused byte of a block isn't 0.
+    UnusedByte = 34,
 }
 
 impl Refusal {
     /// Every refusal, in the order of its number.
-    pub const ALL: [Refusal; 6] = [
+    pub const ALL: [Refusal; 10] = [
         Refusal::BadSize,
         Refusal::BadNumber,
         Refusal::CrossedBounds,
         Refusal::Damaged,
         Refusal::KeptForLater,
         Refusal::UnknownKind,
+        Refusal::UnknownBlock,
+        Refusal::WrongCheck,
+        Refusal::MisplacedBlock,
+        Refusal::UnusedByte,
     ];
 
     /// Document 01's number.
@@ -496,6 +514,12 @@ impl Refusal {
             Refusal::Damaged => "the sheet is damaged: a number or mark breaks its limit",
             Refusal::KeptForLater => "this kind of edit is kept for later",
             Refusal::UnknownKind => "there is no such kind of edit",
+            Refusal::UnknownBlock => "a block's kind isn't known",
+            Refusal::WrongCheck => "a block's check is wrong",
+            Refusal::MisplacedBlock => {
+                "a block is missing, cut, repeated or misplaced, or something stands behind the end"
+            }
+            Refusal::UnusedByte => "an unused byte of a block isn't 0",
         }
     }
 
@@ -686,7 +710,96 @@ impl SheetMut<'_> {
     }
 }
 
+/// Why a file isn't read: the refusal, and the place of the block where reading stood, from 0.
+#[derive(Clone, Copy, Debug, PartialEq, Eq, Hash)]
+pub struct BadFile {
+    /// 31 to 34; 11 to 13 where opening would refuse what the file holds.
+    pub refusal: Refusal,
+    /// The block that isn't accepted; block 0, the sizes', for 11; the end block for 12 and 13.
+    pub block: usize,
+}
+
+impl std::fmt::Display for BadFile {
+    fn fmt(&self, f: &mut std::fmt::Formatter<'_>) -> std::fmt::Result {
+        write!(f, "{} (block {})", self.refusal, self.block)
+    }
+}
+
+impl std::error::Error for BadFile {}
+
+/// The ten arrays of a sheet that a file holds, lent to be written. Those of [`SheetMut`] without
+/// the kept numbers; the file says how many rows and columns there are.
+#[derive(Debug)]
+#[allow(missing_docs)] // The fields are SheetMut's.
+pub struct FiguresMut<'a> {
+    pub coefs: &'a mut [i64],
+    pub costs: &'a mut [i64],
+    pub lowers: &'a mut [i64],
+    pub uppers: &'a mut [i64],
+    pub lower_marks: &'a mut [u8],
+    pub upper_marks: &'a mut [u8],
+    pub rights: &'a mut [i64],
+    pub ops: &'a mut [u8],
+    pub amounts: &'a mut [i64],
+    pub mults: &'a mut [i64],
+}
+
+impl FiguresMut<'_> {
+    /// Reads a plan's file (docs/FILES.md) and answers its rows and columns. What is written is a
+    /// sheet that opening accepts, in the cells that those sizes need.
+    ///
+    /// # Errors
+    ///
+    /// By block, the lowest number first; no cell has changed.
+    pub fn read_plan(&mut self, file: &[u8]) -> Result<(usize, usize), BadFile> {
+        let read = ffi::tevalumi_read_plan(
+            file,
+            self.coefs,
+            self.costs,
+            self.lowers,
+            self.uppers,
+            self.lower_marks,
+            self.upper_marks,
+            self.rights,
+            self.ops,
+            self.amounts,
+            self.mults,
+        );
+        Refusal::check(read.status).map_err(|refusal| BadFile {
+            refusal,
+            block: read.block,
+        })?;
+        Ok((read.rows, read.columns))
+    }
+}
+
 impl SheetRef<'_> {
+    /// Writes the plan with its amounts and multipliers as a file (docs/FILES.md) and answers how
+    /// many bytes it has. The kept numbers have no part in it: opening works them out again.
+    ///
+    /// # Errors
+    ///
+    /// What opening refuses, by its number (11, 12, 13); 11 too where the file is too short.
+    pub fn write_plan(&self, file: &mut [u8]) -> Result<usize, Refusal> {
+        let written = ffi::tevalumi_write_plan(
+            self.rows,
+            self.columns,
+            self.coefs,
+            self.costs,
+            self.lowers,
+            self.uppers,
+            self.lower_marks,
+            self.upper_marks,
+            self.rights,
+            self.ops,
+            self.amounts,
+            self.mults,
+            file,
+        );
+        Refusal::check(written.status)?;
+        Ok(written.bytes)
+    }
+
     /// The verdict on the sheet as it stands.
     pub fn verdict(&self) -> Result<Verdict, Refusal> {
         let verdict = ffi::tevalumi_verdict(

@@ -38,15 +38,31 @@
 //! # Ok::<(), tevalumi::sheet::Refusal>(())
 //! ```
 //!
+//! A sheet is kept over a power cut as a file of blocks. One sheet has one file, and no file with a
+//! changed byte is read:
+//!
+//! ```
+//! # use tevalumi::sheet::{Figures, Refusal, Sheet};
+//! # let sheet = Sheet::open(&Figures::default())?;
+//! let mut file = sheet.to_bytes();
+//! assert_eq!(Sheet::from_bytes(&file).as_ref(), Ok(&sheet));
+//!
+//! file[600] ^= 1;
+//! let bad = Sheet::from_bytes(&file).unwrap_err();
+//! assert_eq!((bad.refusal, bad.block), (Refusal::WrongCheck, 1));
+//! assert_eq!(bad.to_string(), "32: a block's check is wrong (block 1)");
+//! # Ok::<(), Refusal>(())
+//! ```
+//!
 //! Every sum is exact in 64 bits within the sheet's limits. An edit costs only what it touches, and
 //! a sheet after any edits equals the one that would be opened afresh: that is proved, not tested.
 
 use std::fmt;
 
-use crate::raw::{self, SheetMut, SheetRef};
+use crate::raw::{self, limits, FiguresMut, SheetMut, SheetRef};
 use crate::ComparisonOp;
 
-pub use crate::raw::{Refusal, Verdict};
+pub use crate::raw::{BadFile, Refusal, Verdict};
 
 /// A count of 1/1024, as multipliers, prices, floors and gaps are, shown as the decimal that it is.
 ///
@@ -207,8 +223,8 @@ impl Sheet {
             amounts: figures.amounts.clone(),
             mults: figures.mults.clone(),
             // No larger than an accepted sheet needs, whatever is said.
-            r: vec![0; figures.rows.min(raw::limits::ROWS)],
-            d: vec![0; figures.columns.min(raw::limits::COLUMNS)],
+            r: vec![0; figures.rows.min(limits::ROWS)],
+            d: vec![0; figures.columns.min(limits::COLUMNS)],
             c: [0],
             b: [0],
             counts: [0; 4],
@@ -237,6 +253,95 @@ impl Sheet {
         self.lent()
             .verdict()
             .expect("an opened sheet that was only edited is never refused a verdict")
+    }
+
+    /// The sheet's file: blocks of 512 bytes, as docs/FILES.md lays them out. Kept numbers stand in
+    /// none of them.
+    ///
+    /// Put it in place whole: write to another name, then rename. Where it is written over another
+    /// file and the write stops, the blocks of both can be read as a plan that neither was.
+    ///
+    /// No panic can be reached: an opened sheet that was only edited by these calls is one that
+    /// opening accepts, and the file has room for the largest.
+    pub fn to_bytes(&self) -> Vec<u8> {
+        let mut file = vec![0; limits::FILE];
+        let bytes = self
+            .lent()
+            .write_plan(&mut file)
+            .expect("an opened sheet that was only edited is one that opening accepts");
+        file.truncate(bytes);
+        file
+    }
+
+    /// Reads a sheet's file and opens the sheet.
+    ///
+    /// # Errors
+    ///
+    /// 31 to 34, or 11 to 13 where opening would refuse what the file holds, with the block.
+    ///
+    /// No panic can be reached: what reading accepts opening accepts.
+    pub fn from_bytes(file: &[u8]) -> Result<Sheet, BadFile> {
+        let (rows, columns) = (limits::ROWS, limits::COLUMNS);
+        let mut sheet = Sheet {
+            rows: 0,
+            columns: 0,
+            coefs: vec![0; rows * columns],
+            costs: vec![0; columns],
+            lowers: vec![0; columns],
+            uppers: vec![0; columns],
+            lower_marks: vec![0; columns],
+            upper_marks: vec![0; columns],
+            rights: vec![0; rows],
+            ops: vec![0; rows],
+            amounts: vec![0; columns],
+            mults: vec![0; rows],
+            r: vec![0; rows],
+            d: vec![0; columns],
+            c: [0],
+            b: [0],
+            counts: [0; 4],
+        };
+        let read = FiguresMut {
+            coefs: &mut sheet.coefs,
+            costs: &mut sheet.costs,
+            lowers: &mut sheet.lowers,
+            uppers: &mut sheet.uppers,
+            lower_marks: &mut sheet.lower_marks,
+            upper_marks: &mut sheet.upper_marks,
+            rights: &mut sheet.rights,
+            ops: &mut sheet.ops,
+            amounts: &mut sheet.amounts,
+            mults: &mut sheet.mults,
+        }
+        .read_plan(file);
+        (sheet.rows, sheet.columns) = read?;
+        sheet.trim();
+        sheet
+            .lend()
+            .open()
+            .expect("what reading accepts opening accepts");
+        Ok(sheet)
+    }
+
+    /// Cuts each array to the cells that the sheet has.
+    fn trim(&mut self) {
+        let (rows, columns) = (self.rows, self.columns);
+        self.coefs.truncate(rows * columns);
+        for cells in [&mut self.rights, &mut self.mults, &mut self.r] {
+            cells.truncate(rows);
+        }
+        for cells in [
+            &mut self.costs,
+            &mut self.lowers,
+            &mut self.uppers,
+            &mut self.amounts,
+            &mut self.d,
+        ] {
+            cells.truncate(columns);
+        }
+        self.lower_marks.truncate(columns);
+        self.upper_marks.truncate(columns);
+        self.ops.truncate(rows);
     }
 
     fn lend(&mut self) -> SheetMut<'_> {

@@ -13,6 +13,7 @@ pub enum Command {
     Solve(Request),
     Audit(Request),
     Why(Request),
+    Keep(Request),
     Night(Night),
 }
 
@@ -26,6 +27,8 @@ pub struct Request {
     pub tolerance: Option<f64>,
     pub bits: bool,
     pub json: bool,
+    /// Where `keep` puts the plan.
+    pub out: OsString,
 }
 
 #[derive(Clone, Debug, Default)]
@@ -40,6 +43,8 @@ tevalumi: small linear programs, solved and audited by a library whose every fun
 usage: tevalumi solve FILE    solve a plan and print its values
        tevalumi audit FILE    solve a plan in whole numbers and say how much cheaper another could be
        tevalumi why FILE      say why a plan in whole numbers has no solution
+       tevalumi keep FILE -o PLAN.tev
+                              keep a solved plan in whole numbers over a power cut
        tevalumi night         the bundled frost night, once with each set of costs
        tevalumi COMMAND --help
 
@@ -59,10 +64,11 @@ lower one; the other where that is infinite, 0 where both are. A plan with a row
 there is refused with 7, though it may have a solution.
 
 formats: MPS, free or fixed, as GLPK, Clp and HiGHS write it; CPLEX-LP; the project's own text
-         (docs/EXCHANGE.md). Which one is told by the content.
+         (docs/EXCHANGE.md); a plan that `tevalumi keep` wrote. Which one is told by the content;
+         a name that ends in .tev is a kept plan's.
 
 options:
-  --format F   auto, mps, free-mps, fixed-mps, lp or text
+  --format F   auto, mps, free-mps, fixed-mps, lp, text or kept
   --max, --min maximise or minimise, whatever the file says (GLPK and Clp don't write it)
   --relax      allow fractions where the file wants whole numbers; without it they are refused
   --budget N   take at most N steps (0 to 10000; 10000 where the file says none)
@@ -113,6 +119,25 @@ exit status: 0 no plan exists; 3 that isn't shown; 1 refused (answers 1 to 4); 2
              the file is wrong, or the plan isn't in whole numbers
 ";
 
+pub const HELP_KEEP: &str = "\
+usage: tevalumi keep [OPTIONS] FILE -o PLAN.tev
+
+Solves the plan in FILE and rounds its amounts and prices as `tevalumi audit` does, and keeps plan,
+amounts and multipliers in PLAN.tev: blocks of 512 bytes, each with a check (docs/FILES.md). The
+file is written to another name, put on the disk and renamed, so a power cut leaves the old one or
+the new one whole. A file with a changed byte, a block that is missing, cut or misplaced, or numbers
+that a sheet refuses isn't read: the number, the block and a sentence say why. Every command reads
+PLAN.tev where it reads FILE. Names aren't kept, nor a constant; where FILE maximises, the costs are
+kept with their signs turned.
+
+limits: as for `tevalumi audit`
+
+options: --format, --max, --min, --relax, --budget, --tol, --json as for `tevalumi solve`
+
+exit status: 0 kept; 1 and 3 the plan isn't solved, as for `tevalumi solve`, and nothing is kept;
+             2 the command line or a file is wrong, or the plan isn't in whole numbers
+";
+
 pub const HELP_NIGHT: &str = "\
 usage: tevalumi night [--ascii] [--sheets]
 
@@ -131,12 +156,13 @@ pub type Usage = String;
 
 pub fn parse(args: &[OsString]) -> Result<Command, Usage> {
     let Some((command, rest)) = args.split_first() else {
-        return Err("expected a command: solve, audit, why or night".to_string());
+        return Err("expected a command: solve, audit, why, keep or night".to_string());
     };
     let help = match command.to_str() {
         Some("solve") => HELP_SOLVE,
         Some("audit") => HELP_AUDIT,
         Some("why") => HELP_WHY,
+        Some("keep") => HELP_KEEP,
         Some("night") => HELP_NIGHT,
         Some("--help" | "-h") => return Ok(Command::Help(HELP)),
         Some("--version" | "-V") => return Ok(Command::Version),
@@ -148,7 +174,7 @@ pub fn parse(args: &[OsString]) -> Result<Command, Usage> {
         }
         _ => {
             return Err(format!(
-                "expected solve, audit, why or night, found `{}`",
+                "expected solve, audit, why, keep or night, found `{}`",
                 text(command)
             ))
         }
@@ -158,9 +184,15 @@ pub fn parse(args: &[OsString]) -> Result<Command, Usage> {
     }
     match command.to_str() {
         Some("night") => night(rest).map(Command::Night),
-        Some("audit") => request(rest, false).map(Command::Audit),
-        Some("why") => request(rest, false).map(Command::Why),
-        _ => request(rest, true).map(Command::Solve),
+        Some("audit") => request(rest, &[]).map(Command::Audit),
+        Some("why") => request(rest, &[]).map(Command::Why),
+        Some("keep") => match request(rest, &["-o"])? {
+            Request { out, .. } if out.is_empty() => {
+                Err("expected a file to keep the plan in (-o PLAN.tev)".to_string())
+            }
+            request => Ok(Command::Keep(request)),
+        },
+        _ => request(rest, &["--bits"]).map(Command::Solve),
     }
 }
 
@@ -185,7 +217,8 @@ fn night(args: &[OsString]) -> Result<Night, Usage> {
     Ok(options)
 }
 
-fn request(args: &[OsString], solve: bool) -> Result<Request, Usage> {
+/// `own` are the options that not every command has.
+fn request(args: &[OsString], own: &[&str]) -> Result<Request, Usage> {
     let mut file = None;
     let mut request = Request {
         file: OsString::new(),
@@ -196,6 +229,7 @@ fn request(args: &[OsString], solve: bool) -> Result<Request, Usage> {
         tolerance: None,
         bits: false,
         json: false,
+        out: OsString::new(),
     };
     let mut args = args.iter();
     let mut only_files = false;
@@ -227,7 +261,11 @@ fn request(args: &[OsString], solve: bool) -> Result<Request, Usage> {
             "--min" => request.maximise = Some(false),
             "--relax" => request.relax = true,
             "--json" => request.json = true,
-            "--bits" if solve => request.bits = true,
+            "--bits" if own.contains(&option) => request.bits = true,
+            "-o" if own.contains(&option) => {
+                let file = given.map(OsString::from).or_else(|| args.next().cloned());
+                request.out = file.ok_or("expected a file behind -o")?;
+            }
             _ => return Err(format!("there is no option `{}` here", text(arg))),
         }
     }
@@ -238,7 +276,7 @@ fn request(args: &[OsString], solve: bool) -> Result<Request, Usage> {
 fn format(name: &str) -> Result<Format, Usage> {
     let found = Format::NAMES.into_iter().find(|&(n, _)| n == name);
     found.map(|(_, format)| format).ok_or(format!(
-        "expected auto, mps, free-mps, fixed-mps, lp or text behind --format, found `{}`",
+        "expected auto, mps, free-mps, fixed-mps, lp, text or kept behind --format, found `{}`",
         shown(name)
     ))
 }

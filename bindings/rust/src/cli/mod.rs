@@ -3,6 +3,7 @@
 pub mod args;
 pub mod audit;
 pub mod engine;
+pub mod kept;
 pub mod lp;
 pub mod mps;
 pub mod night;
@@ -32,16 +33,24 @@ pub struct Outcome {
     pub exit: u8,
 }
 
+/// The files that the program reads and keeps.
+pub trait Files {
+    /// A file's content; `-` is standard input.
+    fn read(&self, file: &OsStr) -> io::Result<Vec<u8>>;
+    /// Puts a file in place whole, or leaves what was there.
+    fn keep(&self, file: &OsStr, bytes: &[u8]) -> io::Result<()>;
+}
+
 /// What is done with each plan of a file.
 #[derive(Clone, Copy, Debug, PartialEq)]
 enum Task {
     Solve,
     Audit,
     Why,
+    Keep,
 }
 
-/// `read` gives a file's content; `-` is standard input.
-pub fn run(args: &[OsString], read: &dyn Fn(&OsStr) -> io::Result<Vec<u8>>) -> Outcome {
+pub fn run(args: &[OsString], files: &dyn Files) -> Outcome {
     let (request, task) = match args::parse(args) {
         Ok(Command::Help(text)) => return said(text.to_string()),
         Ok(Command::Version) => return said(format!("tevalumi {}\n", env!("CARGO_PKG_VERSION"))),
@@ -54,15 +63,21 @@ pub fn run(args: &[OsString], read: &dyn Fn(&OsStr) -> io::Result<Vec<u8>>) -> O
         Ok(Command::Solve(request)) => (request, Task::Solve),
         Ok(Command::Audit(request)) => (request, Task::Audit),
         Ok(Command::Why(request)) => (request, Task::Why),
+        Ok(Command::Keep(request)) => (request, Task::Keep),
         Err(usage) => return wrong(format!("{usage}\nTry `tevalumi --help`.")),
     };
     let file = shown(&request.file.to_string_lossy());
-    let bytes = match read(&request.file) {
+    let bytes = match files.read(&request.file) {
         Ok(bytes) => bytes,
         Err(error) => return wrong(format!("{file}: can't be read: {error}")),
     };
-    match source::read(&bytes, request.format, request.relax) {
-        Ok(plans) => answer(&file, plans, &request, task),
+    let format = request.format.told_by_name(&request.file);
+    match source::read(&bytes, format, request.relax) {
+        Ok(plans) if task == Task::Keep && plans.len() != 1 => wrong(format!(
+            "{file}: expected one plan to keep, found {}",
+            plans.len()
+        )),
+        Ok(plans) => answer(&file, plans, &request, task, files),
         Err(Fault { line: 0, what }) => wrong(format!("{file}: {what}")),
         Err(Fault { line, what }) => wrong(format!("{file}:{line}: {what}")),
     }
@@ -84,13 +99,19 @@ fn wrong(what: String) -> Outcome {
 }
 
 /// Each plan in turn. The exit status of several is 2 if one has it, else the largest.
-fn answer(file: &str, plans: Vec<Plan>, request: &Request, task: Task) -> Outcome {
+fn answer(
+    file: &str,
+    plans: Vec<Plan>,
+    request: &Request,
+    task: Task,
+    files: &dyn Files,
+) -> Outcome {
     let mut all = Outcome::default();
     for mut plan in plans {
         plan.budget = request.budget.unwrap_or(plan.budget);
         plan.tolerance = request.tolerance.unwrap_or(plan.tolerance);
         plan.turn(request.maximise.unwrap_or(plan.maximise));
-        let one = one(&plan, request, task).unwrap_or_else(|what| {
+        let one = one(&plan, request, task, files).unwrap_or_else(|what| {
             wrong(format!(
                 "{file}: plan {} isn't in whole numbers within the sheet's limits: {what}",
                 shown(&plan.name)
@@ -110,7 +131,7 @@ fn answer(file: &str, plans: Vec<Plan>, request: &Request, task: Task) -> Outcom
 }
 
 /// The error is a sentence that names the first number that doesn't fit the sheet.
-fn one(plan: &Plan, request: &Request, task: Task) -> Result<Outcome, String> {
+fn one(plan: &Plan, request: &Request, task: Task, files: &dyn Files) -> Result<Outcome, String> {
     let solved = engine::solve(plan);
     let status = solved.answer.status;
     let exit = report::exit(status);
@@ -132,6 +153,19 @@ fn one(plan: &Plan, request: &Request, task: Task) -> Result<Outcome, String> {
             };
             (out, exit)
         }
+        Task::Keep if status == Status::Optimal => {
+            let sheet = audit::open(plan, &solved)?;
+            let file = shown(&request.out.to_string_lossy());
+            let bytes = sheet.to_bytes();
+            if let Err(error) = files.keep(&request.out, &bytes) {
+                return Ok(wrong(format!("{file}: can't be written: {error}")));
+            }
+            let out = match request.json {
+                true => json(&kept::as_json(&file, bytes.len())),
+                false => report::head(plan, &solved, false) + &kept::line(&file, bytes.len()),
+            };
+            (out, exit)
+        }
         Task::Why if looks => {
             let looked = why::look(plan)?;
             let out = match request.json {
@@ -140,7 +174,7 @@ fn one(plan: &Plan, request: &Request, task: Task) -> Result<Outcome, String> {
             };
             (out, looked.exit())
         }
-        Task::Solve | Task::Audit | Task::Why => {
+        Task::Solve | Task::Audit | Task::Why | Task::Keep => {
             // An audit says why there is no plan, where that is shown.
             let why = match task == Task::Audit && looks {
                 true => why::look(plan).ok().filter(|looked| looked.exit() == 0),

@@ -1,7 +1,10 @@
 //! Reads a file of any of the formats.
 
+use std::ffi::OsStr;
+use std::path::Path;
+
 use super::plan::{Fault, Plan};
-use super::{lp, mps, text};
+use super::{kept, lp, mps, text};
 
 #[derive(Clone, Copy, Debug, PartialEq)]
 pub enum Format {
@@ -13,21 +16,39 @@ pub enum Format {
     FixedMps,
     Lp,
     Text,
+    /// Blocks of bytes, as `tevalumi keep` writes them.
+    Kept,
 }
 
 impl Format {
-    pub const NAMES: [(&'static str, Format); 6] = [
+    pub const NAMES: [(&'static str, Format); 7] = [
         ("auto", Format::Auto),
         ("mps", Format::Mps),
         ("free-mps", Format::FreeMps),
         ("fixed-mps", Format::FixedMps),
         ("lp", Format::Lp),
         ("text", Format::Text),
+        ("kept", Format::Kept),
     ];
+
+    /// A file of that name is a kept plan, whatever its damaged content looks like.
+    pub fn told_by_name(self, file: &OsStr) -> Format {
+        let ending = Path::new(file).extension();
+        match self {
+            Format::Auto if ending.is_some_and(|ending| ending == "tev") => Format::Kept,
+            told => told,
+        }
+    }
 }
+
+/// A kept plan's first block is of kind 1, a byte that begins no text.
+const KEPT: u8 = 1;
 
 /// The plans of a file: one, but for the project's own text.
 pub fn read(bytes: &[u8], format: Format, relax: bool) -> Result<Vec<Plan>, Fault> {
+    if format == Format::Kept || format == Format::Auto && bytes.first() == Some(&KEPT) {
+        return Ok(vec![kept::plan(&kept::sheet(bytes)?)]);
+    }
     let text = String::from_utf8_lossy(bytes);
     let format = match format {
         Format::Auto => told_by_content(&text)?,
@@ -38,7 +59,7 @@ pub fn read(bytes: &[u8], format: Format, relax: bool) -> Result<Vec<Plan>, Faul
         Format::Lp => lp::read(&text)?,
         Format::FreeMps => mps::read(&text, mps::Layout::Free)?,
         Format::FixedMps => mps::read(&text, mps::Layout::Fixed)?,
-        Format::Mps | Format::Auto => mps::read_either(&text)?,
+        Format::Mps | Format::Auto | Format::Kept => mps::read_either(&text)?,
     };
     Ok(vec![draft.finish(relax)?])
 }

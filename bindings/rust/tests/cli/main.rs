@@ -9,14 +9,14 @@ mod cli;
 mod answers;
 mod damage;
 mod formats;
+mod kept;
 mod peers;
 mod program;
 mod tour;
 
 /// What the program says to these words, with `text` as its only file.
 fn run(words: &[&str], text: &[u8]) -> cli::Outcome {
-    let args: Vec<_> = words.iter().map(std::ffi::OsString::from).collect();
-    cli::run(&args, &|_| Ok(text.to_vec()))
+    kept::run(words, text).0
 }
 
 /// SplitMix64: the same numbers on every machine.

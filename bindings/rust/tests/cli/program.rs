@@ -88,6 +88,7 @@ fn exit_statuses() {
         (&["why", "-"], &refused, 0),
         (&["why", "-"], N2, 3),
         (&["why", "-", "--bits"], "", 2),
+        (&["keep", "-"], N2, 2),
         (&["solve", "-", "--tol", "2"], N2, 1),
         (&["solve", "-"], "NAME N2\nROWS\n", 2),
         (&["solve", "/no/such/file"], "", 2),
@@ -112,7 +113,7 @@ fn exit_statuses() {
 
 #[test]
 fn help_for_each() {
-    for command in ["solve", "audit", "why", "night"] {
+    for command in ["solve", "audit", "why", "keep", "night"] {
         let output = start(&[command, "--help"], "");
         assert_eq!(output.status.code(), Some(0));
         let usage = format!("usage: tevalumi {command}");
