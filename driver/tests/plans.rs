@@ -266,7 +266,7 @@ fn nothing_at_all_is_a_plan() {
         ..Plan::default()
     };
     let told = told(&plan);
-    assert!(told.starts_with("nothing 0 - 0000000000000000 0 0 |"));
+    assert!(told.starts_with("nothing 0 x:0000000000000000 0000000000000000 0 0 |"));
     assert_eq!(line(&plan, &Lengths::needed(&plan), true), told);
     let no_starts = Plan {
         starts: vec![],
