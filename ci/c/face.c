@@ -1,4 +1,4 @@
-/* The library's face as a C program sees it: triangles, and night case N5's sheet with its edits. */
+/* The library's face as a C program sees it: triangles, and night case N5's sheet with its edits and its file. */
 #include <math.h>
 #include <stdio.h>
 #include <string.h>
@@ -180,11 +180,45 @@ static void edits(void) {
     check(edit(&s, 1, 0, 0, 4) == 14 && s.amounts[0] == 5, "14");
 }
 
+static void files(void) {
+    Sheet s = n2(4, -3072);
+    static uint8_t file[12 * 512 + 1];
+    memset(file, 0xce, sizeof file);
+    TevalumiWritten w = tevalumi_write_plan(1, 2, PLAN(&s), file, 12 * 512 - 1);
+    check(w.status == 11 && w.bytes == 0 && file[0] == 0xce, "11: a file too short, and nothing changed");
+    w = tevalumi_write_plan(1, 2, PLAN(&s), ARRAY(file));
+    check(w.status == 0 && w.bytes == 12 * 512 && file[12 * 512] == 0xce, "a sheet's file, and the byte past it");
+    check(file[0] == 1 && file[3] == 1 && file[11] == 2 && file[508] == 29, "its sizes and their check");
+    check(file[11 * 512] == 255 && file[11 * 512 + 1] == 11, "its end");
+
+    Sheet t = n2(0, 0);
+    memset(&t, 9, sizeof t); /* what the lent cells hold is no matter */
+    TevalumiRead a = tevalumi_read_plan(file, w.bytes, PLAN(&t));
+    check(a.status == 0 && a.rows == 1 && a.columns == 2, "reading it");
+    check(t.costs[0] == -3 && t.uppers[1] == 2 && t.upper_marks[0] == 0 && t.amounts[0] == 4 && t.mults[0] == -3072, "what is read");
+    check(open_sheet(&t) == 0 && is(judge(&t), 0, 2, 0), "N5 from its file");
+
+    Sheet before;
+    memcpy(&before, &t, sizeof t);
+    a = tevalumi_read_plan(ARRAY(file), PLAN(&t));
+    check(a.status == 33 && a.block == 12, "33: a byte behind the end");
+    a = tevalumi_read_plan(file, 600, PLAN(&t));
+    check(a.status == 33 && a.block == 1, "33: a cut block");
+    file[2 * 512 + 3] ^= 1;
+    a = tevalumi_read_plan(file, w.bytes, PLAN(&t));
+    check(a.status == 32 && a.block == 2, "32: a byte changed");
+    file[512] = 11;
+    a = tevalumi_read_plan(file, w.bytes, PLAN(&t));
+    check(a.status == 31 && a.block == 1, "31: a kind that isn't known");
+    check(memcmp(&before, &t, sizeof t) == 0, "and nothing changed");
+}
+
 int main(void) {
     triangle();
     factors();
     sheet();
     edits();
+    files();
     printf("%d passed, %d failed\n", passed, failed);
     return failed != 0;
 }

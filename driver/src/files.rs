@@ -76,6 +76,7 @@ impl FileCalls for Library {
             format!("reading answers {read:?} and changes {changed:?}")
         });
         if read.status == 0 {
+            self.note(read.block != 0, || format!("no refusal, but {read:?}"));
             lent.before = lent.arrays.clone();
             return Ok((sizes.rows, sizes.columns));
         }

@@ -2,7 +2,7 @@
 //! whatever program reads it (one byte changed, cut, swapped, dropped, repeated, a write that stopped)
 //! is stated here once more, without the reference's reader.
 
-use crate::file::{self, block, kind_of, renew, width, Refused, BLOCK, CELLS, CHECK, END};
+use crate::file::{self, block, kind_of, renew, width, Refused, BLOCK, CELLS, CHECK, END, HELD};
 use crate::generate::{blocks, Rng, Scale};
 use crate::reference::{opening_refusal, Sheet};
 use crate::tally::needed;
@@ -112,6 +112,8 @@ pub struct Amounts {
     pub sheets: Scale,
     /// Files of which every byte is changed once.
     pub changed: usize,
+    /// Files of which every unused byte is set, and its block's check renewed.
+    pub unused: usize,
     /// Files that are cut at every length.
     pub cut: usize,
     /// Files of which blocks are swapped, dropped and repeated, each with each.
@@ -140,6 +142,7 @@ pub const WHOLE: Amounts = Amounts {
         kind_max: 255,
     },
     changed: 50,
+    unused: 5,
     cut: 8,
     moved: 12,
     torn: 12,
@@ -185,6 +188,9 @@ pub fn run<C: FileCalls>(calls: &mut C, seed: u64, amounts: &Amounts) -> Tried {
     every_value_of_the_smallest(calls, &mut tried);
     for _ in 0..amounts.changed {
         every_byte(calls, &files.draw(&mut rng), &mut rng, &mut tried);
+    }
+    for _ in 0..amounts.unused {
+        every_unused_byte(calls, &files.draw(&mut rng), &mut rng, &mut tried);
     }
     for _ in 0..amounts.cut {
         every_cut(calls, &files.draw(&mut rng), &mut tried);
@@ -389,6 +395,41 @@ fn every_byte<C: FileCalls>(calls: &mut C, kept: &Kept, rng: &mut Rng, tried: &m
         for at in BLOCK * place..BLOCK * (place + 1) {
             let to = file[at].wrapping_add(rng.range(1, 255) as u8);
             changed(calls, &mut file, at, to, &mut lent, tried);
+        }
+    }
+}
+
+/// How many bytes each block of a plan's file uses behind its place.
+fn used(plan: &Sheet) -> Vec<usize> {
+    let mut used = vec![16];
+    for array in PLAN_ARRAYS {
+        let bytes = width(array) * needed(plan, array);
+        used.extend((0..bytes).step_by(HELD).map(|at| HELD.min(bytes - at)));
+    }
+    used.push(0);
+    used
+}
+
+/// 02: "a nonzero unused byte 34".
+fn every_unused_byte<C: FileCalls>(calls: &mut C, kept: &Kept, rng: &mut Rng, tried: &mut Tried) {
+    let name = "files with one unused byte set";
+    let mut lent = calls.lend(&kept.lent);
+    for (place, used) in used(&kept.plan).into_iter().enumerate() {
+        let mut file = kept.file.clone();
+        let start = BLOCK * place;
+        for at in CELLS + used..CHECK {
+            file[start + at] = rng.range(1, 255) as u8;
+            renew(&mut file[start..start + BLOCK]);
+            let told = calls.read(&file, &mut lent);
+            let wanted = Refused {
+                status: 34,
+                block: place,
+            };
+            tried.see(name, told == Err(wanted), || {
+                format!("byte {at} of block {place}: {told:?}")
+            });
+            no_fault(calls, name, tried);
+            file[start + at] = 0;
         }
     }
 }
