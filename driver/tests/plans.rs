@@ -131,7 +131,8 @@ fn just_long_enough_gives_the_oracles_answer() {
                 .to_string(),
         );
     }
-    tried.assert(13, 1);
+    // 0 to 5, 7 and 20 to 24: since 02's limit of 1e12 no plan is answered with 6.
+    tried.assert(12, 1);
 }
 
 #[test]
