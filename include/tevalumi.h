@@ -56,16 +56,38 @@ typedef struct {
  *   ops, rhs                       rows; 0 is <=, 1 is =, 2 is >=
  * Written on status 0:
  *   values                         columns + rows: the columns' values, then the kept rows' slacks
- * Written on status 0 and 20 to 24, the state:
- *   kept                           rows: the plan's numbers of its kept (not empty) rows
- *   basic_vars, basic_var_vals     rows; variable columns + k is the slack of kept row k
- *   nb_vars, nb_var_vals, nb_var_obj_coeffs, primal_edge_sq_norms, nb_var_states
- *                                  columns; a state is 1 at its lower bound + 2 at its upper bound
- *   var_states                     columns + rows: a variable's place, columns + row where it is basic
- *   eta_leaving, eta_starts        256 and 257: a column's leaving row, and where its entries start
- *   eta_rows, eta_coeffs           4,096
- *   counts                         5: kept rows, eta columns, eta entries, steps, status
- *   objective                      1 */
+ * Written on status 0 and 20 to 24, the state, each array whole whatever the plan's sizes:
+ *   numbers                        TEVALUMI_NUMBERS cells
+ *   doubles                        TEVALUMI_DOUBLES cells
+ * A section stands at its name's cell; its first cells are written, and all others stay:
+ *   KEPT                           the plan's numbers of its kept (not empty) rows
+ *   BASIC_VARS, BASIC_VAR_VALS     of the kept rows; variable columns + k is the slack of kept row k
+ *   NB_VARS, NB_VAR_VALS, PRICES, NORMS, FLAGS
+ *                                  columns cells; flags are 1 at the lower bound + 2 at the upper bound
+ *   VAR_STATES                     columns + kept rows: a variable's place, columns + row where it is basic
+ *   ETA_LEAVING, ETA_STARTS        a column's leaving row, and where its entries start
+ *   ETA_ROWS, ETA_COEFFS           the entries
+ *   COUNTS                         5: kept rows, eta columns, eta entries, steps, status
+ *   OBJECTIVE                      1 */
+#define TEVALUMI_BASIC_VARS 0
+#define TEVALUMI_NB_VARS (TEVALUMI_BASIC_VARS + 96)
+#define TEVALUMI_VAR_STATES (TEVALUMI_NB_VARS + 128)
+#define TEVALUMI_FLAGS (TEVALUMI_VAR_STATES + 224)
+#define TEVALUMI_ETA_LEAVING (TEVALUMI_FLAGS + 128)
+#define TEVALUMI_ETA_STARTS (TEVALUMI_ETA_LEAVING + 256)
+#define TEVALUMI_ETA_ROWS (TEVALUMI_ETA_STARTS + 257)
+#define TEVALUMI_KEPT (TEVALUMI_ETA_ROWS + 4096)
+#define TEVALUMI_COUNTS (TEVALUMI_KEPT + 96)
+#define TEVALUMI_NUMBERS (TEVALUMI_COUNTS + 5)
+
+#define TEVALUMI_BASIC_VAR_VALS 0
+#define TEVALUMI_NB_VAR_VALS (TEVALUMI_BASIC_VAR_VALS + 96)
+#define TEVALUMI_PRICES (TEVALUMI_NB_VAR_VALS + 128)
+#define TEVALUMI_NORMS (TEVALUMI_PRICES + 128)
+#define TEVALUMI_ETA_COEFFS (TEVALUMI_NORMS + 128)
+#define TEVALUMI_OBJECTIVE (TEVALUMI_ETA_COEFFS + 4096)
+#define TEVALUMI_DOUBLES (TEVALUMI_OBJECTIVE + 1)
+
 TevalumiAnswer tevalumi_solve(
     size_t columns, size_t rows, size_t entries, size_t budget, double tolerance,
     const double *costs, size_t costs_len,
@@ -77,21 +99,8 @@ TevalumiAnswer tevalumi_solve(
     const uint8_t *ops, size_t ops_len,
     const double *rhs, size_t rhs_len,
     double *values, size_t values_len,
-    size_t *kept, size_t kept_len,
-    size_t *basic_vars, size_t basic_vars_len,
-    double *basic_var_vals, size_t basic_var_vals_len,
-    size_t *nb_vars, size_t nb_vars_len,
-    double *nb_var_vals, size_t nb_var_vals_len,
-    double *nb_var_obj_coeffs, size_t nb_var_obj_coeffs_len,
-    double *primal_edge_sq_norms, size_t primal_edge_sq_norms_len,
-    uint8_t *nb_var_states, size_t nb_var_states_len,
-    size_t *var_states, size_t var_states_len,
-    size_t *eta_leaving, size_t eta_leaving_len,
-    size_t *eta_starts, size_t eta_starts_len,
-    size_t *eta_rows, size_t eta_rows_len,
-    double *eta_coeffs, size_t eta_coeffs_len,
-    size_t *counts, size_t counts_len,
-    double *objective, size_t objective_len);
+    size_t *numbers, size_t numbers_len,
+    double *doubles, size_t doubles_len);
 
 /* ---- Triangles ----
  * Solves a triangle that is stored by columns, or two of them, one after the other.

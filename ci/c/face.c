@@ -1,4 +1,5 @@
-/* The library's face as a C program sees it: triangles, and night case N5's sheet with its edits and its file. */
+/* The library's face as a C program sees it: night case N2's plan with its state, triangles, and night case N5's sheet
+   with its edits and its file. */
 #include <math.h>
 #include <stdio.h>
 #include <string.h>
@@ -18,6 +19,73 @@ static void check(int holds, const char *what) {
         failed++;
         printf("FAILED: %s\n", what);
     }
+}
+
+#define MARK 77
+
+/* N2's plan: costs -3, -1; bounds 0 to none, 0 to 2; x0 + x1 <= 4. Each array has a cell more than needed. */
+static TevalumiAnswer solve(double *values, size_t *numbers, size_t numbers_len, double *doubles, size_t doubles_len) {
+    const double costs[] = {-3, -1}, lowers[] = {0, 0}, uppers[] = {HUGE_VAL, 2}, coeffs[] = {1, 1}, rhs[] = {4};
+    const size_t starts[] = {0, 2}, cols[] = {0, 1};
+    const uint8_t ops[] = {0};
+    return tevalumi_solve(2, 1, 2, 10, 1e-9, ARRAY(costs), ARRAY(lowers), ARRAY(uppers), ARRAY(starts), ARRAY(cols), ARRAY(coeffs), ARRAY(ops), ARRAY(rhs),
+        values, 4, numbers, numbers_len, doubles, doubles_len);
+}
+
+/* Whether the cells of the array from one place up to another are marked. */
+#define MARKED(array, from, to) marked_##array(array, from, to)
+
+static int marked_numbers(const size_t *numbers, size_t from, size_t to) {
+    while (from < to && numbers[from] == MARK) {
+        from++;
+    }
+    return from >= to;
+}
+
+static int marked_doubles(const double *doubles, size_t from, size_t to) {
+    while (from < to && doubles[from] == MARK) {
+        from++;
+    }
+    return from >= to;
+}
+
+static void plan(void) {
+    static size_t numbers[TEVALUMI_NUMBERS + 1];
+    static double doubles[TEVALUMI_DOUBLES + 1];
+    double values[] = {MARK, MARK, MARK, MARK};
+    for (size_t i = 0; i < LEN(numbers); i++) {
+        numbers[i] = MARK;
+    }
+    for (size_t i = 0; i < LEN(doubles); i++) {
+        doubles[i] = MARK;
+    }
+    TevalumiAnswer a = solve(values, numbers, TEVALUMI_NUMBERS - 1, doubles, TEVALUMI_DOUBLES);
+    check(a.status == 1, "numbers a cell short: 1");
+    a = solve(values, numbers, TEVALUMI_NUMBERS, doubles, TEVALUMI_DOUBLES - 1);
+    check(a.status == 1, "doubles a cell short: 1");
+    check(MARKED(numbers, 0, LEN(numbers)) && MARKED(doubles, 0, LEN(doubles)) && values[0] == MARK, "and nothing changed");
+
+    a = solve(values, numbers, LEN(numbers), doubles, LEN(doubles));
+    check(a.status == 0 && a.steps == 2 && a.objective == -12, "N2's answer");
+    check(values[0] == 4 && values[1] == 0 && values[2] == 0 && values[3] == MARK, "its values, and the cell past them");
+    const size_t *counts = numbers + TEVALUMI_COUNTS;
+    check(counts[0] == 1 && counts[1] == 1 && counts[3] == 2 && counts[4] == 0, "the counts");
+    check(doubles[TEVALUMI_OBJECTIVE] == -12 && numbers[TEVALUMI_KEPT] == 0, "the objective, the kept row");
+    check(numbers[TEVALUMI_BASIC_VARS] == 0 && doubles[TEVALUMI_BASIC_VAR_VALS] == 4, "column 0 is basic");
+    check(numbers[TEVALUMI_NB_VARS] == 2 && numbers[TEVALUMI_NB_VARS + 1] == 1, "the slack and column 1 are not");
+    check(numbers[TEVALUMI_VAR_STATES] == 2 && numbers[TEVALUMI_VAR_STATES + 1] == 1 && numbers[TEVALUMI_VAR_STATES + 2] == 0, "the map back");
+    check(doubles[TEVALUMI_PRICES] == 3 && doubles[TEVALUMI_PRICES + 1] == 2, "the prices");
+    check(numbers[TEVALUMI_FLAGS] == 1 && numbers[TEVALUMI_FLAGS + 1] == 1, "the flags");
+    check(numbers[TEVALUMI_ETA_LEAVING] == 0 && numbers[TEVALUMI_ETA_STARTS] == 0 && numbers[TEVALUMI_ETA_STARTS + 1] == counts[2], "the eta store");
+    check(MARKED(numbers, 1, TEVALUMI_NB_VARS) && MARKED(numbers, TEVALUMI_NB_VARS + 2, TEVALUMI_VAR_STATES) && MARKED(numbers, TEVALUMI_VAR_STATES + 3, TEVALUMI_FLAGS)
+            && MARKED(numbers, TEVALUMI_FLAGS + 2, TEVALUMI_ETA_LEAVING) && MARKED(numbers, TEVALUMI_ETA_LEAVING + 1, TEVALUMI_ETA_STARTS)
+            && MARKED(numbers, TEVALUMI_ETA_STARTS + 2, TEVALUMI_ETA_ROWS) && MARKED(numbers, TEVALUMI_ETA_ROWS + counts[2], TEVALUMI_KEPT)
+            && MARKED(numbers, TEVALUMI_KEPT + 1, TEVALUMI_COUNTS) && MARKED(numbers, TEVALUMI_NUMBERS, LEN(numbers)),
+        "all other cells of numbers");
+    check(MARKED(doubles, 1, TEVALUMI_NB_VAR_VALS) && MARKED(doubles, TEVALUMI_NB_VAR_VALS + 2, TEVALUMI_PRICES) && MARKED(doubles, TEVALUMI_PRICES + 2, TEVALUMI_NORMS)
+            && MARKED(doubles, TEVALUMI_NORMS + 2, TEVALUMI_ETA_COEFFS) && MARKED(doubles, TEVALUMI_ETA_COEFFS + counts[2], TEVALUMI_OBJECTIVE)
+            && MARKED(doubles, TEVALUMI_DOUBLES, LEN(doubles)),
+        "all other cells of doubles");
 }
 
 /* 2 x0 = 6 and 2 x0 + 4 x1 = 0, by columns; cells past the second are marked. */
@@ -214,6 +282,7 @@ static void files(void) {
 }
 
 int main(void) {
+    plan();
     triangle();
     factors();
     sheet();

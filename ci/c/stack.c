@@ -12,7 +12,7 @@
 #define LEN(a) (sizeof(a) / sizeof((a)[0]))
 #define ARRAY(a) (a), LEN(a)
 
-enum { STACK = 1 << 20, PAINT = 0x5a, COLUMNS = 128, ROWS = 96, ENTRIES = 2048, ETA_COLUMNS = 256, ETA_ENTRIES = 4096 };
+enum { STACK = 1 << 20, PAINT = 0x5a, COLUMNS = 128, ROWS = 96 };
 
 static int passed;
 static int failed;
@@ -25,13 +25,10 @@ static void *solve(void *answer) {
     const double uppers[] = {INFINITY, 2};
     static const size_t starts[] = {0, 2}, cols[] = {0, 1};
     static const uint8_t ops[] = {0};
-    static double values[COLUMNS + ROWS], basic_var_vals[ROWS], nb_var_vals[COLUMNS], prices[COLUMNS], norms[COLUMNS], eta_coeffs[ETA_ENTRIES], objective[1];
-    static size_t kept[ROWS], basic_vars[ROWS], nb_vars[COLUMNS], var_states[COLUMNS + ROWS], eta_leaving[ETA_COLUMNS], eta_starts[ETA_COLUMNS + 1],
-        eta_rows[ETA_ENTRIES], counts[5];
-    static uint8_t flags[COLUMNS];
+    static double values[COLUMNS + ROWS], doubles[TEVALUMI_DOUBLES];
+    static size_t numbers[TEVALUMI_NUMBERS];
     TevalumiAnswer a = tevalumi_solve(2, 1, 2, 10, 1e-9, ARRAY(costs), ARRAY(lowers), ARRAY(uppers), ARRAY(starts), ARRAY(cols), ARRAY(coeffs), ARRAY(ops),
-        ARRAY(rhs), ARRAY(values), ARRAY(kept), ARRAY(basic_vars), ARRAY(basic_var_vals), ARRAY(nb_vars), ARRAY(nb_var_vals), ARRAY(prices), ARRAY(norms),
-        ARRAY(flags), ARRAY(var_states), ARRAY(eta_leaving), ARRAY(eta_starts), ARRAY(eta_rows), ARRAY(eta_coeffs), ARRAY(counts), ARRAY(objective));
+        ARRAY(rhs), ARRAY(values), ARRAY(numbers), ARRAY(doubles));
     *(int *)answer = a.status == 0 && a.steps == 2 && a.objective == -12 && a.excess == 0;
     return NULL;
 }

@@ -1,6 +1,8 @@
 //! Memory as it is lent to a call: an array with marked cells before and after it, so that a call
 //! that writes where it must not is seen.
 
+use std::ops::Range;
+
 /// Marked cells on either side, which no call is lent.
 const GUARD: usize = 4;
 
@@ -91,6 +93,11 @@ impl<T: Cell> Lent<T> {
         self.cells.len() == before.cells.len()
             && same(&self.cells[..GUARD], &before.cells[..GUARD])
             && same(&self.cells[past..], &before.cells[past..])
+    }
+
+    /// Whether the lent cells of a range are as they were.
+    pub fn kept(&self, before: &Lent<T>, cells: Range<usize>) -> bool {
+        same(&self.get()[cells.clone()], &before.get()[cells])
     }
 }
 

@@ -1,5 +1,7 @@
 //! Plans through the library.
 
+use std::ops::Range;
+
 use oracle::answer::State;
 use oracle::exchange::{Line, Place};
 use oracle::limits;
@@ -8,17 +10,44 @@ use oracle::rng::Rng;
 
 use crate::lent::Lent;
 use crate::library::{tevalumi_solve, Answer};
-use crate::EXTRA;
+use crate::{sections, EXTRA};
 
-/// The written arrays of the call after the values, in its order.
-pub const WRITTEN: [Name; 15] = Name::ALL;
+/// A section of one of the two arrays that hold the state.
+#[derive(Clone, Debug)]
+pub enum Section {
+    Numbers(Range<usize>),
+    Doubles(Range<usize>),
+}
+
+/// Where each array of docs/EXCHANGE.md stands.
+pub fn section(name: Name) -> Section {
+    match name {
+        Name::Kept => Section::Numbers(sections::KEPT),
+        Name::Basic => Section::Numbers(sections::BASIC_VARS),
+        Name::Bval => Section::Doubles(sections::BASIC_VAR_VALS),
+        Name::Nonbasic => Section::Numbers(sections::NB_VARS),
+        Name::Nval => Section::Doubles(sections::NB_VAR_VALS),
+        Name::Price => Section::Doubles(sections::PRICES),
+        Name::Norm => Section::Doubles(sections::NORMS),
+        Name::Flags => Section::Numbers(sections::FLAGS),
+        Name::Where => Section::Numbers(sections::VAR_STATES),
+        Name::Etarow => Section::Numbers(sections::ETA_LEAVING),
+        Name::Etaptr => Section::Numbers(sections::ETA_STARTS),
+        Name::Etaidx => Section::Numbers(sections::ETA_ROWS),
+        Name::Etaval => Section::Doubles(sections::ETA_COEFFS),
+        Name::Counts => Section::Numbers(sections::COUNTS),
+        Name::Obj => Section::Doubles(sections::OBJECTIVE),
+        Name::Numbers => Section::Numbers(0..sections::NUMBERS),
+        Name::Doubles => Section::Doubles(0..sections::DOUBLES),
+    }
+}
 
 /// How many cells are lent of each array that is written.
 #[derive(Clone, Debug)]
 pub struct Lengths {
     pub values: usize,
-    /// In the order of `WRITTEN`.
-    pub others: [usize; 15],
+    pub numbers: usize,
+    pub doubles: usize,
 }
 
 /// A size past its limit is said, but not lent.
@@ -35,30 +64,39 @@ impl Lengths {
         let (columns, rows) = sizes(plan);
         Lengths {
             values: (columns + rows) as usize,
-            others: WRITTEN.map(|name| name.needed(columns, rows) as usize),
+            numbers: sections::NUMBERS,
+            doubles: sections::DOUBLES,
         }
     }
 
-    /// What the plan's text says, and where it says nothing, a few cells more than needed.
+    /// What the plan's text says, and where it says nothing, a few cells more than needed. A section that is said to be
+    /// shorter than the plan needs makes its array a cell short.
     pub fn told(plan: &Plan, rng: &mut Rng) -> Lengths {
         let needed = Lengths::needed(plan);
-        let mut lengths = needed.clone();
-        lengths.values = match plan.room {
-            Some([values, _, _]) => told(values, needed.values),
-            None => needed.values + rng.below(EXTRA),
+        let mut lengths = Lengths {
+            values: match plan.room {
+                Some([values, _, _]) => told(values, needed.values),
+                None => needed.values + rng.below(EXTRA),
+            },
+            numbers: needed.numbers + rng.below(EXTRA),
+            doubles: needed.doubles + rng.below(EXTRA),
         };
-        for (i, name) in WRITTEN.into_iter().enumerate() {
-            let least = needed.others[i];
-            let said = plan.short.iter().rev().find(|(short, _)| *short == name);
-            lengths.others[i] = match (said, name, plan.room) {
-                (Some(&(_, length)), _, _) => told(length, least),
-                (None, Name::Etarow, Some([_, columns, _])) => told(columns, least),
-                (None, Name::Etaptr, Some([_, columns, _])) => {
-                    told(columns.saturating_add(1), least)
-                }
-                (None, Name::Etaidx | Name::Etaval, Some([_, _, entries])) => told(entries, least),
-                _ => least + rng.below(EXTRA),
-            };
+        // A plan that is too large is refused whatever is lent.
+        let small = plan.columns <= limits::COLUMNS && plan.rows <= limits::ROWS;
+        for name in Name::ALL {
+            let short = small && !plan.lends_enough(name);
+            match section(name) {
+                Section::Numbers(_) if short => lengths.numbers = needed.numbers - 1,
+                Section::Doubles(_) if short => lengths.doubles = needed.doubles - 1,
+                _ => {}
+            }
+        }
+        for &(name, length) in &plan.short {
+            match name {
+                Name::Numbers => lengths.numbers = told(length, needed.numbers),
+                Name::Doubles => lengths.doubles = told(length, needed.doubles),
+                _ => {}
+            }
         }
         lengths
     }
@@ -115,21 +153,8 @@ impl Given {
 #[derive(Clone)]
 struct Memory {
     values: Lent<f64>,
-    kept: Lent<usize>,
-    basic_vars: Lent<usize>,
-    basic_var_vals: Lent<f64>,
-    nb_vars: Lent<usize>,
-    nb_var_vals: Lent<f64>,
-    nb_var_obj_coeffs: Lent<f64>,
-    primal_edge_sq_norms: Lent<f64>,
-    nb_var_states: Lent<u8>,
-    var_states: Lent<usize>,
-    eta_leaving: Lent<usize>,
-    eta_starts: Lent<usize>,
-    eta_rows: Lent<usize>,
-    eta_coeffs: Lent<f64>,
-    counts: Lent<usize>,
-    objective: Lent<f64>,
+    numbers: Lent<usize>,
+    doubles: Lent<f64>,
 }
 
 /// How much of the state an answer of 0 or 20 to 24 wrote.
@@ -143,7 +168,7 @@ struct Wrote {
 }
 
 impl Wrote {
-    /// The written cells of an array of the state or the store.
+    /// The written cells of a section.
     fn cells(&self, name: Name) -> usize {
         match name {
             Name::Kept | Name::Basic | Name::Bval => self.kept,
@@ -154,30 +179,17 @@ impl Wrote {
             Name::Etaidx | Name::Etaval => self.entries,
             Name::Counts => 5,
             Name::Obj => 1,
+            Name::Numbers | Name::Doubles => 0,
         }
     }
 }
 
 impl Memory {
     fn marked(lengths: &Lengths) -> Memory {
-        let len = |name: Name| lengths.others[name as usize];
         Memory {
             values: Lent::marked(lengths.values),
-            kept: Lent::marked(len(Name::Kept)),
-            basic_vars: Lent::marked(len(Name::Basic)),
-            basic_var_vals: Lent::marked(len(Name::Bval)),
-            nb_vars: Lent::marked(len(Name::Nonbasic)),
-            nb_var_vals: Lent::marked(len(Name::Nval)),
-            nb_var_obj_coeffs: Lent::marked(len(Name::Price)),
-            primal_edge_sq_norms: Lent::marked(len(Name::Norm)),
-            nb_var_states: Lent::marked(len(Name::Flags)),
-            var_states: Lent::marked(len(Name::Where)),
-            eta_leaving: Lent::marked(len(Name::Etarow)),
-            eta_starts: Lent::marked(len(Name::Etaptr)),
-            eta_rows: Lent::marked(len(Name::Etaidx)),
-            eta_coeffs: Lent::marked(len(Name::Etaval)),
-            counts: Lent::marked(len(Name::Counts)),
-            objective: Lent::marked(len(Name::Obj)),
+            numbers: Lent::marked(lengths.numbers),
+            doubles: Lent::marked(lengths.doubles),
         }
     }
 
@@ -197,56 +209,47 @@ impl Memory {
             given.ops.get(),
             given.rhs.get(),
             self.values.lend(),
-            self.kept.lend(),
-            self.basic_vars.lend(),
-            self.basic_var_vals.lend(),
-            self.nb_vars.lend(),
-            self.nb_var_vals.lend(),
-            self.nb_var_obj_coeffs.lend(),
-            self.primal_edge_sq_norms.lend(),
-            self.nb_var_states.lend(),
-            self.var_states.lend(),
-            self.eta_leaving.lend(),
-            self.eta_starts.lend(),
-            self.eta_rows.lend(),
-            self.eta_coeffs.lend(),
-            self.counts.lend(),
-            self.objective.lend(),
+            self.numbers.lend(),
+            self.doubles.lend(),
         )
     }
 
-    /// The first array with a changed cell past what the answer may have written.
+    /// The first array or section with a changed cell past what the answer may have written.
     fn changed(&self, before: &Memory, wrote: Option<Wrote>) -> Option<&'static str> {
         let values = wrote.map_or(0, |wrote| wrote.values);
         if !self.values.stayed(&before.values, values) {
             return Some("values");
         }
-        let stayed = |name: Name| {
-            let cells = wrote.map_or(0, |wrote| wrote.cells(name));
-            match name {
-                Name::Kept => self.kept.stayed(&before.kept, cells),
-                Name::Basic => self.basic_vars.stayed(&before.basic_vars, cells),
-                Name::Bval => self.basic_var_vals.stayed(&before.basic_var_vals, cells),
-                Name::Nonbasic => self.nb_vars.stayed(&before.nb_vars, cells),
-                Name::Nval => self.nb_var_vals.stayed(&before.nb_var_vals, cells),
-                Name::Price => self
-                    .nb_var_obj_coeffs
-                    .stayed(&before.nb_var_obj_coeffs, cells),
-                Name::Norm => self
-                    .primal_edge_sq_norms
-                    .stayed(&before.primal_edge_sq_norms, cells),
-                Name::Flags => self.nb_var_states.stayed(&before.nb_var_states, cells),
-                Name::Where => self.var_states.stayed(&before.var_states, cells),
-                Name::Etarow => self.eta_leaving.stayed(&before.eta_leaving, cells),
-                Name::Etaptr => self.eta_starts.stayed(&before.eta_starts, cells),
-                Name::Etaidx => self.eta_rows.stayed(&before.eta_rows, cells),
-                Name::Etaval => self.eta_coeffs.stayed(&before.eta_coeffs, cells),
-                Name::Counts => self.counts.stayed(&before.counts, cells),
-                Name::Obj => self.objective.stayed(&before.objective, cells),
-            }
+        let Some(wrote) = wrote else {
+            let numbers = self.numbers.stayed(&before.numbers, 0);
+            let doubles = self.doubles.stayed(&before.doubles, 0);
+            return match (numbers, doubles) {
+                (true, true) => None,
+                (false, _) => Some("numbers"),
+                (true, false) => Some("doubles"),
+            };
         };
-        let first = WRITTEN.into_iter().find(|&name| !stayed(name));
-        first.map(Name::name)
+        // What an answer wrote was lent whole: each section past its written cells, then what stands past the sections.
+        let past = |cells: Range<usize>, name| cells.start + wrote.cells(name)..cells.end;
+        let kept = |&name: &Name| match section(name) {
+            Section::Numbers(cells) => self.numbers.kept(&before.numbers, past(cells, name)),
+            Section::Doubles(cells) => self.doubles.kept(&before.doubles, past(cells, name)),
+        };
+        if let Some(name) = Name::ALL.into_iter().find(|name| !kept(name)) {
+            return Some(name.name());
+        }
+        if !self.numbers.stayed(&before.numbers, sections::NUMBERS) {
+            return Some("numbers");
+        }
+        (!self.doubles.stayed(&before.doubles, sections::DOUBLES)).then_some("doubles")
+    }
+
+    fn numbers(&self, cells: Range<usize>, count: usize) -> &[usize] {
+        &self.numbers.get()[cells][..count]
+    }
+
+    fn doubles(&self, cells: Range<usize>, count: usize) -> Vec<f64> {
+        self.doubles.get()[cells][..count].to_vec()
     }
 
     /// The state as the oracle has it. The counts are known to fit.
@@ -258,29 +261,37 @@ impl Memory {
             entries,
             ..
         } = wrote;
+        // A flag past a byte shows as 255.
+        let flag = |&cell: &usize| u8::try_from(cell).unwrap_or(u8::MAX);
         State {
-            kept: self.kept.get()[..kept].to_vec(),
-            basic: self.basic_vars.get()[..kept].to_vec(),
-            nonbasic: self.nb_vars.get()[..columns].to_vec(),
-            bval: self.basic_var_vals.get()[..kept].to_vec(),
-            nval: self.nb_var_vals.get()[..columns].to_vec(),
-            price: self.nb_var_obj_coeffs.get()[..columns].to_vec(),
-            norm: self.primal_edge_sq_norms.get()[..columns].to_vec(),
-            flags: self.nb_var_states.get()[..columns].to_vec(),
-            etarow: self.eta_leaving.get()[..etas].to_vec(),
-            etaptr: self.eta_starts.get()[..etas + 1].to_vec(),
-            etaidx: self.eta_rows.get()[..entries].to_vec(),
-            etaval: self.eta_coeffs.get()[..entries].to_vec(),
+            kept: self.numbers(sections::KEPT, kept).to_vec(),
+            basic: self.numbers(sections::BASIC_VARS, kept).to_vec(),
+            nonbasic: self.numbers(sections::NB_VARS, columns).to_vec(),
+            bval: self.doubles(sections::BASIC_VAR_VALS, kept),
+            nval: self.doubles(sections::NB_VAR_VALS, columns),
+            price: self.doubles(sections::PRICES, columns),
+            norm: self.doubles(sections::NORMS, columns),
+            flags: self
+                .numbers(sections::FLAGS, columns)
+                .iter()
+                .map(flag)
+                .collect(),
+            etarow: self.numbers(sections::ETA_LEAVING, etas).to_vec(),
+            etaptr: self.numbers(sections::ETA_STARTS, etas + 1).to_vec(),
+            etaidx: self.numbers(sections::ETA_ROWS, entries).to_vec(),
+            etaval: self.doubles(sections::ETA_COEFFS, entries),
         }
     }
 
     /// Whether each variable's cell says where the maps have it: a place below the columns, or the
     /// columns plus a row.
     fn places_agree(&self, columns: usize, kept: usize) -> bool {
-        let cells = &self.var_states.get()[..columns + kept];
-        let at = |var: usize, place: usize| cells.get(var) == Some(&place);
-        (0..columns).all(|c| at(self.nb_vars.get()[c], c))
-            && (0..kept).all(|r| at(self.basic_vars.get()[r], columns + r))
+        let cells = self.numbers(sections::VAR_STATES, columns + kept);
+        let at = |var: &usize, place: usize| cells.get(*var) == Some(&place);
+        let non_basic = self.numbers(sections::NB_VARS, columns).iter();
+        let basic = self.numbers(sections::BASIC_VARS, kept).iter();
+        non_basic.enumerate().all(|(c, var)| at(var, c))
+            && basic.enumerate().all(|(r, var)| at(var, columns + r))
     }
 }
 
@@ -323,7 +334,7 @@ pub fn line(plan: &Plan, lengths: &Lengths, with_state: bool) -> String {
 /// What an answer of 0 or 20 to 24 wrote, by its own counts, and whether these are the answer's.
 fn wrote(plan: &Plan, answer: &Answer, memory: &Memory) -> Result<Wrote, String> {
     let columns = plan.columns as usize;
-    let [kept, etas, entries, steps, status] = memory.counts.get()[..5] else {
+    let [kept, etas, entries, steps, status] = *memory.numbers(sections::COUNTS, 5) else {
         unreachable!("five counts were lent")
     };
     let fits = kept <= plan.rows as usize
@@ -334,7 +345,8 @@ fn wrote(plan: &Plan, answer: &Answer, memory: &Memory) -> Result<Wrote, String>
             "counts {kept} {etas} {entries} {steps} {status} don't fit"
         ));
     }
-    if memory.objective.get()[0].to_bits() != answer.objective.to_bits() {
+    let objective = memory.doubles(sections::OBJECTIVE, 1)[0];
+    if objective.to_bits() != answer.objective.to_bits() {
         return Err("the objective's cell isn't the answer's".into());
     }
     if !memory.places_agree(columns, kept) {

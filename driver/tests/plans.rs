@@ -4,12 +4,13 @@
 
 use std::collections::BTreeMap;
 
-use driver::plans::{line, Lengths, WRITTEN};
+use driver::plans::{line, Lengths};
 use oracle::exchange::{answer_line, Extras, Item, Reader};
 use oracle::families::Draft;
 use oracle::gate;
 use oracle::limits;
-use oracle::plan::Plan;
+use oracle::plan::{Lent, Plan};
+use oracle::rng::Rng;
 use oracle::shown::Options;
 
 const STATE: Extras = Extras {
@@ -161,26 +162,48 @@ fn a_written_array_too_short_gives_1() {
     let mut tried = Tried::default();
     for (i, plan) in plans().into_iter().enumerate() {
         let needed = Lengths::needed(&plan);
-        for at in 0..=WRITTEN.len() {
-            let (name, least) = match at.checked_sub(1) {
-                None => ("values", needed.values),
-                Some(other) => (WRITTEN[other].name(), needed.others[other]),
-            };
+        type Cut = fn(&mut Lengths, usize);
+        let arrays: [(&str, usize, Cut); 3] = [
+            ("values", needed.values, |l, to| l.values = to),
+            ("numbers", needed.numbers, |l, to| l.numbers = to),
+            ("doubles", needed.doubles, |l, to| l.doubles = to),
+        ];
+        for (name, least, cut) in arrays {
             if least == 0 {
                 continue;
             }
             for length in too_short(least, i) {
                 let mut short = needed.clone();
-                match at.checked_sub(1) {
-                    None => short.values = length,
-                    Some(other) => short.others[other] = length,
-                }
+                cut(&mut short, length);
                 assert_eq!(line(&plan, &short, true), refused(&plan), "{name}");
             }
             tried.add(name);
         }
     }
-    tried.assert(WRITTEN.len() + 1, 300);
+    tried.assert(3, 300);
+}
+
+/// A section that is said to be shorter than needed, or just as long, and an array of them: as the oracle answers.
+#[test]
+fn a_short_section_gives_1_and_one_just_long_enough_does_not() {
+    let mut tried = Tried::default();
+    for plan in plans() {
+        for name in Lent::ALL.into_iter().chain(Lent::ARRAYS) {
+            let needed = name.needed(plan.columns, plan.rows);
+            for length in [needed.checked_sub(1), Some(needed)].into_iter().flatten() {
+                let mut said = plan.clone();
+                said.short = vec![(name, length)];
+                let lengths = Lengths::told(&said, &mut Rng::named(1, "told"));
+                let want = match length < needed {
+                    true => refused(&plan),
+                    false => told(&plan),
+                };
+                assert_eq!(line(&said, &lengths, true), want, "{}", name.name());
+            }
+            tried.add(name.name());
+        }
+    }
+    tried.assert(17, 300);
 }
 
 #[test]
@@ -189,9 +212,8 @@ fn what_stands_past_the_end_is_not_seen() {
         let told = told(&plan);
         let mut lengths = Lengths::needed(&plan);
         lengths.values += i % 3;
-        for (at, other) in lengths.others.iter_mut().enumerate() {
-            *other += (i + at) % 4;
-        }
+        lengths.numbers += i % 4;
+        lengths.doubles += (i + 1) % 4;
         let mut longer = plan.clone();
         for (at, name) in READ.iter().enumerate() {
             let length = needed(&plan, name) + 1 + (i + at) % 3;

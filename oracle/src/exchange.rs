@@ -142,7 +142,8 @@ fn plan_field(
         }
         "short" => {
             let name = word(words.next())?;
-            let lent = Lent::ALL.into_iter().find(|lent| lent.name() == name);
+            let mut all = Lent::ALL.into_iter().chain(Lent::ARRAYS);
+            let lent = all.find(|lent| lent.name() == name);
             let lent = lent.ok_or_else(|| format!("no lent array {}", name))?;
             plan.short.push((lent, whole(words.next())?));
         }

@@ -125,7 +125,7 @@ fn too_large_or_short(plan: &Plan) -> bool {
         (plan.rhs.len() as u64, rows),
         (room[0], columns + rows),
     ];
-    for lent in Lent::ALL {
+    for lent in Lent::ALL.into_iter().chain(Lent::ARRAYS) {
         let (by_default, needed) = match lent.name() {
             "kept" | "basic" | "bval" => (rows, rows),
             "where" => (columns + rows, columns + rows),
@@ -134,6 +134,8 @@ fn too_large_or_short(plan: &Plan) -> bool {
             "etaidx" | "etaval" => (room[2], 4096),
             "counts" => (5, 5),
             "obj" => (1, 1),
+            "numbers" => (5286, 5286),
+            "doubles" => (4577, 4577),
             _ => (columns, columns),
         };
         let mut length = by_default;

@@ -112,6 +112,7 @@ fn sizes_fit(plan: &Plan) -> bool {
         || plan.rhs.len() < rows
         || !plan.lends_enough_values()
         || !Lent::ALL.iter().all(|&lent| plan.lends_enough(lent))
+        || !Lent::ARRAYS.iter().all(|&lent| plan.lends_enough(lent))
     {
         return false;
     }

@@ -45,9 +45,16 @@ pub enum Lent {
     /// Kept rows, eta columns, eta entries, steps, status of the last run.
     Counts,
     Obj,
+    /// The array that holds the state's whole numbers, and the one that holds its doubles.
+    Numbers,
+    Doubles,
 }
 
 impl Lent {
+    /// The arrays that the sections stand in.
+    pub const ARRAYS: [Lent; 2] = [Lent::Numbers, Lent::Doubles];
+
+    /// The sections.
     pub const ALL: [Lent; 15] = [
         Lent::Kept,
         Lent::Basic,
@@ -83,6 +90,8 @@ impl Lent {
             Lent::Etaval => "etaval",
             Lent::Counts => "counts",
             Lent::Obj => "obj",
+            Lent::Numbers => "numbers",
+            Lent::Doubles => "doubles",
         }
     }
 
@@ -99,6 +108,8 @@ impl Lent {
             Lent::Etaidx | Lent::Etaval => limits::ETA_ENTRIES,
             Lent::Counts => 5,
             Lent::Obj => 1,
+            Lent::Numbers => limits::NUMBERS,
+            Lent::Doubles => limits::DOUBLES,
         }
     }
 }

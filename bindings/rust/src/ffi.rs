@@ -109,18 +109,12 @@ macro_rules! call {
 }
 
 call! {
-    /// Solves a plan. Reads the plan's eight slices; writes the values and the workspace.
+    /// Solves a plan. Reads the plan's eight slices; writes the values and the state's two arrays.
     fn tevalumi_solve(
         columns: usize, rows: usize, entries: usize, budget: usize, tolerance: f64,
         costs: &[f64], lowers: &[f64], uppers: &[f64],
         starts: &[usize], cols: &[usize], coeffs: &[f64], ops: &[u8], rhs: &[f64],
-        values: &mut [f64], kept: &mut [usize],
-        basic_vars: &mut [usize], basic_var_vals: &mut [f64],
-        nb_vars: &mut [usize], nb_var_vals: &mut [f64], nb_var_obj_coeffs: &mut [f64],
-        primal_edge_sq_norms: &mut [f64], nb_var_states: &mut [u8], var_states: &mut [usize],
-        eta_leaving: &mut [usize], eta_starts: &mut [usize],
-        eta_rows: &mut [usize], eta_coeffs: &mut [f64],
-        counts: &mut [usize], objective: &mut [f64],
+        values: &mut [f64], numbers: &mut [usize], doubles: &mut [f64],
     ) -> Answer
 }
 

@@ -96,6 +96,7 @@ The static library `libtevalumi.a` is looked for in `target/staticlib` of the re
 mod ffi;
 mod problem;
 pub mod raw;
+mod sections;
 pub mod sheet;
 pub mod triangle;
 pub mod why;

@@ -5,7 +5,7 @@
 
 use std::fmt;
 
-use crate::raw::{limits, ops, solve_into, Answer, Place, PlanRef, Status, Workspace};
+use crate::raw::{limits, ops, sections, solve_into, Answer, Place, PlanRef, Status, Workspace};
 
 /// An enum indicating whether to minimize or maximize objective function.
 #[derive(Clone, Copy, Debug, PartialEq, Eq, Hash)]
@@ -355,8 +355,8 @@ impl Error {
             Place::Column(column) => (Some(Variable(column)), None),
             Place::Row(row) => (None, Some(row)),
             Place::Value(value) if value < columns => (Some(Variable(value)), None),
-            Place::Value(value) => (None, Some(work.kept[value - columns])),
-            Place::KeptRow(row) => (None, Some(work.kept[row])),
+            Place::Value(value) => (None, Some(work.kept()[value - columns])),
+            Place::KeptRow(row) => (None, Some(work.kept()[row])),
         };
         let sizes = [
             ("variables", columns, limits::COLUMNS),
@@ -495,10 +495,12 @@ impl fmt::Debug for Solution {
 impl Solution {
     fn new(problem: &Problem, work: &Workspace, answer: Answer, mut values: Vec<f64>) -> Solution {
         let num_vars = problem.costs.len();
-        let kept = work.kept[..work.kept_rows()].to_vec();
+        let kept = work.kept().to_vec();
         values.truncate(num_vars + kept.len());
         let mut prices = vec![0.0; values.len()];
-        let nonbasic = work.nb_vars.iter().zip(&work.nb_var_obj_coeffs);
+        let nonbasic = work.numbers[sections::NB_VARS]
+            .iter()
+            .zip(&work.doubles[sections::PRICES]);
         for (&var, &price) in nonbasic.take(num_vars) {
             prices[var] = price;
         }

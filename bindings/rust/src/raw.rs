@@ -1,8 +1,8 @@
 //! The library's own calls over memory that the caller lends: nothing here allocates.
 //!
-//! This is the level for firmware. A [`PlanRef`] borrows the plan's arrays, a [`Workspace`] is one
-//! block of fixed arrays that can stand in a `static`, and [`solve_into`] answers an [`Answer`].
-//! A caller with memory of its own layout lends a [`WorkspaceMut`] to [`solve_lent`]. The audit
+//! This is the level for firmware. A [`PlanRef`] borrows the plan's arrays, a [`Workspace`] is two
+//! fixed arrays that can stand in a `static`, and [`solve_into`] answers an [`Answer`].
+//! A caller with memory of its own lends a [`WorkspaceMut`] to [`solve_lent`]. The audit
 //! sheet's arrays are lent as a [`SheetMut`]; its plan is written into a file's bytes by
 //! [`SheetRef::write_plan`] and read back by [`FiguresMut::read_plan`].
 //!
@@ -40,6 +40,11 @@
 //! ```
 
 use crate::ffi;
+
+/// Where each section of a [`Workspace`]'s two arrays stands, by cells.
+pub mod sections {
+    pub use crate::sections::*;
+}
 
 /// The limits of document 01 with document 02's numbers, each named once.
 pub mod limits {
@@ -279,7 +284,7 @@ pub struct PlanRef<'a> {
     pub rhs: &'a [f64],
 }
 
-/// The memory of a solve: one block of fixed arrays, room for every plan within the limits.
+/// The memory of a solve: two arrays, room for every plan within the limits. [`sections`] says where what stands.
 ///
 /// It is some 76 KB, and it can stand in a `static`:
 ///
@@ -288,92 +293,43 @@ pub struct PlanRef<'a> {
 /// use tevalumi::raw::Workspace;
 ///
 /// static WORK: Mutex<Workspace> = Mutex::new(Workspace::new());
-/// # assert!(WORK.lock().unwrap().counts[0] == 0);
+/// # assert!(WORK.lock().unwrap().kept_rows() == 0);
 /// ```
 ///
-/// After answers 0 and 20 to 24 it holds the state after the last whole step. The fields keep the
-/// names of minilp's solver.
+/// After answers 0 and 20 to 24 it holds the state after the last whole step.
 #[derive(Clone, Debug)]
 pub struct Workspace {
-    /// The plan's number of each kept row. A row without entries is dropped.
-    pub kept: [usize; limits::ROWS],
-    /// The basic variable of each kept row. Column `j` is variable `j`, the slack of kept row `k`
-    /// is variable `columns + k`.
-    pub basic_vars: [usize; limits::ROWS],
-    /// Their values.
-    pub basic_var_vals: [f64; limits::ROWS],
-    /// The non-basic variables.
-    pub nb_vars: [usize; limits::COLUMNS],
-    /// Their values.
-    pub nb_var_vals: [f64; limits::COLUMNS],
-    /// Their prices (reduced costs).
-    pub nb_var_obj_coeffs: [f64; limits::COLUMNS],
-    /// Their norms, by which the entering column is scored.
-    pub primal_edge_sq_norms: [f64; limits::COLUMNS],
-    /// Their flags: 1 at the lower bound, 2 at the upper bound, 3 at both.
-    pub nb_var_states: [u8; limits::COLUMNS],
-    /// Where each variable stands: below `columns` a non-basic place, from there on a kept row.
-    pub var_states: [usize; limits::COLUMNS + limits::ROWS],
-    /// The leaving row of each eta column.
-    pub eta_leaving: [usize; limits::ETA_COLUMNS],
-    /// Where each eta column starts, and at the end the number of eta entries.
-    pub eta_starts: [usize; limits::ETA_COLUMNS + 1],
-    /// The row of each eta entry.
-    pub eta_rows: [usize; limits::ETA_ENTRIES],
-    /// The coefficient of each eta entry.
-    pub eta_coeffs: [f64; limits::ETA_ENTRIES],
-    /// Kept rows, eta columns, eta entries, steps, and the status number of the last run.
-    pub counts: [usize; 5],
-    /// The running objective.
-    pub objective: [f64; 1],
+    /// Variables, places, flags, the eta store's rows and starts, the kept rows, and the counts.
+    pub numbers: [usize; sections::NUMBERS],
+    /// Values, prices, norms, the eta store's coefficients, and the objective.
+    pub doubles: [f64; sections::DOUBLES],
 }
 
 impl Workspace {
     /// A workspace with every cell 0.
     pub const fn new() -> Workspace {
         Workspace {
-            kept: [0; limits::ROWS],
-            basic_vars: [0; limits::ROWS],
-            basic_var_vals: [0.0; limits::ROWS],
-            nb_vars: [0; limits::COLUMNS],
-            nb_var_vals: [0.0; limits::COLUMNS],
-            nb_var_obj_coeffs: [0.0; limits::COLUMNS],
-            primal_edge_sq_norms: [0.0; limits::COLUMNS],
-            nb_var_states: [0; limits::COLUMNS],
-            var_states: [0; limits::COLUMNS + limits::ROWS],
-            eta_leaving: [0; limits::ETA_COLUMNS],
-            eta_starts: [0; limits::ETA_COLUMNS + 1],
-            eta_rows: [0; limits::ETA_ENTRIES],
-            eta_coeffs: [0.0; limits::ETA_ENTRIES],
-            counts: [0; 5],
-            objective: [0.0; 1],
+            numbers: [0; sections::NUMBERS],
+            doubles: [0.0; sections::DOUBLES],
         }
     }
 
     /// The same memory as borrowed slices.
     pub fn lend(&mut self) -> WorkspaceMut<'_> {
         WorkspaceMut {
-            kept: &mut self.kept,
-            basic_vars: &mut self.basic_vars,
-            basic_var_vals: &mut self.basic_var_vals,
-            nb_vars: &mut self.nb_vars,
-            nb_var_vals: &mut self.nb_var_vals,
-            nb_var_obj_coeffs: &mut self.nb_var_obj_coeffs,
-            primal_edge_sq_norms: &mut self.primal_edge_sq_norms,
-            nb_var_states: &mut self.nb_var_states,
-            var_states: &mut self.var_states,
-            eta_leaving: &mut self.eta_leaving,
-            eta_starts: &mut self.eta_starts,
-            eta_rows: &mut self.eta_rows,
-            eta_coeffs: &mut self.eta_coeffs,
-            counts: &mut self.counts,
-            objective: &mut self.objective,
+            numbers: &mut self.numbers,
+            doubles: &mut self.doubles,
         }
     }
 
     /// How many rows the last run kept.
-    pub const fn kept_rows(&self) -> usize {
-        self.counts[0]
+    pub fn kept_rows(&self) -> usize {
+        self.numbers[sections::COUNTS][0]
+    }
+
+    /// The plan's numbers of the rows that the last run kept.
+    pub fn kept(&self) -> &[usize] {
+        &self.numbers[sections::KEPT][..self.kept_rows()]
     }
 }
 
@@ -383,30 +339,14 @@ impl Default for Workspace {
     }
 }
 
-/// The memory of a solve as the caller lends it; the fields are those of [`Workspace`].
+/// The memory of a solve as the caller lends it.
 ///
-/// Needed are `rows` cells of `kept`, `basic_vars` and `basic_var_vals`; `columns` cells of the
-/// five `nb_…` and norm arrays; `columns + rows` of `var_states`; the full eta store (256 leaving
-/// rows, 257 starts, 4,096 rows, 4,096 coefficients); 5 counts and 1 objective. One cell less is
-/// answer 1.
+/// Needed are [`sections::NUMBERS`] and [`sections::DOUBLES`] cells, whatever the plan's sizes. One cell less is answer 1.
 #[derive(Debug)]
 #[allow(missing_docs)] // The fields are Workspace's.
 pub struct WorkspaceMut<'a> {
-    pub kept: &'a mut [usize],
-    pub basic_vars: &'a mut [usize],
-    pub basic_var_vals: &'a mut [f64],
-    pub nb_vars: &'a mut [usize],
-    pub nb_var_vals: &'a mut [f64],
-    pub nb_var_obj_coeffs: &'a mut [f64],
-    pub primal_edge_sq_norms: &'a mut [f64],
-    pub nb_var_states: &'a mut [u8],
-    pub var_states: &'a mut [usize],
-    pub eta_leaving: &'a mut [usize],
-    pub eta_starts: &'a mut [usize],
-    pub eta_rows: &'a mut [usize],
-    pub eta_coeffs: &'a mut [f64],
-    pub counts: &'a mut [usize],
-    pub objective: &'a mut [f64],
+    pub numbers: &'a mut [usize],
+    pub doubles: &'a mut [f64],
 }
 
 /// Solves a plan in a [`Workspace`]. `values` needs `columns + rows` cells; on
@@ -415,7 +355,7 @@ pub fn solve_into(plan: &PlanRef<'_>, work: &mut Workspace, values: &mut [f64]) 
     solve_lent(plan, &mut work.lend(), values)
 }
 
-/// As [`solve_into`], with memory of the caller's own layout.
+/// As [`solve_into`], with memory of the caller's own.
 pub fn solve_lent(plan: &PlanRef<'_>, work: &mut WorkspaceMut<'_>, values: &mut [f64]) -> Answer {
     Answer::from_numbers(ffi::tevalumi_solve(
         plan.columns,
@@ -432,21 +372,8 @@ pub fn solve_lent(plan: &PlanRef<'_>, work: &mut WorkspaceMut<'_>, values: &mut 
         plan.ops,
         plan.rhs,
         values,
-        work.kept,
-        work.basic_vars,
-        work.basic_var_vals,
-        work.nb_vars,
-        work.nb_var_vals,
-        work.nb_var_obj_coeffs,
-        work.primal_edge_sq_norms,
-        work.nb_var_states,
-        work.var_states,
-        work.eta_leaving,
-        work.eta_starts,
-        work.eta_rows,
-        work.eta_coeffs,
-        work.counts,
-        work.objective,
+        work.numbers,
+        work.doubles,
     ))
 }
 

@@ -4,7 +4,7 @@ mod common;
 
 use common::Rng;
 use std::collections::BTreeSet;
-use tevalumi::raw::{limits, solve_into, solve_lent, PlanRef, Workspace};
+use tevalumi::raw::{limits, sections, solve_into, solve_lent, PlanRef, Workspace};
 use tevalumi::{
     ComparisonOp, Error, LinearExpr, OptimizationDirection, Place, Problem, Status, Variable,
 };
@@ -167,9 +167,11 @@ fn every_number_is_reached_by_the_raw_call() {
             assert_eq!((answer.objective.to_bits(), answer.steps), (0, 0));
         } else {
             assert_eq!(answer.excess > 0.0, status == Status::Rejected);
-            assert_eq!(work.counts[3], answer.steps);
-            assert_eq!(work.counts[4], usize::from(status.number()));
-            assert_eq!(work.objective[0].to_bits(), answer.objective.to_bits());
+            let counts = &work.numbers[sections::COUNTS];
+            assert_eq!(counts[3], answer.steps);
+            assert_eq!(counts[4], usize::from(status.number()));
+            let objective = work.doubles[sections::OBJECTIVE][0];
+            assert_eq!(objective.to_bits(), answer.objective.to_bits());
         }
     }
 }
@@ -518,39 +520,33 @@ fn a_short_workspace_is_1() {
         *cells = &mut std::mem::take(cells)[..to];
     }
     type Cut = fn(&mut tevalumi::raw::WorkspaceMut);
-    // One cell less than needed of each array.
-    let cuts: [Cut; 15] = [
-        |work| cut(&mut work.kept, 0),
-        |work| cut(&mut work.basic_vars, 0),
-        |work| cut(&mut work.basic_var_vals, 0),
-        |work| cut(&mut work.nb_vars, 0),
-        |work| cut(&mut work.nb_var_vals, 0),
-        |work| cut(&mut work.nb_var_obj_coeffs, 0),
-        |work| cut(&mut work.primal_edge_sq_norms, 0),
-        |work| cut(&mut work.nb_var_states, 0),
-        |work| cut(&mut work.var_states, 1),
-        |work| cut(&mut work.eta_leaving, 255),
-        |work| cut(&mut work.eta_starts, 256),
-        |work| cut(&mut work.eta_rows, 4_095),
-        |work| cut(&mut work.eta_coeffs, 4_095),
-        |work| cut(&mut work.counts, 4),
-        |work| cut(&mut work.objective, 0),
+    // A cell less than needed, or none at all.
+    let cuts: [Cut; 4] = [
+        |work| cut(&mut work.numbers, sections::NUMBERS - 1),
+        |work| cut(&mut work.numbers, 0),
+        |work| cut(&mut work.doubles, sections::DOUBLES - 1),
+        |work| cut(&mut work.doubles, 0),
     ];
     for (which, cut) in cuts.into_iter().enumerate() {
         let mut work = Workspace::new();
         let mut lent = work.lend();
         cut(&mut lent);
         let answer = solve_lent(&plan, &mut lent, &mut values);
-        assert_eq!(answer.status, Status::BadSize, "array {which}");
+        assert_eq!(answer.status, Status::BadSize, "cut {which}");
     }
-    // Exactly what is needed.
-    let mut work = Workspace::new();
-    let mut lent = work.lend();
-    cut(&mut lent.kept, 1);
-    cut(&mut lent.nb_vars, 1);
-    cut(&mut lent.var_states, 2);
+    // A cell more, which stays.
+    let mut numbers = vec![77; sections::NUMBERS + 1];
+    let mut doubles = vec![77.0; sections::DOUBLES + 1];
+    let mut lent = tevalumi::raw::WorkspaceMut {
+        numbers: &mut numbers,
+        doubles: &mut doubles,
+    };
     let answer = solve_lent(&plan, &mut lent, &mut values);
     assert_eq!(answer.status, Status::Optimal);
+    assert_eq!(
+        (numbers[sections::NUMBERS], doubles[sections::DOUBLES]),
+        (77, 77.0)
+    );
 }
 
 #[test]
@@ -566,15 +562,18 @@ fn a_refusal_changes_no_cell_and_a_solve_keeps_the_tails() {
     }
 
     let mut marked = Workspace::new();
-    marked.kept = [77; limits::ROWS];
-    marked.nb_var_vals = [77.0; limits::COLUMNS];
-    marked.eta_coeffs = [77.0; limits::ETA_ENTRIES];
+    marked.numbers.fill(77);
+    marked.doubles.fill(77.0);
     assert!(reaching(Status::Optimal).solve_in(&mut marked).is_ok());
-    assert!(marked.kept[1..].iter().all(|&cell| cell == 77));
-    assert!(marked.nb_var_vals[1..].iter().all(|&cell| cell == 77.0));
-    assert!(marked.eta_coeffs[1..].iter().all(|&cell| cell == 77.0));
+    let past_first = |cells: std::ops::Range<usize>| cells.start + 1..cells.end;
+    let kept = &marked.numbers[past_first(sections::KEPT)];
+    assert!(kept.iter().all(|&cell| cell == 77));
+    for section in [sections::NB_VAR_VALS, sections::ETA_COEFFS] {
+        let cells = &marked.doubles[past_first(section)];
+        assert!(cells.iter().all(|&cell| cell == 77.0));
+    }
     assert_eq!(marked.kept_rows(), 1);
-    assert_eq!(marked.eta_coeffs[0], 0.0);
+    assert_eq!(marked.doubles[sections::ETA_COEFFS][0], 0.0);
 }
 
 #[test]

@@ -75,7 +75,7 @@ pub fn var_cell(n: usize, state: rules::VarState) -> usize
 }
 
 // What a cell of nb_var_states says. These two alone look at its bits.
-pub fn read_flags(cell: u8) -> rules::NonBasicVarState
+pub fn read_flags(cell: usize) -> rules::NonBasicVarState
     ensures { λ r. ⌜ r ≡ flagsOf cell ⌝ }
 {
     rules::NonBasicVarState {
@@ -84,7 +84,7 @@ pub fn read_flags(cell: u8) -> rules::NonBasicVarState
     }
 }
 
-pub fn pack_flags(f: rules::NonBasicVarState) -> u8
+pub fn pack_flags(f: rules::NonBasicVarState) -> usize
     ensures { λ r. ⌜ r ≡ flagsCell f ⌝ }
 {
     let at_min = f.at_min;

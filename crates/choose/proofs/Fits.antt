@@ -5,13 +5,12 @@ use Rattle.cells.specs.Bounds.{Sides}
 use Rattle.cells.proofs.Parts.{boundsOf}
 use Rattle.cells.proofs.Fits as Bounds
 use Rattle.choose.specs.Lent.{Choosing}
-use Rattle.choose.proofs.Parts.{choosingOf}
 
 module _ {P : Problem} (f : ProblemFits P) where
   pub sides : Sides (boundsOf P)
   sides = let b = Bounds.sides f in record { lower = b .lower; upper = b .upper }
 
-  pub choosing : {s : State} → Fits P s → Choosing (boundsOf P) (choosingOf (s .ws))
+  pub choosing : {s : State} → Fits P s → Choosing (boundsOf P) (s .ws)
   choosing g =
       record {
         sides = sides;

@@ -32,7 +32,7 @@ pub struct Best {
 }
 
 // 01: "strictly largest wins, first on a tie".
-fn better(c: usize, price: f64, norm: f64, flags: u8, best: Best) -> Best
+fn better(c: usize, price: f64, norm: f64, flags: usize, best: Best) -> Best
     ensures { λ r. ⌜ column r ≡ betterOf c price norm flags (column best) ⌝ }
 {
     if !may_enter(cells::read_flags(flags), price) {
@@ -45,7 +45,7 @@ fn better(c: usize, price: f64, norm: f64, flags: u8, best: Best) -> Best
     best
 }
 
-pub fn best_column(n: usize, prices: &[f64], norms: &[f64], flags: &[u8]) -> Best
+pub fn best_column(n: usize, prices: &[f64], norms: &[f64], flags: &[usize]) -> Best
     requires { ⌜ (n ≤ length (now prices)) × (n ≤ length (now norms)) × (n ≤ length (now flags)) ⌝ }
     ensures { λ r. ⌜ column r ≡ bestColumn n (nonBasicOf [] [] (now (prices .entry)) (now (norms .entry)) (now (flags .entry))) ⌝ }
 {
@@ -118,7 +118,7 @@ pub fn choose(
     nb_var_vals: &[f64],
     prices: &[f64],
     norms: &[f64],
-    flags: &[u8],
+    flags: &[usize],
 ) -> rules::Choice
     requires { ⌜ Choosing (bounded n (now lowers) (now uppers) (now ops) (now kept))
         (nonBasicOf (now «nb_vars») (now «nb_var_vals») (now prices) (now norms) (now flags)) ⌝ }

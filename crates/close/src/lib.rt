@@ -8,13 +8,15 @@ ghost use lib.ListN.{length};
 ghost use Rattle.doubles.specs.Limits.{vars, countCells};
 ghost use Rattle.doubles.specs.Loop.{table};
 ghost use Rattle.doubles.specs.Lists.{_!_, over};
-ghost use Rattle.rules.specs.Parts.{stateOf, memoryOf};
+ghost use Rattle.rules.specs.Parts.{stateOf};
 ghost use Rattle.rules.specs.FinalCheck.{valuesOf};
 ghost use Rattle.rules.specs.Step.{ended};
 ghost use Rattle.rules.specs.Answers.{numberOf};
 ghost use Rattle.rules.specs.Solve as Solve;
-ghost use Rattle.final_check.specs.Lent.{valuedOf, sizesOf, checkedOf};
-ghost use Rattle.close.specs.Lent.{counted, closedOf, Answers, Closes};
+ghost use Rattle.state.specs.Packed.{packed, stateAt, keptAt, objectiveAt};
+ghost use Rattle.state.specs.Memory.{memoryIn, pastOf, handed, answered};
+ghost use Rattle.final_check.specs.Lent.{sizesOf, checkedOf};
+ghost use Rattle.close.specs.Lent.{counted, Answers, Closes};
 
 // 01's number of an answer.
 pub fn number_of(a: rules::Answer) -> usize
@@ -89,7 +91,8 @@ fn told(c: rules::Checked, objective: f64, steps: usize) -> rules::Answer
     }
 }
 
-// The answer by why a run ends. The values are reckoned in scratch, where the final check reads them.
+// The answer by why a run ends. The values are reckoned in scratch from their sections, and the final check reads them
+// there.
 fn answer_of(
     n: usize,
     tolerance: f64,
@@ -101,24 +104,29 @@ fn answer_of(
     ops: &[u8],
     rhs: &[f64],
     kept: &[usize],
-    var_states: &[usize],
-    basic_var_vals: &[f64],
-    nb_var_vals: &[f64],
+    numbers: &[usize],
+    doubles: &[f64],
     why: rules::Stop,
     objective: f64,
     steps: usize,
     xs: &mut [f64; doubles::VARS],
 ) -> rules::Answer
     requires { ⌜ Answers (checkedOf n tolerance (now lowers) (now uppers) (now starts) (now cols) (now coeffs) (now ops) (now rhs) (now kept))
-        (valuedOf (now «var_states») (now «basic_var_vals») (now «nb_var_vals»)) ⌝ }
-    requires { ⌜ length (now xs) ≡ vars ⌝ }
+        (packed (now numbers) (now doubles)) ⌝ }
+    requires { ⌜ (keptAt ≤ length (now numbers)) × (objectiveAt ≤ length (now doubles)) × (length (now xs) ≡ vars) ⌝ }
     ensures { λ r. ⌜ (r ≡ Solve.answerOf (checkedOf n tolerance (now (lowers .entry)) (now (uppers .entry)) (now (starts .entry)) (now (cols .entry))
         (now (coeffs .entry)) (now (ops .entry)) (now (rhs .entry)) (now (kept .entry)))
-        (ended why (stateOf (valuedOf (now («var_states» .entry)) (now («basic_var_vals» .entry)) (now («nb_var_vals» .entry))) 0 objective steps)))
-        × (now (xs .exit) ≡ over (valuesOf (sizesOf n (now (kept .entry)))
-        (valuedOf (now («var_states» .entry)) (now («basic_var_vals» .entry)) (now («nb_var_vals» .entry)))) (now (xs .entry))) ⌝ }
+        (ended why (stateOf (packed (now (numbers .entry)) (now (doubles .entry))) 0 objective steps)))
+        × (now (xs .exit) ≡ over (valuesOf (sizesOf n (now (kept .entry))) (packed (now (numbers .entry)) (now (doubles .entry)))) (now (xs .entry))) ⌝ }
 {
-    final_check::values_into(n, kept, var_states, basic_var_vals, nb_var_vals, xs);
+    final_check::values_into(
+        n,
+        kept,
+        &numbers[state::VAR_STATES..state::VAR_STATES_END],
+        &doubles[state::BASIC_VAR_VALS..state::BASIC_VAR_VALS_END],
+        &doubles[state::NB_VAR_VALS..state::NB_VAR_VALS_END],
+        xs,
+    );
     match why {
         rules::Stop::Finished => told(
             final_check::final_check(
@@ -155,7 +163,7 @@ fn values_after(status: usize, count: usize, xs: &[f64; doubles::VARS], values: 
     final_check::write_values(values, xs, count);
 }
 
-// The numbers of the kept rows, over the front of the lent array.
+// The numbers of the kept rows, over the front of their section.
 fn write_kept(kept: &[usize], to: &mut [usize])
     requires { ⌜ length (now kept) ≤ length (now to) ⌝ }
     ensures { λ _. ⌜ now (to .exit) ≡ over (now (kept .entry)) (now (to .entry)) ⌝ }
@@ -198,31 +206,21 @@ pub fn close(
     ops: &[u8],
     rhs: &[f64],
     kept: &[usize],
-    var_states: &[usize],
-    basic_var_vals: &[f64],
-    nb_var_vals: &[f64],
-    eta_starts: &[usize],
     why: rules::Stop,
-    eta_count: usize,
-    objective: f64,
-    steps: usize,
+    at: state::Tally,
     values: &mut [f64],
-    kept_cells: &mut [usize],
-    counts: &mut [usize],
-    objective_cell: &mut [f64],
+    numbers: &mut [usize],
+    doubles: &mut [f64],
 ) -> rules::Answer
     requires { ⌜ Closes (checkedOf n tolerance (now lowers) (now uppers) (now starts) (now cols) (now coeffs) (now ops) (now rhs) (now kept))
-        (memoryOf (now values) (now «kept_cells») (closedOf (now «var_states») (now «basic_var_vals») (now «nb_var_vals») (now «eta_starts»)) (now counts) (now «objective_cell»))
-        (stateOf (closedOf (now «var_states») (now «basic_var_vals») (now «nb_var_vals») (now «eta_starts»)) «eta_count» objective steps) ⌝ }
-    ensures { λ r. ⌜ Solve.solved r (memoryOf (now (values .exit)) (now («kept_cells» .exit))
-        (closedOf (now («var_states» .entry)) (now («basic_var_vals» .entry)) (now («nb_var_vals» .entry)) (now («eta_starts» .entry))) (now (counts .exit)) (now («objective_cell» .exit)))
-        ≡ Solve.close (checkedOf n tolerance (now (lowers .entry)) (now (uppers .entry)) (now (starts .entry)) (now (cols .entry))
+        (now values) (now numbers) (now doubles) at ⌝ }
+    ensures { λ r. ⌜ answered r (now (values .exit)) (now (numbers .exit)) (now (doubles .exit))
+        ≡ handed (Solve.close (checkedOf n tolerance (now (lowers .entry)) (now (uppers .entry)) (now (starts .entry)) (now (cols .entry))
         (now (coeffs .entry)) (now (ops .entry)) (now (rhs .entry)) (now (kept .entry)))
-        (memoryOf (now (values .entry)) (now («kept_cells» .entry))
-        (closedOf (now («var_states» .entry)) (now («basic_var_vals» .entry)) (now («nb_var_vals» .entry)) (now («eta_starts» .entry))) (now (counts .entry)) (now («objective_cell» .entry)))
-        (ended why (stateOf (closedOf (now («var_states» .entry)) (now («basic_var_vals» .entry)) (now («nb_var_vals» .entry)) (now («eta_starts» .entry))) «eta_count» objective steps)) ⌝ }
+        (memoryIn (now (values .entry)) (now (numbers .entry)) (now (doubles .entry)))
+        (ended why (stateAt (now (numbers .entry)) (now (doubles .entry)) at))) (pastOf (now (numbers .entry)) (now (doubles .entry))) ⌝ }
 {
-    let used = eta_starts[eta_count];
+    let used = numbers[state::ETA_STARTS + at.eta_count];
     let mut xs = [0.0; doubles::VARS];
     let a = answer_of(
         n,
@@ -235,18 +233,24 @@ pub fn close(
         ops,
         rhs,
         kept,
-        var_states,
-        basic_var_vals,
-        nb_var_vals,
+        numbers,
+        doubles,
         why,
-        objective,
-        steps,
+        at.objective,
+        at.steps,
         &mut xs,
     );
     let status = number_of(a);
     values_after(status, n + kept.len(), &xs, values);
-    write_kept(kept, kept_cells);
-    write_counts(kept.len(), eta_count, used, steps, status, counts);
-    objective_cell[0] = objective;
+    write_kept(kept, &mut numbers[state::KEPT..state::KEPT_END]);
+    write_counts(
+        kept.len(),
+        at.eta_count,
+        used,
+        at.steps,
+        status,
+        &mut numbers[state::COUNTS..state::COUNTS_END],
+    );
+    doubles[state::OBJECTIVE] = at.objective;
     a
 }

@@ -1,11 +1,10 @@
 -- The tail of the store, lent and put back, and the room that 22's test shows. No contract cites this file. Assumes nothing.
-use mathlib.Core.Path.{_≡_, refl, _∙_}
+use mathlib.Core.Path.{_≡_, refl, sym, _∙_}
 use mathlib.Core.Bool.{true}
-use mathlib.Core.List.{List, _++_, append-nil}
+use mathlib.Core.List.{List}
 use Prim.Native.Nat.{ℕ, _+_, _-_, _≤_}
 use native.Mathlib.Omega.{arith}
-use lib.ListN.{length, set, take, drop, length-set, length-drop, drop-of-length-le}
-use lib.Seq.{take-all}
+use lib.ListN.{length, set, length-set}
 use lib.Ieee.{Float}
 use borrow.Author.Tests.{ltb-true, leb-true}
 use borrow.Rule.Slice.PartMut.{putMid}
@@ -14,11 +13,12 @@ use Rattle.doubles.specs.Loop.{run}
 use Rattle.doubles.specs.Lists.{_#_}
 use Rattle.doubles.proofs.Loops.{keeps, both-true}
 use Rattle.sparse.specs.Scattered.{Sv}
-use Rattle.rules.specs.Plan.{Etas, Problem, State}
-use Rattle.rules.specs.Parts.{etasOf}
+use Rattle.rules.specs.Plan.{State}
 use Rattle.rules.specs.Basis.{Tail, tail, writeTurn, writeColumn, pushEta, etaUsed, etaFits}
-use Rattle.rules.specs.Invariant.{Fits}
-use Rattle.eta_store.specs.Room.{Room}
+use Rattle.state.specs.Packed.{section, packed, Sized, etaLeavingAt, etaStartsAt, etaRowsAt, keptAt, etaCoeffsAt, objectiveAt}
+use Rattle.state.proofs.Sections.{section-at, section-tail, written, tail-lent}
+use Rattle.state.proofs.Moves.{as-lent, in-etaLeaving, in-etaStarts, in-etaRows, in-etaCoeffs}
+use Rattle.eta_store.specs.Room.{Room, columnPushed}
 
 -- ---- the writer keeps the tail's lengths
 pub record Long (a b : ℕ) (t : Tail) : Type 0 where
@@ -31,36 +31,37 @@ writing-long c row pivot t k h =
     (λ j u b w. record { rows-long = simp length-set (w .rows-long); coeffs-long = simp length-set (w .coeffs-long) })
     (record { rows-long = refl; coeffs-long = refl }) k h
 
--- ---- a part to the end of a list, lent and put back
-module _ {A : Type 0} (a : ℕ) (xs : List A) where
-  rest-long : length (drop a xs) ≤ length xs - a
-  rest-long = omega (arith, length-drop a xs)
-
-  mid-tail : take (length xs - a) (drop a xs) ≡ drop a xs
-  mid-tail = take-all (length xs - a) (drop a xs) rest-long
-
-  put-tail : (ys : List A) → putMid a (length xs - a) xs ys ≡ take a xs ++ ys
-  put-tail ys = rw (drop-of-length-le (drop a xs) {i = length xs - a} rest-long, append-nil ys)
-
-module _ (c : Sv) (row : ℕ) (pivot : Float) (n : ℕ) (h : Etas) (t : Tail) where
+-- ---- the tail of a section, lent from the middle of an array and put back
+module _ (c : Sv) (row : ℕ) (pivot : Float) (n : ℕ) (N : List ℕ) (D : List Float) (s : Sized N D) (room : Room (packed N D .etas) n (c .pat .count)) where
   abbrev used : ℕ
-  used = h .starts # n
+  used = N # (etaStartsAt + n)
 
-  pub push-is : t ≡ writeColumn c row pivot (tail (take (length (h .rows) - used) (drop used (h .rows))) (take (length (h .coeffs) - used) (drop used (h .coeffs))))
-      → etasOf (set (h .leaving) n row) (set (h .starts) (n + 1) (used + c .pat .count))
-      (putMid used (length (h .rows) - used) (h .rows) (t .rows)) (putMid used (length (h .coeffs) - used) (h .coeffs) (t .coeffs))
-      ≡ pushEta c row pivot n h
-  unfolding pushEta
-  push-is e =
-      let f : t ≡ writeColumn c row pivot (tail (drop used (h .rows)) (drop used (h .coeffs))) = e ∙ rw (mid-tail used (h .rows), mid-tail used (h .coeffs)) refl in
-      rw (put-tail used (h .rows) (t .rows), put-tail used (h .coeffs) (t .coeffs), f)
+  pub used-is : used ≡ packed N D .etas .starts # n
+  used-is = sym (section-at etaStartsAt (etaColumns + 1) N n 0 (omega (arith, room)))
 
--- ---- the store of a state that fits, after 22's test: what `push_eta` asks
-pub fits-room : (P : Problem) (s : State) (k : ℕ) → Fits P s → etaFits s k ≡ true → Room (s .ws .etas) (s .etaCount) k
+  pub used-fits : used + c .pat .count ≤ etaEntries
+  used-fits = omega (arith, used-is, room)
+
+  module _ (t : Tail) (e : t ≡ writeColumn c row pivot (tail (section (etaRowsAt + used) (keptAt - (etaRowsAt + used)) N) (section (etaCoeffsAt + used) (objectiveAt - (etaCoeffsAt + used)) D)))
+      (rows-kept : length (t .rows) ≡ length (section (etaRowsAt + used) (keptAt - (etaRowsAt + used)) N))
+      (coeffs-kept : length (t .coeffs) ≡ length (section (etaCoeffsAt + used) (objectiveAt - (etaCoeffsAt + used)) D)) where
+    abbrev M : List ℕ
+    M = putMid (etaRowsAt + used) (keptAt - (etaRowsAt + used)) N (t .rows)
+
+    pub push-is : packed (set (set M (etaLeavingAt + n) row) (etaStartsAt + (n + 1)) (used + c .pat .count)) (putMid (etaCoeffsAt + used) (objectiveAt - (etaCoeffsAt + used)) D (t .coeffs)) ≡ columnPushed c row pivot n (packed N D)
+    unfolding pushEta
+    push-is =
+        let h1 = in-etaRows (as-lent N D) (tail-lent etaRowsAt etaEntries N used (keptAt - (etaRowsAt + used)) (t .rows) (omega (arith, used-fits)) (omega (arith, s)) rows-kept) in
+        let h2 = in-etaCoeffs h1 (tail-lent etaCoeffsAt etaEntries D used (objectiveAt - (etaCoeffsAt + used)) (t .coeffs) (omega (arith, used-fits)) (omega (arith, s)) coeffs-kept) in
+        let h3 = in-etaLeaving h2 (written etaLeavingAt etaColumns M n row (room .column-room)) in
+        let h4 = in-etaStarts h3 (written etaStartsAt (etaColumns + 1) (set M (etaLeavingAt + n) row) (n + 1) (used + c .pat .count) (omega (arith, room))) in
+        h4 .is ∙ rw (e, section-tail etaRowsAt etaEntries used (keptAt - (etaRowsAt + used)) N (omega (arith, used-fits)) (omega (arith, s)), section-tail etaCoeffsAt etaEntries used (objectiveAt - (etaCoeffsAt + used)) D (omega (arith, used-fits)) (omega (arith, s)), used-is)
+
+-- ---- after 22's test: the room that `push_eta` asks
+pub fits-room : (s : State) (k : ℕ) → etaFits s k ≡ true → Room (s .ws .etas) (s .etaCount) k
 unfolding etaFits
-fits-room P s k g e =
+fits-room s k e =
     let b = both-true _ _ e in
-    let l = g .lengths in
     let n = ltb-true (s .etaCount) etaColumns (b .0) in
     let u = leb-true (etaUsed s + k) etaEntries (b .1) in
-    record { leaving-room = omega arith; starts-room = omega arith; rows-room = omega arith; coeffs-room = omega arith }
+    record { column-room = n; entries-room = u }

@@ -1,5 +1,5 @@
 // A new eta column, written into the unused tail of the store.
-// From minilp 0.2.2, src/solver.rs, push_eta_matrix and EtaMatrices, Apache-2.0, changed: the store is lent arrays.
+// From minilp 0.2.2, src/solver.rs, push_eta_matrix and EtaMatrices, Apache-2.0, changed: the store is sections of the lent arrays.
 ghost use mathlib.Core.Path.{_≡_};
 ghost use mathlib.Core.Bool.{Bool};
 ghost use mathlib.Core.List.{List};
@@ -7,9 +7,9 @@ ghost use Prim.Native.Nat.{_≤_};
 ghost use lib.ListN.{length};
 ghost use Rattle.doubles.specs.Limits.{places};
 ghost use Rattle.sparse.specs.Scattered.{sv, Within};
-ghost use Rattle.rules.specs.Parts.{etasOf};
-ghost use Rattle.rules.specs.Basis.{etaEntry, tail, writeColumn, pushEta};
-ghost use Rattle.eta_store.specs.Room.{Room};
+ghost use Rattle.rules.specs.Basis.{etaEntry, tail, writeColumn};
+ghost use Rattle.state.specs.Packed.{packed, Sized};
+ghost use Rattle.eta_store.specs.Room.{Room, columnPushed};
 
 // 01: "Eta entry (ours): 1 - 1/pivot at the leaving row, else coefficient/pivot".
 pub fn eta_entry(row: usize, pivot: f64, r: usize, x: f64) -> f64
@@ -44,12 +44,11 @@ fn write_column(
     }
 }
 
-// 01: "The new column goes into the unused tail of the store": as column n, after the entries of those before it.
+// 01: "The new column goes into the unused tail of the store": as column n, after the entries of those before it. The
+// tail is lent on from the middle of both arrays.
 pub fn push_eta(
-    leaving: &mut [usize],
-    starts: &mut [usize],
-    rows: &mut [usize],
-    coeffs: &mut [f64],
+    numbers: &mut [usize],
+    doubles: &mut [f64],
     n: usize,
     values: &[f64; doubles::PLACES],
     list: &[usize; doubles::PLACES],
@@ -57,21 +56,21 @@ pub fn push_eta(
     row: usize,
     pivot: f64,
 )
-    requires { ⌜ Room (etasOf (now leaving) (now starts) (now rows) (now coeffs)) n count ⌝ }
+    requires { ⌜ Sized (now numbers) (now doubles) × Room (packed (now numbers) (now doubles) .etas) n count ⌝ }
     requires { ⌜ (count ≤ places) × Within places count (now list) ⌝ }
-    ensures { λ _. ⌜ ((m : List Bool) → etasOf (now (leaving .exit)) (now (starts .exit)) (now (rows .exit)) (now (coeffs .exit))
-        ≡ pushEta (sv (now (values .entry)) m (now (list .entry)) count) row pivot n (etasOf (now (leaving .entry)) (now (starts .entry)) (now (rows .entry)) (now (coeffs .entry)))) ⌝ }
+    ensures { λ _. ⌜ ((m : List Bool) → packed (now (numbers .exit)) (now (doubles .exit))
+        ≡ columnPushed (sv (now (values .entry)) m (now (list .entry)) count) row pivot n (packed (now (numbers .entry)) (now (doubles .entry)))) ⌝ }
 {
-    let used = starts[n];
+    let used = numbers[state::ETA_STARTS + n];
     write_column(
-        &mut rows[used..],
-        &mut coeffs[used..],
+        &mut numbers[state::ETA_ROWS + used..state::ETA_ROWS_END],
+        &mut doubles[state::ETA_COEFFS + used..state::ETA_COEFFS_END],
         values,
         list,
         count,
         row,
         pivot,
     );
-    leaving[n] = row;
-    starts[n + 1] = used + count;
+    numbers[state::ETA_LEAVING + n] = row;
+    numbers[state::ETA_STARTS + (n + 1)] = used + count;
 }

@@ -4,9 +4,10 @@ use Prim.Native.Nat.{ℕ}
 use lib.Ieee.{Float}
 use Rattle.doubles.specs.Num.{f0}
 use Rattle.rules.specs.Plan.{Problem, Workspace, State}
-use Rattle.rules.specs.Parts.{planOf, problem, stateOf}
+use Rattle.rules.specs.Parts.{planOf, problem}
 use Rattle.rules.specs.Step.{Outcome, moved, stopped}
 use Rattle.rules.specs.declared.Stop.{Stop}
+use Rattle.state.specs.Packed.{packed, stateAt}
 use Rattle.exchange.specs.declared.Went.{Went}
 use Rattle.exchange.specs.declared.Went.the-variants.{On, Stops}
 
@@ -19,10 +20,13 @@ unfoldable pub after : State → Outcome → Left
 after s (moved i t) = on t
 after s (stopped w) = off w (s .ws)
 
+abbrev pub afterBy : (State → Outcome) → State → Left
+afterBy f s = after s (f s)
+
 -- the code's answer, with the arrays as it leaves them
-abbrev pub leftBy : Went → Workspace → Left
-leftBy (On k o n) w = on (stateOf w k o n)
-leftBy (Stops x) w = off x w
+abbrev pub leftBy : Went → List ℕ → List Float → Left
+leftBy (On t) N D = on (stateAt N D t)
+leftBy (Stops x) N D = off x (packed N D)
 
 -- the part of a problem that a step reads
 abbrev pub stepped : ℕ → List Float → List Float → List ℕ → List ℕ → List Float → List ℕ → List ℕ → Problem

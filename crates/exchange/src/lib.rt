@@ -1,36 +1,41 @@
-// An exchange: eta room, row solve, all new numbers, then the store. Nothing is stored before every test has passed.
+// An exchange is decided (eta room, row solve, all new numbers), then stored. Nothing is stored before every test has
+// passed, and the store can't fail.
 // From minilp 0.2.2, src/solver.rs, pivot, Apache-2.0, changed: 01's answers 22 and 23, and the vectors are local arrays.
 ghost use mathlib.Core.Path.{_≡_};
 ghost use mathlib.Core.Bool.{Bool, _&&_};
 ghost use mathlib.Core.List.{List};
-ghost use Prim.Native.Nat.{_<_, _≤_};
+ghost use Prim.Native.Nat.{ℕ, _<_, _≤_};
 ghost use lib.ListN.{length};
-ghost use Rattle.doubles.specs.Limits.{places};
-ghost use Rattle.sparse.specs.Scattered.{sv, sqNorm, Within};
-ghost use Rattle.rules.specs.Plan.{Problem};
-ghost use Rattle.rules.specs.Parts.{etasOf, workspaceOf, stateOf};
+ghost use Rattle.doubles.specs.Limits.{maxRows, maxColumns, places};
+ghost use Rattle.sparse.specs.Scattered.{sv, Within};
+ghost use Rattle.rules.specs.Plan.{Problem, State};
+ghost use Rattle.rules.specs.Parts.{rowed};
 ghost use Rattle.rules.specs.Basis.{listedFinite};
 ghost use Rattle.rules.specs.Pivot.{exchangeFinite};
 ghost use Rattle.rules.specs.Step as Step;
-ghost use Rattle.new_numbers.specs.Lent.{numbersOf, Listing};
-ghost use Rattle.exchange.specs.Left.{after, leftBy, stepped};
-ghost use Rattle.exchange.specs.Lent.{Ready, Solved};
+ghost use Rattle.rows.specs.Lent.{Fresh};
+ghost use Rattle.new_numbers.specs.Lent.{Listing};
+ghost use Rattle.state.specs.Packed.{stateAt, objectiveAt};
+ghost use Rattle.exchange.specs.Left.{afterBy, leftBy, stepped};
+ghost use Rattle.exchange.specs.Decided.{decided, decidedBy};
+ghost use Rattle.exchange.specs.Lent.{Ready, Solving, Solved, Squares};
 
 // What a step gives: the numbers of the state after it that stand in no array, or why there is none.
 pub enum Went {
-    On {
-        eta_count: usize,
-        objective: f64,
-        steps: usize,
-    },
+    On(state::Tally),
+    Stops(rules::Stop),
+}
+
+// What is decided of an exchange: how many places its row lists, or why there is none.
+pub enum Decided {
+    Goes(usize),
     Stops(rules::Stop),
 }
 
 // 01: "Column, row and helper entries .. must be finite", and every number to be stored.
 fn numbers_finite(
-    basic_var_vals: &[f64],
-    prices: &[f64],
-    norms: &[f64],
+    doubles: &[f64],
+    at: state::Tally,
     values: &[f64; doubles::PLACES],
     list: &[usize; doubles::PLACES],
     count: usize,
@@ -41,22 +46,16 @@ fn numbers_finite(
     helper_list: &[usize; doubles::PLACES],
     helper_count: usize,
     sq: f64,
-    objective: f64,
     e: rules::Entering,
-    value: f64,
-    diff: f64,
-    row: usize,
-    pivot: f64,
-    leaving: f64,
+    x: state::Exchange,
 ) -> bool
-    requires { ⌜ Listing (length (now «basic_var_vals»)) count (now list) × ((m : List Bool) → sq ≡ sqNorm (sv (now values) m (now list) count)) ⌝ }
-    requires { ⌜ Listing (length (now prices)) «row_count» (now «row_list») × Listing (length (now norms)) «row_count» (now «row_list») ⌝ }
-    requires { ⌜ («helper_count» ≤ places) × Within places «helper_count» (now «helper_list») ⌝ }
-    ensures { λ r. ⌜ ((P : Problem) (m rm hm : List Bool) → r ≡ (listedFinite (sv (now («row_values» .entry)) rm (now («row_list» .entry)) «row_count»)
+    requires { ⌜ (length (now doubles) ≡ objectiveAt) × Listing maxRows count (now list) × Listing maxColumns «row_count» (now «row_list») ⌝ }
+    requires { ⌜ Squares (now values) (now list) count sq × («helper_count» ≤ places) × Within places «helper_count» (now «helper_list») ⌝ }
+    ensures { λ r. ⌜ ((P : Problem) (N : List ℕ) (m rm hm : List Bool) → r ≡ (listedFinite (sv (now («row_values» .entry)) rm (now («row_list» .entry)) «row_count»)
         && listedFinite (sv (now (helper .entry)) hm (now («helper_list» .entry)) «helper_count»)
-        && exchangeFinite P (stateOf (numbersOf (now («basic_var_vals» .entry)) (now (prices .entry)) (now (norms .entry))) 0 objective 0) e
-        (sv (now (values .entry)) m (now (list .entry)) count) (sv (now («row_values» .entry)) rm (now («row_list» .entry)) «row_count»)
-        (sv (now (helper .entry)) hm (now («helper_list» .entry)) «helper_count») value diff row pivot leaving)) ⌝ }
+        && exchangeFinite P (stateAt N (now (doubles .entry)) at) e (sv (now (values .entry)) m (now (list .entry)) count)
+        (sv (now («row_values» .entry)) rm (now («row_list» .entry)) «row_count») (sv (now (helper .entry)) hm (now («helper_list» .entry)) «helper_count»)
+        (x .value) (x .diff) (x .row) (x .pivot) (x .leaving))) ⌝ }
 {
     if !rows::listed_finite(row_values, row_list, row_count) {
         return false;
@@ -64,10 +63,9 @@ fn numbers_finite(
     if !rows::listed_finite(helper, helper_list, helper_count) {
         return false;
     }
-    new_numbers::exchange_finite(
-        basic_var_vals,
-        prices,
-        norms,
+    step_reads::exchange_finite(
+        doubles,
+        at,
         values,
         list,
         count,
@@ -76,33 +74,100 @@ fn numbers_finite(
         row_count,
         helper,
         sq,
-        objective,
         e,
-        value,
-        diff,
-        row,
-        pivot,
-        leaving,
+        x,
     )
+}
+
+// 01: "eta room; row solve; all new numbers". The row and the helper are written to fresh vectors, the state is read.
+fn decide(
+    row_values: &mut [f64; doubles::PLACES],
+    row_marks: &mut [bool; doubles::PLACES],
+    row_list: &mut [usize; doubles::PLACES],
+    helper: &mut [f64; doubles::PLACES],
+    helper_marks: &mut [bool; doubles::PLACES],
+    helper_list: &mut [usize; doubles::PLACES],
+    numbers: &[usize],
+    doubles: &[f64],
+    at: state::Tally,
+    n: usize,
+    starts: &[usize],
+    cols: &[usize],
+    coeffs: &[f64],
+    kept: &[usize],
+    values: &[f64; doubles::PLACES],
+    list: &[usize; doubles::PLACES],
+    count: usize,
+    sq: f64,
+    e: rules::Entering,
+    x: state::Exchange,
+) -> Decided
+    requires { ⌜ Fresh (sv (now «row_values») (now «row_marks») (now «row_list») 0) × Fresh (sv (now helper) (now «helper_marks») (now «helper_list») 0) ⌝ }
+    requires { ⌜ Solving n (now starts) (now cols) (now coeffs) (now kept) (now numbers) (now doubles) at
+        × Solved (length (now kept)) (now values) (now list) count × Squares (now values) (now list) count sq × (x .row < length (now kept)) ⌝ }
+    ensures { λ r. ⌜ ((m : List Bool) → decidedBy r (now («row_values» .exit)) (now («row_marks» .exit)) (now («row_list» .exit)) (now (helper .exit))
+        ≡ decided (rowed n (now (starts .entry)) (now (cols .entry)) (now (coeffs .entry)) (now (kept .entry)))
+        (stateAt (now (numbers .entry)) (now (doubles .entry)) at) e (sv (now (values .entry)) m (now (list .entry)) count) x) ⌝ }
+{
+    if !step_reads::eta_fits(numbers, at, count) {
+        return Decided::Stops(rules::Stop::StoreFull);
+    }
+    let row_count = step_reads::row(
+        row_values,
+        row_marks,
+        row_list,
+        numbers,
+        doubles,
+        at,
+        n,
+        starts,
+        cols,
+        coeffs,
+        kept,
+        x.row,
+    );
+    let helper_count = step_reads::helper(
+        helper,
+        helper_marks,
+        helper_list,
+        values,
+        list,
+        count,
+        numbers,
+        doubles,
+        at,
+        n,
+        starts,
+        cols,
+        coeffs,
+        kept,
+    );
+    if !numbers_finite(
+        doubles,
+        at,
+        values,
+        list,
+        count,
+        row_values,
+        row_list,
+        row_count,
+        helper,
+        helper_list,
+        helper_count,
+        sq,
+        e,
+        x,
+    ) {
+        return Decided::Stops(rules::Stop::NotFinite);
+    }
+    Decided::Goes(row_count)
 }
 
 // An exchange. 01: "eta room; row solve; all new numbers; store".
 pub fn exchange(
-    basic_vars: &mut [usize],
-    basic_var_vals: &mut [f64],
-    nb_vars: &mut [usize],
-    nb_var_vals: &mut [f64],
-    prices: &mut [f64],
-    norms: &mut [f64],
-    nb_var_states: &mut [u8],
-    var_states: &mut [usize],
-    eta_leaving: &mut [usize],
-    eta_starts: &mut [usize],
-    eta_rows: &mut [usize],
-    eta_coeffs: &mut [f64],
-    eta_count: usize,
-    objective: f64,
-    steps: usize,
+    numbers: &mut [usize],
+    doubles: &mut [f64],
+    at: state::Tally,
     n: usize,
     lowers: &[f64],
     uppers: &[f64],
@@ -115,143 +180,69 @@ pub fn exchange(
     list: &[usize; doubles::PLACES],
     count: usize,
     e: rules::Entering,
-    value: f64,
-    diff: f64,
-    row: usize,
-    pivot: f64,
-    leaving: f64,
+    x: state::Exchange,
 ) -> Went
-    requires { ⌜ Ready n (now lowers) (now uppers) (now starts) (now cols) (now coeffs) (now ops) (now kept)
-        (stateOf (workspaceOf (now «basic_vars») (now «basic_var_vals») (now «nb_vars») (now «nb_var_vals») (now prices) (now norms) (now «nb_var_states») (now «var_states»)
-        (etasOf (now «eta_leaving») (now «eta_starts») (now «eta_rows») (now «eta_coeffs»))) «eta_count» objective steps) ⌝ }
-    requires { ⌜ Solved (length (now kept)) (now values) (now list) count × (e .col < n) × (row < length (now kept)) ⌝ }
-    ensures { λ r. ⌜ ((m : List Bool) → leftBy r (workspaceOf (now («basic_vars» .exit)) (now («basic_var_vals» .exit)) (now («nb_vars» .exit)) (now («nb_var_vals» .exit))
-        (now (prices .exit)) (now (norms .exit)) (now («nb_var_states» .exit)) (now («var_states» .exit))
-        (etasOf (now («eta_leaving» .exit)) (now («eta_starts» .exit)) (now («eta_rows» .exit)) (now («eta_coeffs» .exit))))
-        ≡ after (stateOf (workspaceOf (now («basic_vars» .entry)) (now («basic_var_vals» .entry)) (now («nb_vars» .entry)) (now («nb_var_vals» .entry))
-        (now (prices .entry)) (now (norms .entry)) (now («nb_var_states» .entry)) (now («var_states» .entry))
-        (etasOf (now («eta_leaving» .entry)) (now («eta_starts» .entry)) (now («eta_rows» .entry)) (now («eta_coeffs» .entry)))) «eta_count» objective steps)
-        (Step.exchange (stepped n (now (lowers .entry)) (now (uppers .entry)) (now (starts .entry)) (now (cols .entry)) (now (coeffs .entry)) (now (ops .entry)) (now (kept .entry)))
-        (stateOf (workspaceOf (now («basic_vars» .entry)) (now («basic_var_vals» .entry)) (now («nb_vars» .entry)) (now («nb_var_vals» .entry))
-        (now (prices .entry)) (now (norms .entry)) (now («nb_var_states» .entry)) (now («var_states» .entry))
-        (etasOf (now («eta_leaving» .entry)) (now («eta_starts» .entry)) (now («eta_rows» .entry)) (now («eta_coeffs» .entry)))) «eta_count» objective steps)
-        e (sv (now (values .entry)) m (now (list .entry)) count) value diff row pivot leaving)) ⌝ }
+    requires { ⌜ Ready n (now lowers) (now uppers) (now starts) (now cols) (now coeffs) (now ops) (now kept) (now numbers) (now doubles) at ⌝ }
+    requires { ⌜ Solved (length (now kept)) (now values) (now list) count × (e .col < n) × (x .row < length (now kept)) ⌝ }
+    ensures { λ r. ⌜ ((m : List Bool) → leftBy r (now (numbers .exit)) (now (doubles .exit))
+        ≡ afterBy (λ (s : State). Step.exchange (stepped n (now (lowers .entry)) (now (uppers .entry)) (now (starts .entry)) (now (cols .entry)) (now (coeffs .entry)) (now (ops .entry)) (now (kept .entry)))
+        s e (sv (now (values .entry)) m (now (list .entry)) count) (x .value) (x .diff) (x .row) (x .pivot) (x .leaving))
+        (stateAt (now (numbers .entry)) (now (doubles .entry)) at)) ⌝ }
 {
-    if !solves::eta_fits(eta_starts, eta_count, count) {
-        return Went::Stops(rules::Stop::StoreFull);
-    }
     let mut row_values = [0.0; doubles::PLACES];
     let mut row_marks = [false; doubles::PLACES];
     let mut row_list = [0usize; doubles::PLACES];
-    let row_count = solves::row_coeffs(
-        &mut row_values,
-        &mut row_marks,
-        &mut row_list,
-        eta_leaving,
-        eta_starts,
-        eta_rows,
-        eta_coeffs,
-        eta_count,
-        n,
-        var_states,
-        starts,
-        cols,
-        coeffs,
-        kept,
-        row,
-    );
     let mut helper = [0.0; doubles::PLACES];
     let mut helper_marks = [false; doubles::PLACES];
     let mut helper_list = [0usize; doubles::PLACES];
-    let helper_count = solves::helper(
+    let sq = sparse::sq_norm(values, list, count);
+    let decided = decide(
+        &mut row_values,
+        &mut row_marks,
+        &mut row_list,
         &mut helper,
         &mut helper_marks,
         &mut helper_list,
-        values,
-        list,
-        count,
-        eta_leaving,
-        eta_starts,
-        eta_rows,
-        eta_coeffs,
-        eta_count,
+        numbers,
+        doubles,
+        at,
         n,
-        var_states,
         starts,
         cols,
         coeffs,
         kept,
-    );
-    let sq = sparse::sq_norm(values, list, count);
-    if !numbers_finite(
-        basic_var_vals,
-        prices,
-        norms,
         values,
         list,
         count,
-        &row_values,
-        &row_list,
-        row_count,
-        &helper,
-        &helper_list,
-        helper_count,
         sq,
-        objective,
         e,
-        value,
-        diff,
-        row,
-        pivot,
-        leaving,
-    ) {
-        return Went::Stops(rules::Stop::NotFinite);
-    }
-    let after = pivot::store_exchange(
-        basic_vars,
-        basic_var_vals,
-        nb_vars,
-        nb_var_vals,
-        prices,
-        norms,
-        nb_var_states,
-        var_states,
-        n,
-        lowers,
-        uppers,
-        ops,
-        kept,
-        values,
-        list,
-        count,
-        &row_values,
-        &row_list,
-        row_count,
-        &helper,
-        sq,
-        objective,
-        e,
-        value,
-        diff,
-        row,
-        pivot,
-        leaving,
+        x,
     );
-    eta_store::push_eta(
-        eta_leaving,
-        eta_starts,
-        eta_rows,
-        eta_coeffs,
-        eta_count,
-        values,
-        list,
-        count,
-        row,
-        pivot,
-    );
-    Went::On {
-        eta_count: eta_count + 1,
-        objective: after,
-        steps: steps + 1,
+    match decided {
+        Decided::Stops(why) => {
+            return Went::Stops(why);
+        }
+        Decided::Goes(row_count) => {
+            return Went::On(pivot::store_exchange(
+                numbers,
+                doubles,
+                at,
+                n,
+                lowers,
+                uppers,
+                ops,
+                kept,
+                values,
+                list,
+                count,
+                &row_values,
+                &row_list,
+                row_count,
+                &helper,
+                sq,
+                e,
+                x,
+            ));
+        }
     }
 }

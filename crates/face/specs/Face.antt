@@ -7,8 +7,8 @@ use Rattle.lu.specs.declared.Answer.{Answer}
 use Rattle.sheet_rules.specs.Verdict.{Numbers, numbersOf}
 use Rattle.rules.specs.Plan.{Memory}
 use Rattle.rules.specs.Answers.{Place, nowhere, entryAt, columnAt, rowAt, valueAt, keptRowAt, asRow}
-use Rattle.rules.specs.Solve.{Solved}
 use Rattle.rules.specs.declared.Answer.{Answer as Rules·Answer}
+use Rattle.state.specs.Memory.{memoryIn, Past, pastOf, Handed}
 use Rattle.face.specs.declared.TriAnswer.{TriAnswer}
 use Rattle.face.specs.declared.SheetVerdict.{SheetVerdict}
 use Rattle.face.specs.declared.TevalumiAnswer.{TevalumiAnswer}
@@ -44,9 +44,10 @@ answerNumbers a = let t = asRow a in placed (t .number) (t .objective) (t .steps
 pub record Faced : Type 0 where
   pub numbers : TevalumiAnswer
   pub memory : Memory
+  pub past : Past
 
-abbrev pub faced : TevalumiAnswer → Memory → Faced
-faced n m = record { numbers = n; memory = m }
+abbrev pub faced : TevalumiAnswer → List Float → List ℕ → List Float → Faced
+faced n v N D = record { numbers = n; memory = memoryIn v N D; past = pastOf N D }
 
-abbrev pub facedBy : Solved → Faced
-facedBy s = faced (answerNumbers (s .answer)) (s .memory)
+abbrev pub facedBy : Handed → Faced
+facedBy h = record { numbers = answerNumbers (h .solved .answer); memory = h .solved .memory; past = h .past }

@@ -61,6 +61,8 @@ module _ (p : Plan) (m : Memory) where
       go false e = too-short p m e
 
   pub record Accepted : Type 0 where
+    pub sizes : sizesFit p ≡ true
+    pub lent : memoryLong p m ≡ true
     pub passes-1 : passes1 p m ≡ true
     pub passes-2 : passes2 p ≡ true
     pub passes-3 : firstBadRow p ≡ p .rows
@@ -77,7 +79,8 @@ module _ (p : Plan) (m : Memory) where
       let b = passed BadSize (startsRise p) _ (a .1) in
       let c = passed BadNumber (passes2 p) _ (b .1) in
       let d = passed (BadEntry _ _) (eqb (firstBadRow p) (p .rows)) _ (c .1) in
-      record { passes-1 = rw (a .0, b .0); passes-2 = c .0; passes-3 = eqb-true _ _ (d .0) }
+      let l = both-true (sizesFit p && planLong p) (memoryLong p m) (a .0) in
+      record { sizes = both-true (sizesFit p) (planLong p) (l .0) .0; lent = l .1; passes-1 = rw (a .0, b .0); passes-2 = c .0; passes-3 = eqb-true _ _ (d .0) }
 
 -- ---- 6 and 7
 module _ (P : Problem) (s : Numbers) where

@@ -5,8 +5,9 @@ ghost use Prim.Native.Nat.{_≤_};
 ghost use lib.ListN.{length};
 ghost use Rattle.doubles.specs.Num.{f0};
 ghost use Rattle.doubles.specs.Limits.{maxColumns, maxRows};
-ghost use Rattle.rules.specs.Parts.{planOf, problem, etasOf, workspaceOf, memoryOf};
-ghost use Rattle.rules.specs.Refusals.{storeLong, workspaceLong, memoryLong};
+ghost use Rattle.rules.specs.Parts.{planOf, problem};
+ghost use Rattle.rules.specs.Refusals.{memoryLong};
+ghost use Rattle.state.specs.Memory.{memoryIn};
 ghost use Rattle.start.specs.Lent.{Scratch};
 ghost use Rattle.start.specs.Reckoned.{numbers};
 ghost use Rattle.gateway.specs.Lent.{Passed};
@@ -18,102 +19,22 @@ pub enum Begun {
     On(f64),
 }
 
-// 1: "the full stated store"
-fn store_long(
-    eta_leaving: &[usize],
-    eta_starts: &[usize],
-    eta_rows: &[usize],
-    eta_coeffs: &[f64],
-) -> bool
-    ensures { λ r. ⌜ r ≡ storeLong (etasOf (now («eta_leaving» .entry)) (now («eta_starts» .entry)) (now («eta_rows» .entry)) (now («eta_coeffs» .entry))) ⌝ }
-{
-    (doubles::ETA_COLUMNS <= eta_leaving.len())
-        & (doubles::ETA_COLUMNS + 1 <= eta_starts.len())
-        & (doubles::ETA_ENTRIES <= eta_rows.len())
-        & (doubles::ETA_ENTRIES <= eta_coeffs.len())
-}
-
-// The state's arrays, dropped rows counted, and the store.
-fn workspace_long(
-    columns: usize,
-    rows: usize,
-    basic_vars: &[usize],
-    basic_var_vals: &[f64],
-    nb_vars: &[usize],
-    nb_var_vals: &[f64],
-    nb_var_obj_coeffs: &[f64],
-    primal_edge_sq_norms: &[f64],
-    nb_var_states: &[u8],
-    var_states: &[usize],
-    eta_leaving: &[usize],
-    eta_starts: &[usize],
-    eta_rows: &[usize],
-    eta_coeffs: &[f64],
-) -> bool
-    requires { ⌜ (columns ≤ maxColumns) × (rows ≤ maxRows) ⌝ }
-    ensures { λ r. ⌜ r ≡ workspaceLong columns rows (workspaceOf (now («basic_vars» .entry)) (now («basic_var_vals» .entry)) (now («nb_vars» .entry)) (now («nb_var_vals» .entry))
-        (now («nb_var_obj_coeffs» .entry)) (now («primal_edge_sq_norms» .entry)) (now («nb_var_states» .entry)) (now («var_states» .entry))
-        (etasOf (now («eta_leaving» .entry)) (now («eta_starts» .entry)) (now («eta_rows» .entry)) (now («eta_coeffs» .entry)))) ⌝ }
-{
-    (rows <= basic_vars.len())
-        & (rows <= basic_var_vals.len())
-        & (columns <= nb_vars.len())
-        & (columns <= nb_var_vals.len())
-        & (columns <= nb_var_obj_coeffs.len())
-        & (columns <= primal_edge_sq_norms.len())
-        & (columns <= nb_var_states.len())
-        & (columns + rows <= var_states.len())
-        & store_long(eta_leaving, eta_starts, eta_rows, eta_coeffs)
-}
-
-// 1: "Needed are columns plus rows of values, dropped rows counted, and the full stated store". The sizes are small by
-// then, so that they may be added.
+// 1: "Needed are columns plus rows of values, dropped rows counted, and the full stated store": each array whole, whatever
+// the plan's sizes. Those are small by then, so that they may be added.
 pub fn memory_long(
     columns: usize,
     rows: usize,
     values: &[f64],
-    kept: &[usize],
-    basic_vars: &[usize],
-    basic_var_vals: &[f64],
-    nb_vars: &[usize],
-    nb_var_vals: &[f64],
-    nb_var_obj_coeffs: &[f64],
-    primal_edge_sq_norms: &[f64],
-    nb_var_states: &[u8],
-    var_states: &[usize],
-    eta_leaving: &[usize],
-    eta_starts: &[usize],
-    eta_rows: &[usize],
-    eta_coeffs: &[f64],
-    counts: &[usize],
-    objective: &[f64],
+    numbers: &[usize],
+    doubles: &[f64],
 ) -> bool
     requires { ⌜ (columns ≤ maxColumns) × (rows ≤ maxRows) ⌝ }
-    ensures { λ r. ⌜ r ≡ memoryLong (planOf columns rows 0 0 f0 [] [] [] [] [] [] [] []) (memoryOf (now (values .entry)) (now (kept .entry))
-        (workspaceOf (now («basic_vars» .entry)) (now («basic_var_vals» .entry)) (now («nb_vars» .entry)) (now («nb_var_vals» .entry))
-        (now («nb_var_obj_coeffs» .entry)) (now («primal_edge_sq_norms» .entry)) (now («nb_var_states» .entry)) (now («var_states» .entry))
-        (etasOf (now («eta_leaving» .entry)) (now («eta_starts» .entry)) (now («eta_rows» .entry)) (now («eta_coeffs» .entry)))) (now (counts .entry)) (now (objective .entry))) ⌝ }
+    ensures { λ r. ⌜ r ≡ memoryLong (planOf columns rows 0 0 f0 [] [] [] [] [] [] [] [])
+        (memoryIn (now (values .entry)) (now (numbers .entry)) (now (doubles .entry))) ⌝ }
 {
     (columns + rows <= values.len())
-        & (rows <= kept.len())
-        & workspace_long(
-            columns,
-            rows,
-            basic_vars,
-            basic_var_vals,
-            nb_vars,
-            nb_var_vals,
-            nb_var_obj_coeffs,
-            primal_edge_sq_norms,
-            nb_var_states,
-            var_states,
-            eta_leaving,
-            eta_starts,
-            eta_rows,
-            eta_coeffs,
-        )
-        & (doubles::COUNT_CELLS <= counts.len())
-        & (1 <= objective.len())
+        & (state::NUMBERS <= numbers.len())
+        & (state::DOUBLES <= doubles.len())
 }
 
 // 1 to 5. Any sizes and any arrays: "Sizes are tested before any cell is read".
@@ -132,27 +53,11 @@ pub fn refusal(
     ops: &[u8],
     rhs: &[f64],
     values: &[f64],
-    kept: &[usize],
-    basic_vars: &[usize],
-    basic_var_vals: &[f64],
-    nb_vars: &[usize],
-    nb_var_vals: &[f64],
-    nb_var_obj_coeffs: &[f64],
-    primal_edge_sq_norms: &[f64],
-    nb_var_states: &[u8],
-    var_states: &[usize],
-    eta_leaving: &[usize],
-    eta_starts: &[usize],
-    eta_rows: &[usize],
-    eta_coeffs: &[f64],
-    counts: &[usize],
-    objective: &[f64],
+    numbers: &[usize],
+    doubles: &[f64],
 ) -> plan::Refusal
     ensures { λ r. ⌜ r ≡ refusalBy (planOf columns rows entries budget tolerance (now (costs .entry)) (now (lowers .entry)) (now (uppers .entry))
-        (now (starts .entry)) (now (cols .entry)) (now (coeffs .entry)) (now (ops .entry)) (now (rhs .entry))) (memoryOf (now (values .entry)) (now (kept .entry))
-        (workspaceOf (now («basic_vars» .entry)) (now («basic_var_vals» .entry)) (now («nb_vars» .entry)) (now («nb_var_vals» .entry))
-        (now («nb_var_obj_coeffs» .entry)) (now («primal_edge_sq_norms» .entry)) (now («nb_var_states» .entry)) (now («var_states» .entry))
-        (etasOf (now («eta_leaving» .entry)) (now («eta_starts» .entry)) (now («eta_rows» .entry)) (now («eta_coeffs» .entry)))) (now (counts .entry)) (now (objective .entry))) ⌝ }
+        (now (starts .entry)) (now (cols .entry)) (now (coeffs .entry)) (now (ops .entry)) (now (rhs .entry))) (memoryIn (now (values .entry)) (now (numbers .entry)) (now (doubles .entry))) ⌝ }
 {
     if !plan::sizes_fit(columns, rows, entries, budget) {
         return plan::Refusal::By(rules::Answer::BadSize);
@@ -172,26 +77,7 @@ pub fn refusal(
     ) {
         return plan::Refusal::By(rules::Answer::BadSize);
     }
-    if !memory_long(
-        columns,
-        rows,
-        values,
-        kept,
-        basic_vars,
-        basic_var_vals,
-        nb_vars,
-        nb_var_vals,
-        nb_var_obj_coeffs,
-        primal_edge_sq_norms,
-        nb_var_states,
-        var_states,
-        eta_leaving,
-        eta_starts,
-        eta_rows,
-        eta_coeffs,
-        counts,
-        objective,
-    ) {
+    if !memory_long(columns, rows, values, numbers, doubles) {
         return plan::Refusal::By(rules::Answer::BadSize);
     }
     plan::first_refusal(

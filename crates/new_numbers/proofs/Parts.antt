@@ -1,8 +1,9 @@
 -- What callers use: the tests of the whole state from the parts that are lent, and what they ask, from vectors that fit. Assumes nothing.
 use mathlib.Core.Path.{_≡_, refl}
-use mathlib.Core.List.{[]}
-use Prim.Native.Nat.{ℕ, _≤_}
+use mathlib.Core.List.{List, []}
+use Prim.Native.Nat.{ℕ, _+_, _≤_}
 use native.Mathlib.Omega.{arith}
+use lib.ListN.{length}
 use lib.Ieee.{Float}
 use Rattle.sparse.specs.Scattered.{Sv}
 use Rattle.sparse.proofs.Laws.{wf-listed}
@@ -12,6 +13,8 @@ use Rattle.rules.specs.Pivot.{newObjective, movedVal, flipFinite, newVal, newPr
 use Rattle.rules.specs.Invariant.{Vector}
 use Rattle.rules.proofs.Vectors.{vector-once}
 use Rattle.rules.specs.declared.Entering.{Entering}
+use Rattle.state.specs.Packed.{section}
+use Rattle.state.proofs.Sections.{section-length}
 use Rattle.new_numbers.specs.Lent.{numbersOf, Listing}
 
 -- what the functions ask, of a vector whose places are below m and an array of at least m cells
@@ -23,6 +26,10 @@ vector-listing c cells v h =
       cell = λ k l. omega (arith, v .places-below .below k l);
       once = vector-once c v;
     }
+
+-- what they ask of a section that is lent
+pub listing-in : (a k : ℕ) (xs : List Float) {n : ℕ} {list : List ℕ} → a + k ≤ length xs → Listing k n list → Listing (length (section a k xs)) n list
+listing-in a k xs h l = rw (section-length a k xs h) l
 
 -- the tests, of the parts and of the whole
 module _ (P Q : Problem) (s : State) (e : Entering) (c : Sv) (value diff : Float) where

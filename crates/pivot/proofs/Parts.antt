@@ -1,18 +1,17 @@
--- What callers use: a step of the whole state from the parts that are lent, and what the stores ask, from a problem and a state that fit. Assumes nothing.
-use mathlib.Core.Path.{_≡_, ap}
-use mathlib.Core.List.{List, []}
-use Prim.Native.Nat.{ℕ, suc, _+_, _<_}
+-- What callers use: a step of the problem's bounds alone is one of the problem, and what the stores ask, from a problem and a state that fit. Assumes nothing.
+use mathlib.Core.Path.{_≡_, refl}
+use mathlib.Core.List.{List}
+use Prim.Native.Nat.{ℕ, _+_, _<_}
 use native.Mathlib.Omega.{arith}
 use lib.Ieee.{Float}
 use Rattle.sparse.specs.Scattered.{Sv}
-use Rattle.rules.specs.Plan.{Problem, Etas, State, nOf, mOf, varMin, varMax}
-use Rattle.rules.specs.Parts.{workspaceOf, noEtas, stateOf}
-use Rattle.rules.specs.Basis.{pushEta}
-use Rattle.rules.specs.Pivot.{flagsAt, newObjective, movedVal, flipped, exchanged}
+use Rattle.rules.specs.Plan.{Problem, State, nOf, mOf, varMin, varMax}
+use Rattle.rules.specs.Pivot.{flagsAt, flipped, exchanged}
 use Rattle.rules.specs.Invariant.{ProblemFits, Fits}
 use Rattle.rules.specs.declared.Entering.{Entering}
 use Rattle.cells.proofs.Parts.{boundsOf}
-use Rattle.pivot.specs.Halves.{basisOf}
+use Rattle.state.specs.Packed.{packed, Sized, stateAt}
+use Rattle.state.specs.declared.Tally.{Tally}
 use Rattle.pivot.specs.Lent.{Bounded, Flips, Swaps}
 
 -- ---- what the stores ask
@@ -22,45 +21,32 @@ module _ (P : Problem) (f : ProblemFits P) where
       let p = f .plan in
       record { variable = h; lowers-long = p .lowers-long; uppers-long = p .uppers-long; row-inside = λ r l. omega (arith, f .kept r l .inside, p .ops-long) }
 
-  module _ (s : State) (g : Fits P s) (col : ℕ) (l : col < nOf P) where
-    pub fits-flips : Flips (boundsOf P) (workspaceOf [] [] (s .ws .nbVars) (s .ws .nbVarVals) [] [] (s .ws .nbVarStates) [] noEtas) col
-    fits-flips =
-        let n = g .lengths in
-        record { col-inside = omega arith; val-inside = omega arith; flags-inside = omega arith; bounds = fits-bounded _ (g .maps .place col l .var) }
+  module _ (N : List ℕ) (D : List Float) (t : Tally) (z : Sized N D) (g : Fits P (stateAt N D t)) (col : ℕ) (l : col < nOf P) where
+    pub fits-flips : Flips (boundsOf P) N D col
+    fits-flips = record { sized = z; col-inside = omega (arith, f .plan .columns-most); bounds = fits-bounded _ (g .maps .place col l .var) }
 
-    pub fits-swaps : (row : ℕ) → row < mOf P → Swaps (boundsOf P) (basisOf (s .ws .basicVars) (s .ws .nbVars) (s .ws .nbVarVals) (s .ws .nbVarStates) (s .ws .varStates)) col row
+    pub fits-swaps : (row : ℕ) → row < mOf P → Swaps (boundsOf P) N D col row
     fits-swaps row h =
-        let n = g .lengths in
         let b = g .maps .row row h in
         let e = g .maps .place col l in
+        let n = f .plan .columns-most in
+        let m = f .plan .rows-most in
         record {
-          row-inside = omega arith;
+          sized = z;
+          few = n;
+          row-inside = omega (arith, f .few);
           col-inside = omega arith;
-          val-inside = omega arith;
-          flags-inside = omega arith;
-          cell = omega arith;
-          enters = omega arith;
-          leaves = omega arith;
+          enters = omega (arith, f .few);
+          leaves = omega (arith, f .few);
           leaves-bounds = fits-bounded _ (b .var);
         }
 
--- ---- the state after a flip, from what `store_flip` leaves
+-- ---- of the problem the stores read the bounds alone
 module _ (P : Problem) (s : State) (e : Entering) (c : Sv) (value diff : Float) where
-  pub flipped-whole : {b v : List Float} {x : List ℕ} {o : Float}
-      → stateOf (workspaceOf [] b (s .ws .nbVars) v [] [] x [] noEtas) 0 o 1
-      ≡ flipped (boundsOf P) (stateOf (workspaceOf [] (s .ws .basicVarVals) (s .ws .nbVars) (s .ws .nbVarVals) [] [] (s .ws .nbVarStates) [] noEtas) 0 (s .objective) 0) e c value diff
-      → stateOf (workspaceOf (s .ws .basicVars) b (s .ws .nbVars) v (s .ws .nbVarObjCoeffs) (s .ws .primalEdgeSqNorms) x (s .ws .varStates) (s .ws .etas)) (s .etaCount) o (suc (s .steps))
-      ≡ flipped P s e c value diff
-  unfolding flipped newObjective movedVal flagsAt varMin varMax
-  flipped-whole q =
-      rw (ap (λ (t : State). t .ws .basicVarVals) q, ap (λ (t : State). t .ws .nbVarVals) q, ap (λ (t : State). t .ws .nbVarStates) q, ap (λ (t : State). t .objective) q)
+  pub flipped-part : flipped (boundsOf P) s e c value diff ≡ flipped P s e c value diff
+  unfolding flipped flagsAt varMin varMax
+  flipped-part = refl
 
--- ---- the state after an exchange, from what `store_exchange` and `eta_store::push_eta` leave
-module _ (P : Problem) (s : State) (e : Entering) (c rowSv helper : Sv) (value diff : Float) (row : ℕ) (pivot leaving : Float) where
-  pub exchanged-whole : {b p n v : List Float} {bv nv x vs : List ℕ} {o : Float} {h : Etas}
-      → stateOf (workspaceOf bv b nv v p n x vs (pushEta c row pivot (s .etaCount) (s .ws .etas))) (suc (s .etaCount)) o (suc (s .steps))
-      ≡ exchanged (boundsOf P) s e c rowSv helper value diff row pivot leaving
-      → h ≡ pushEta c row pivot (s .etaCount) (s .ws .etas)
-      → stateOf (workspaceOf bv b nv v p n x vs h) (suc (s .etaCount)) o (suc (s .steps)) ≡ exchanged P s e c rowSv helper value diff row pivot leaving
+  pub exchanged-part : (rowSv helper : Sv) (row : ℕ) (pivot leaving : Float) → exchanged (boundsOf P) s e c rowSv helper value diff row pivot leaving ≡ exchanged P s e c rowSv helper value diff row pivot leaving
   unfolding exchanged flagsAt varMin varMax
-  exchanged-whole q r = rw r q
+  exchanged-part rowSv helper row pivot leaving = refl

@@ -1,20 +1,16 @@
--- The two halves of storing an exchange: the numbers of the lists, and the maps with what stands at the entering place. `rules` has the whole as `exchanged`; proofs/Parts.antt puts it
--- together from these and the pushed eta column. Assumes nothing.
-use mathlib.Core.List.{List, []}
+-- The two halves of storing an exchange: the numbers of the lists, and the maps with what stands at the entering place.
+-- `rules` has the whole as `exchanged`; proofs/Laws.antt puts it together from these and the pushed eta column. Assumes
+-- nothing.
 use Prim.Native.Nat.{ℕ}
 use lib.ListN.{set}
 use lib.Ieee.{Float}
 use Rattle.doubles.specs.Lists.{_#_}
 use Rattle.sparse.specs.Scattered.{Sv}
 use Rattle.rules.specs.Plan.{Problem, Workspace, nOf, varCell}
-use Rattle.rules.specs.Parts.{workspaceOf, noEtas}
+use Rattle.rules.specs.Parts.{workspaceOf}
 use Rattle.rules.specs.Pivot.{stored, flagsAt, newVal, newPrice, newNorm}
 use Rattle.rules.specs.declared.Entering.{Entering}
 use Rattle.rules.specs.declared.VarState.the-variants.{Basic, NonBasic}
-
--- the arrays of the second half, the others empty: `numbersOf` of `new_numbers` has the first's
-abbrev pub basisOf : List ℕ → List ℕ → List Float → List ℕ → List ℕ → Workspace
-basisOf basicVars nbVars nbVarVals flags varStates = workspaceOf basicVars [] nbVars nbVarVals [] [] flags varStates noEtas
 
 unfoldable pub numbersStored : Workspace → Entering → Sv → Sv → Sv → Float → Float → ℕ → Float → Workspace
 numbersStored w e c rowSv helper value diff row pivot =

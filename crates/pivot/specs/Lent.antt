@@ -1,8 +1,12 @@
 -- What the stores ask of the arrays that they are lent. Assumes nothing.
+use mathlib.Core.List.{List}
 use Prim.Native.Nat.{ℕ, _+_, _<_, _≤_}
 use lib.ListN.{length}
+use lib.Ieee.{Float}
+use Rattle.doubles.specs.Limits.{maxRows, maxColumns, vars}
 use Rattle.doubles.specs.Lists.{_#_}
-use Rattle.rules.specs.Plan.{Problem, Workspace, nOf, mOf}
+use Rattle.rules.specs.Plan.{Problem, nOf, mOf}
+use Rattle.state.specs.Packed.{packed, Sized}
 
 -- the bounds of variable v can be looked up
 pub record Bounded (P : Problem) (v : ℕ) : Type 0 where
@@ -11,20 +15,18 @@ pub record Bounded (P : Problem) (v : ℕ) : Type 0 where
   pub uppers-long : nOf P ≤ length (P .plan .uppers)
   pub row-inside : (r : ℕ) → r < mOf P → P .kept # r < length (P .plan .ops)
 
--- what stands at place `col` is within the arrays
-pub record Flips (P : Problem) (w : Workspace) (col : ℕ) : Type 0 where
-  pub col-inside : col < length (w .nbVars)
-  pub val-inside : col < length (w .nbVarVals)
-  pub flags-inside : col < length (w .nbVarStates)
-  pub bounds : Bounded P (w .nbVars # col)
+-- what stands at place `col` can be moved to a bound
+pub record Flips (P : Problem) (N : List ℕ) (D : List Float) (col : ℕ) : Type 0 where
+  pub sized : Sized N D
+  pub col-inside : col < maxColumns
+  pub bounds : Bounded P (packed N D .nbVars # col)
 
--- what changes hands at row `row` and place `col` is within the arrays
-pub record Swaps (P : Problem) (w : Workspace) (col row : ℕ) : Type 0 where
-  pub row-inside : row < length (w .basicVars)
-  pub col-inside : col < length (w .nbVars)
-  pub val-inside : col < length (w .nbVarVals)
-  pub flags-inside : col < length (w .nbVarStates)
-  pub cell : nOf P + row < length (w .varStates)
-  pub enters : w .nbVars # col < length (w .varStates)
-  pub leaves : w .basicVars # row < length (w .varStates)
-  pub leaves-bounds : Bounded P (w .basicVars # row)
+-- what stands in row `row` and at place `col` can change hands
+pub record Swaps (P : Problem) (N : List ℕ) (D : List Float) (col row : ℕ) : Type 0 where
+  pub sized : Sized N D
+  pub few : nOf P ≤ maxColumns
+  pub row-inside : row < maxRows
+  pub col-inside : col < maxColumns
+  pub enters : packed N D .nbVars # col < vars
+  pub leaves : packed N D .basicVars # row < vars
+  pub leaves-bounds : Bounded P (packed N D .basicVars # row)

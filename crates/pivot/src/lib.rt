@@ -1,18 +1,20 @@
 // The stores of a step, a flip's or an exchange's.
 // From minilp 0.2.2, src/solver.rs, pivot and update_primal_sq_norms, Apache-2.0, changed: `new_numbers` has tested every
-// number before any is stored, the vectors and the state are lent arrays, and the helper is reckoned by the caller.
+// number before any is stored, the vectors are lent arrays, the state is sections of two, and the helper is reckoned by
+// the caller.
 ghost use mathlib.Core.Path.{_≡_};
 ghost use mathlib.Core.Bool.{Bool};
 ghost use mathlib.Core.List.{List, []};
-ghost use Prim.Native.Nat.{ℕ, suc};
+ghost use Prim.Native.Nat.{ℕ, _<_};
 ghost use lib.ListN.{length};
+ghost use Rattle.doubles.specs.Limits.{maxRows, maxColumns, maxBudget};
 ghost use Rattle.sparse.specs.Scattered.{Pat, Sv, sv, svOf, sqNorm};
-ghost use Rattle.rules.specs.Plan.{Etas};
-ghost use Rattle.rules.specs.Parts.{bounded, workspaceOf, noEtas, stateOf};
-ghost use Rattle.rules.specs.Basis.{pushEta};
+ghost use Rattle.rules.specs.Parts.{bounded};
 ghost use Rattle.rules.specs.Pivot.{stored, flagsAt, movedVal, flipped, newVal, newPrice, newNorm, exchanged};
+ghost use Rattle.state.specs.Packed.{packed, stateAt, objectiveAt};
+ghost use Rattle.eta_store.specs.Room.{Room};
 ghost use Rattle.new_numbers.specs.Lent.{numbersOf, Listing};
-ghost use Rattle.pivot.specs.Halves.{basisOf, numbersStored, basisStored};
+ghost use Rattle.pivot.specs.Halves.{numbersStored, basisStored};
 ghost use Rattle.pivot.specs.Lent.{Bounded, Flips, Swaps};
 
 // The basic values of a flip.
@@ -122,7 +124,7 @@ fn flags_at(
     kept: &[usize],
     v: usize,
     x: f64,
-) -> u8
+) -> usize
     requires { ⌜ Bounded (bounded n (now lowers) (now uppers) (now ops) (now kept)) v ⌝ }
     ensures { λ r. ⌜ r ≡ flagsAt (bounded n (now (lowers .entry)) (now (uppers .entry)) (now (ops .entry)) (now (kept .entry))) v x ⌝ }
 {
@@ -131,12 +133,11 @@ fn flags_at(
     cells::pack_flags(rules::NonBasicVarState { at_min, at_max })
 }
 
-// A flip: the entering variable moves to its other bound and stays where it is. The new objective is returned.
+// A flip: the entering variable moves to its other bound and stays where it is.
 pub fn store_flip(
-    basic_var_vals: &mut [f64],
-    nb_var_vals: &mut [f64],
-    nb_var_states: &mut [u8],
-    nb_vars: &[usize],
+    numbers: &mut [usize],
+    doubles: &mut [f64],
+    at: state::Tally,
     n: usize,
     lowers: &[f64],
     uppers: &[f64],
@@ -145,31 +146,38 @@ pub fn store_flip(
     values: &[f64; doubles::PLACES],
     list: &[usize; doubles::PLACES],
     count: usize,
-    objective: f64,
     e: rules::Entering,
     value: f64,
     diff: f64,
-) -> f64
-    requires { ⌜ Listing (length (now «basic_var_vals»)) count (now list) ⌝ }
-    requires { ⌜ Flips (bounded n (now lowers) (now uppers) (now ops) (now kept)) (workspaceOf [] [] (now «nb_vars») (now «nb_var_vals») [] [] (now «nb_var_states») [] noEtas) (e .col) ⌝ }
-    ensures { λ r. ⌜ ((m : List Bool) → stateOf (workspaceOf [] (now («basic_var_vals» .exit)) (now («nb_vars» .entry)) (now («nb_var_vals» .exit)) [] [] (now («nb_var_states» .exit)) [] noEtas) 0 r 1
+) -> state::Tally
+    requires { ⌜ Flips (bounded n (now lowers) (now uppers) (now ops) (now kept)) (now numbers) (now doubles) (e .col) ⌝ }
+    requires { ⌜ Listing maxRows count (now list) × (at .steps < maxBudget) ⌝ }
+    ensures { λ r. ⌜ ((m : List Bool) → stateAt (now (numbers .exit)) (now (doubles .exit)) r
         ≡ flipped (bounded n (now (lowers .entry)) (now (uppers .entry)) (now (ops .entry)) (now (kept .entry)))
-        (stateOf (workspaceOf [] (now («basic_var_vals» .entry)) (now («nb_vars» .entry)) (now («nb_var_vals» .entry)) [] [] (now («nb_var_states» .entry)) [] noEtas) 0 objective 0)
-        e (sv (now (values .entry)) m (now (list .entry)) count) value diff) ⌝ }
+        (stateAt (now (numbers .entry)) (now (doubles .entry)) at) e (sv (now (values .entry)) m (now (list .entry)) count) value diff) ⌝ }
 {
     let col = e.col;
-    let var = nb_vars[col];
-    store_moved(basic_var_vals, values, list, count, diff);
-    nb_var_vals[col] = value;
-    nb_var_states[col] = flags_at(n, lowers, uppers, ops, kept, var, value);
-    new_numbers::new_objective(objective, e, diff)
+    let var = numbers[state::NB_VARS + col];
+    store_moved(
+        &mut doubles[state::BASIC_VAR_VALS..state::BASIC_VAR_VALS_END],
+        values,
+        list,
+        count,
+        diff,
+    );
+    doubles[state::NB_VAR_VALS + col] = value;
+    numbers[state::FLAGS + col] = flags_at(n, lowers, uppers, ops, kept, var, value);
+    let steps = at.steps;
+    state::Tally {
+        eta_count: at.eta_count,
+        objective: new_numbers::new_objective(at.objective, e, diff),
+        steps: steps + 1,
+    }
 }
 
-// The numbers of an exchange: basic values, prices and norms.
+// The numbers of an exchange: basic values, prices and norms, one section after the other.
 fn store_numbers(
-    basic_var_vals: &mut [f64],
-    prices: &mut [f64],
-    norms: &mut [f64],
+    doubles: &mut [f64],
     values: &[f64; doubles::PLACES],
     list: &[usize; doubles::PLACES],
     count: usize,
@@ -179,29 +187,48 @@ fn store_numbers(
     helper: &[f64; doubles::PLACES],
     sq: f64,
     e: rules::Entering,
-    value: f64,
-    diff: f64,
-    row: usize,
-    pivot: f64,
+    x: state::Exchange,
 )
-    requires { ⌜ Listing (length (now «basic_var_vals»)) count (now list) × ((m : List Bool) → sq ≡ sqNorm (sv (now values) m (now list) count)) ⌝ }
-    requires { ⌜ Listing (length (now prices)) «row_count» (now «row_list») × Listing (length (now norms)) «row_count» (now «row_list») ⌝ }
-    ensures { λ _. ⌜ ((m rm : List Bool) (p : Pat) → numbersOf (now («basic_var_vals» .exit)) (now (prices .exit)) (now (norms .exit))
-        ≡ numbersStored (numbersOf (now («basic_var_vals» .entry)) (now (prices .entry)) (now (norms .entry))) e
-        (sv (now (values .entry)) m (now (list .entry)) count) (sv (now («row_values» .entry)) rm (now («row_list» .entry)) «row_count») (svOf (now (helper .entry)) p) value diff row pivot) ⌝ }
+    requires { ⌜ Listing maxRows count (now list) × ((m : List Bool) → sq ≡ sqNorm (sv (now values) m (now list) count)) ⌝ }
+    requires { ⌜ Listing maxColumns «row_count» (now «row_list») × (length (now doubles) ≡ objectiveAt) ⌝ }
+    ensures { λ _. ⌜ ((N : List ℕ) (m rm : List Bool) (p : Pat) → packed N (now (doubles .exit))
+        ≡ numbersStored (packed N (now (doubles .entry))) e (sv (now (values .entry)) m (now (list .entry)) count)
+        (sv (now («row_values» .entry)) rm (now («row_list» .entry)) «row_count») (svOf (now (helper .entry)) p) (x .value) (x .diff) (x .row) (x .pivot)) ⌝ }
 {
-    store_vals(basic_var_vals, values, list, count, value, diff, row);
-    store_prices(prices, row_values, row_list, row_count, e, pivot);
-    store_norms(norms, row_values, row_list, row_count, helper, e, sq, pivot);
+    let pivot = x.pivot;
+    store_vals(
+        &mut doubles[state::BASIC_VAR_VALS..state::BASIC_VAR_VALS_END],
+        values,
+        list,
+        count,
+        x.value,
+        x.diff,
+        x.row,
+    );
+    store_prices(
+        &mut doubles[state::PRICES..state::PRICES_END],
+        row_values,
+        row_list,
+        row_count,
+        e,
+        pivot,
+    );
+    store_norms(
+        &mut doubles[state::NORMS..state::NORMS_END],
+        row_values,
+        row_list,
+        row_count,
+        helper,
+        e,
+        sq,
+        pivot,
+    );
 }
 
 // The maps of an exchange, and what stands at the entering place: the leaving variable, its value and its flags.
 fn store_basis(
-    basic_vars: &mut [usize],
-    nb_vars: &mut [usize],
-    nb_var_vals: &mut [f64],
-    nb_var_states: &mut [u8],
-    var_states: &mut [usize],
+    numbers: &mut [usize],
+    doubles: &mut [f64],
     n: usize,
     lowers: &[f64],
     uppers: &[f64],
@@ -211,32 +238,27 @@ fn store_basis(
     row: usize,
     leaving: f64,
 )
-    requires { ⌜ Swaps (bounded n (now lowers) (now uppers) (now ops) (now kept)) (basisOf (now «basic_vars») (now «nb_vars») (now «nb_var_vals») (now «nb_var_states») (now «var_states»)) col row ⌝ }
-    ensures { λ _. ⌜ basisOf (now («basic_vars» .exit)) (now («nb_vars» .exit)) (now («nb_var_vals» .exit)) (now («nb_var_states» .exit)) (now («var_states» .exit))
+    requires { ⌜ Swaps (bounded n (now lowers) (now uppers) (now ops) (now kept)) (now numbers) (now doubles) col row ⌝ }
+    ensures { λ _. ⌜ packed (now (numbers .exit)) (now (doubles .exit))
         ≡ basisStored (bounded n (now (lowers .entry)) (now (uppers .entry)) (now (ops .entry)) (now (kept .entry)))
-        (basisOf (now («basic_vars» .entry)) (now («nb_vars» .entry)) (now («nb_var_vals» .entry)) (now («nb_var_states» .entry)) (now («var_states» .entry))) col row leaving ⌝ }
+        (packed (now (numbers .entry)) (now (doubles .entry))) col row leaving ⌝ }
 {
-    let enters = nb_vars[col];
-    let leaves = basic_vars[row];
-    nb_var_vals[col] = leaving;
-    nb_var_states[col] = flags_at(n, lowers, uppers, ops, kept, leaves, leaving);
-    basic_vars[row] = enters;
-    var_states[enters] = cells::var_cell(n, rules::VarState::Basic(row));
-    nb_vars[col] = leaves;
-    var_states[leaves] = cells::var_cell(n, rules::VarState::NonBasic(col));
+    let enters = numbers[state::NB_VARS + col];
+    let leaves = numbers[state::BASIC_VARS + row];
+    doubles[state::NB_VAR_VALS + col] = leaving;
+    numbers[state::FLAGS + col] = flags_at(n, lowers, uppers, ops, kept, leaves, leaving);
+    numbers[state::BASIC_VARS + row] = enters;
+    numbers[state::VAR_STATES + enters] = cells::var_cell(n, rules::VarState::Basic(row));
+    numbers[state::NB_VARS + col] = leaves;
+    numbers[state::VAR_STATES + leaves] = cells::var_cell(n, rules::VarState::NonBasic(col));
 }
 
-// An exchange: the entering variable becomes basic in the row, and the leaving one stands at the entering place. The
-// eta column is not pushed here. The new objective is returned.
+// An exchange: the entering variable becomes basic in the row, the leaving one stands at the entering place, and the
+// eta column is pushed. `sq` is the column's sum of squares.
 pub fn store_exchange(
-    basic_vars: &mut [usize],
-    basic_var_vals: &mut [f64],
-    nb_vars: &mut [usize],
-    nb_var_vals: &mut [f64],
-    prices: &mut [f64],
-    norms: &mut [f64],
-    nb_var_states: &mut [u8],
-    var_states: &mut [usize],
+    numbers: &mut [usize],
+    doubles: &mut [f64],
+    at: state::Tally,
     n: usize,
     lowers: &[f64],
     uppers: &[f64],
@@ -250,28 +272,21 @@ pub fn store_exchange(
     row_count: usize,
     helper: &[f64; doubles::PLACES],
     sq: f64,
-    objective: f64,
     e: rules::Entering,
-    value: f64,
-    diff: f64,
-    row: usize,
-    pivot: f64,
-    leaving: f64,
-) -> f64
-    requires { ⌜ Listing (length (now «basic_var_vals»)) count (now list) × ((m : List Bool) → sq ≡ sqNorm (sv (now values) m (now list) count)) ⌝ }
-    requires { ⌜ Listing (length (now prices)) «row_count» (now «row_list») × Listing (length (now norms)) «row_count» (now «row_list») ⌝ }
-    requires { ⌜ Swaps (bounded n (now lowers) (now uppers) (now ops) (now kept)) (basisOf (now «basic_vars») (now «nb_vars») (now «nb_var_vals») (now «nb_var_states») (now «var_states»)) (e .col) row ⌝ }
-    ensures { λ r. ⌜ ((m rm : List Bool) (p : Pat) (h : Etas) (k i : ℕ) → stateOf (workspaceOf (now («basic_vars» .exit)) (now («basic_var_vals» .exit)) (now («nb_vars» .exit)) (now («nb_var_vals» .exit))
-        (now (prices .exit)) (now (norms .exit)) (now («nb_var_states» .exit)) (now («var_states» .exit)) (pushEta (sv (now (values .entry)) m (now (list .entry)) count) row pivot k h)) (suc k) r (suc i)
+    x: state::Exchange,
+) -> state::Tally
+    requires { ⌜ Swaps (bounded n (now lowers) (now uppers) (now ops) (now kept)) (now numbers) (now doubles) (e .col) (x .row) ⌝ }
+    requires { ⌜ Room (packed (now numbers) (now doubles) .etas) (at .«eta_count») count × (at .steps < maxBudget) ⌝ }
+    requires { ⌜ Listing maxRows count (now list) × ((m : List Bool) → sq ≡ sqNorm (sv (now values) m (now list) count)) × Listing maxColumns «row_count» (now «row_list») ⌝ }
+    ensures { λ r. ⌜ ((m rm : List Bool) (p : Pat) → stateAt (now (numbers .exit)) (now (doubles .exit)) r
         ≡ exchanged (bounded n (now (lowers .entry)) (now (uppers .entry)) (now (ops .entry)) (now (kept .entry)))
-        (stateOf (workspaceOf (now («basic_vars» .entry)) (now («basic_var_vals» .entry)) (now («nb_vars» .entry)) (now («nb_var_vals» .entry))
-        (now (prices .entry)) (now (norms .entry)) (now («nb_var_states» .entry)) (now («var_states» .entry)) h) k objective i)
-        e (sv (now (values .entry)) m (now (list .entry)) count) (sv (now («row_values» .entry)) rm (now («row_list» .entry)) «row_count») (svOf (now (helper .entry)) p) value diff row pivot leaving) ⌝ }
+        (stateAt (now (numbers .entry)) (now (doubles .entry)) at) e (sv (now (values .entry)) m (now (list .entry)) count)
+        (sv (now («row_values» .entry)) rm (now («row_list» .entry)) «row_count») (svOf (now (helper .entry)) p) (x .value) (x .diff) (x .row) (x .pivot) (x .leaving)) ⌝ }
 {
+    let col = e.col;
+    let row = x.row;
     store_numbers(
-        basic_var_vals,
-        prices,
-        norms,
+        doubles,
         values,
         list,
         count,
@@ -281,18 +296,11 @@ pub fn store_exchange(
         helper,
         sq,
         e,
-        value,
-        diff,
-        row,
-        pivot,
+        x,
     );
-    let col = e.col;
     store_basis(
-        basic_vars,
-        nb_vars,
-        nb_var_vals,
-        nb_var_states,
-        var_states,
+        numbers,
+        doubles,
         n,
         lowers,
         uppers,
@@ -300,7 +308,13 @@ pub fn store_exchange(
         kept,
         col,
         row,
-        leaving,
+        x.leaving,
     );
-    new_numbers::new_objective(objective, e, diff)
+    let columns = at.eta_count;
+    eta_store::push_eta(numbers, doubles, columns, values, list, count, row, x.pivot);
+    state::Tally {
+        eta_count: columns + 1,
+        objective: new_numbers::new_objective(at.objective, e, x.diff),
+        steps: at.steps + 1,
+    }
 }

@@ -8,10 +8,9 @@ use Rattle.rules.specs.declared.Entering.{Entering}
 use Rattle.cells.proofs.Parts.{boundsOf}
 use Rattle.choose.proofs.Fits.{sides}
 use Rattle.ratio.specs.Lent.{Stepping}
-use Rattle.ratio.proofs.Parts.{steppingOf}
 
 module _ {P : Problem} {s : State} (f : ProblemFits P) (g : Fits P s) where
-  pub stepping : {e : Entering} {c : Sv} → e .col < nOf P → Vector (mOf P) c → Stepping (boundsOf P) (steppingOf (s .ws)) e (c .pat .list) (c .pat .count)
+  pub stepping : {e : Entering} {c : Sv} → e .col < nOf P → Vector (mOf P) c → Stepping (boundsOf P) (s .ws) e (c .pat .list) (c .pat .count)
   stepping l v =
       record {
         sides = sides f;

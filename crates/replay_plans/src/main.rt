@@ -13,9 +13,9 @@ const ENTRIES: usize = doubles::MAX_ENTRIES + 16;
 
 const VALUES: usize = doubles::VARS + 32;
 
-const STORE: usize = doubles::ETA_COLUMNS + 16;
+const NUMBERS: usize = state::NUMBERS + 16;
 
-const STORE_ENTRIES: usize = doubles::ETA_ENTRIES + 16;
+const DOUBLES: usize = state::DOUBLES + 16;
 
 // What a line shows after the answer.
 enum Shown {
@@ -124,68 +124,51 @@ fn starts_shown(etas: usize) -> usize {
     words::least(etas, doubles::ETA_COLUMNS) + 1
 }
 
-fn show_state(
-    columns: usize,
-    kept: &[usize; ROWS],
-    basic_vars: &[usize; ROWS],
-    basic_var_vals: &[f64; ROWS],
-    nb_vars: &[usize; COLUMNS],
-    nb_var_vals: &[f64; COLUMNS],
-    nb_var_obj_coeffs: &[f64; COLUMNS],
-    primal_edge_sq_norms: &[f64; COLUMNS],
-    nb_var_states: &[u8; COLUMNS],
-    eta_leaving: &[usize; STORE],
-    eta_starts: &[usize; STORE],
-    eta_rows: &[usize; STORE_ENTRIES],
-    eta_coeffs: &[f64; STORE_ENTRIES],
-    counts: &[usize; doubles::COUNT_CELLS],
-) {
-    let m = counts[0];
-    let etas = counts[1];
-    let entries = counts[2];
+fn show_state(columns: usize, numbers: &[usize; NUMBERS], doubles: &[f64; DOUBLES]) {
+    let m = numbers[state::COUNTS];
+    let etas = numbers[state::COUNTS + 1];
+    let entries = numbers[state::COUNTS + 2];
     words::text(b" | kept");
-    words::places(kept, m);
+    words::places(&numbers[state::KEPT..state::KEPT_END], m);
     words::text(b" basic");
-    words::places(basic_vars, m);
+    words::places(&numbers[state::BASIC_VARS..state::BASIC_VARS_END], m);
     words::text(b" nonbasic");
-    words::places(nb_vars, columns);
+    words::places(&numbers[state::NB_VARS..state::NB_VARS_END], columns);
     words::text(b" bval");
-    words::doubles(basic_var_vals, m);
+    words::doubles(
+        &doubles[state::BASIC_VAR_VALS..state::BASIC_VAR_VALS_END],
+        m,
+    );
     words::text(b" nval");
-    words::doubles(nb_var_vals, columns);
+    words::doubles(
+        &doubles[state::NB_VAR_VALS..state::NB_VAR_VALS_END],
+        columns,
+    );
     words::text(b" price");
-    words::doubles(nb_var_obj_coeffs, columns);
+    words::doubles(&doubles[state::PRICES..state::PRICES_END], columns);
     words::text(b" norm");
-    words::doubles(primal_edge_sq_norms, columns);
+    words::doubles(&doubles[state::NORMS..state::NORMS_END], columns);
     words::text(b" flags");
-    words::bytes(nb_var_states, columns);
+    words::places(&numbers[state::FLAGS..state::FLAGS_END], columns);
     words::text(b" etarow");
-    words::places(eta_leaving, etas);
+    words::places(&numbers[state::ETA_LEAVING..state::ETA_LEAVING_END], etas);
     words::text(b" etaptr");
-    words::places(eta_starts, starts_shown(etas));
+    words::places(
+        &numbers[state::ETA_STARTS..state::ETA_STARTS_END],
+        starts_shown(etas),
+    );
     words::text(b" etaidx");
-    words::places(eta_rows, entries);
+    words::places(&numbers[state::ETA_ROWS..state::ETA_ROWS_END], entries);
     words::text(b" etaval");
-    words::doubles(eta_coeffs, entries);
+    words::doubles(&doubles[state::ETA_COEFFS..state::ETA_COEFFS_END], entries);
 }
 
 fn show(
     answer: Answer,
     columns: usize,
     values: &[f64; VALUES],
-    kept: &[usize; ROWS],
-    basic_vars: &[usize; ROWS],
-    basic_var_vals: &[f64; ROWS],
-    nb_vars: &[usize; COLUMNS],
-    nb_var_vals: &[f64; COLUMNS],
-    nb_var_obj_coeffs: &[f64; COLUMNS],
-    primal_edge_sq_norms: &[f64; COLUMNS],
-    nb_var_states: &[u8; COLUMNS],
-    eta_leaving: &[usize; STORE],
-    eta_starts: &[usize; STORE],
-    eta_rows: &[usize; STORE_ENTRIES],
-    eta_coeffs: &[f64; STORE_ENTRIES],
-    counts: &[usize; doubles::COUNT_CELLS],
+    numbers: &[usize; NUMBERS],
+    doubles: &[f64; DOUBLES],
 ) {
     let shown = show_answer(answer);
     match shown {
@@ -194,24 +177,9 @@ fn show(
             return;
         }
         Shown::State => words::text(b" 0"),
-        Shown::ValuesToo => show_values(columns, counts[0], values),
+        Shown::ValuesToo => show_values(columns, numbers[state::COUNTS], values),
     }
-    show_state(
-        columns,
-        kept,
-        basic_vars,
-        basic_var_vals,
-        nb_vars,
-        nb_var_vals,
-        nb_var_obj_coeffs,
-        primal_edge_sq_norms,
-        nb_var_states,
-        eta_leaving,
-        eta_starts,
-        eta_rows,
-        eta_coeffs,
-        counts,
-    );
+    show_state(columns, numbers, doubles);
 }
 
 fn solved(
@@ -230,21 +198,8 @@ fn solved(
     rhs: &[f64],
 ) {
     let mut values = [0.0; VALUES];
-    let mut kept = [0usize; ROWS];
-    let mut basic_vars = [0usize; ROWS];
-    let mut basic_var_vals = [0.0; ROWS];
-    let mut nb_vars = [0usize; COLUMNS];
-    let mut nb_var_vals = [0.0; COLUMNS];
-    let mut nb_var_obj_coeffs = [0.0; COLUMNS];
-    let mut primal_edge_sq_norms = [0.0; COLUMNS];
-    let mut nb_var_states = [0u8; COLUMNS];
-    let mut var_states = [0usize; VALUES];
-    let mut eta_leaving = [0usize; STORE];
-    let mut eta_starts = [0usize; STORE];
-    let mut eta_rows = [0usize; STORE_ENTRIES];
-    let mut eta_coeffs = [0.0; STORE_ENTRIES];
-    let mut counts = [0usize; doubles::COUNT_CELLS];
-    let mut objective = [0.0; 1];
+    let mut numbers = [0usize; NUMBERS];
+    let mut doubles = [0.0; DOUBLES];
     let answer = solve::solve(
         columns,
         rows,
@@ -260,40 +215,10 @@ fn solved(
         ops,
         rhs,
         &mut values,
-        &mut kept,
-        &mut basic_vars,
-        &mut basic_var_vals,
-        &mut nb_vars,
-        &mut nb_var_vals,
-        &mut nb_var_obj_coeffs,
-        &mut primal_edge_sq_norms,
-        &mut nb_var_states,
-        &mut var_states,
-        &mut eta_leaving,
-        &mut eta_starts,
-        &mut eta_rows,
-        &mut eta_coeffs,
-        &mut counts,
-        &mut objective,
+        &mut numbers,
+        &mut doubles,
     );
-    show(
-        answer,
-        columns,
-        &values,
-        &kept,
-        &basic_vars,
-        &basic_var_vals,
-        &nb_vars,
-        &nb_var_vals,
-        &nb_var_obj_coeffs,
-        &primal_edge_sq_norms,
-        &nb_var_states,
-        &eta_leaving,
-        &eta_starts,
-        &eta_rows,
-        &eta_coeffs,
-        &counts,
-    );
+    show(answer, columns, &values, &numbers, &doubles);
     words::end_line();
 }
 

@@ -1,23 +1,26 @@
 -- What the calls of `solve` ask once 1 to 5 have passed, and how each way through it ends. No contract cites this file. Assumes nothing.
 use mathlib.Core.Path.{_≡_, sym, ap, _∙_, subst}
-use mathlib.Core.List.{List, []}
+use mathlib.Core.List.{List, [], _++_}
 use Prim.Native.Nat.{ℕ, _<_, _≤_}
 use native.Mathlib.Omega.{arith}
-use lib.ListN.{length, take, replicate}
+use lib.ListN.{length, take, drop, replicate}
 use lib.Seq.{length-take-le}
 use lib.Ieee.{Float}
 use Rattle.doubles.specs.Num.{f0}
 use Rattle.doubles.specs.Limits.{maxColumns, maxRows}
-use Rattle.rules.specs.Plan.{Plan, Problem, Memory, problemOf, keptRows, nOf, mOf}
-use Rattle.rules.specs.Parts.{planOf, problem, memoryOf}
+use Rattle.rules.specs.Plan.{Plan, Problem, Memory, Workspace, problemOf, keptRows, nOf, mOf}
+use Rattle.rules.specs.Parts.{planOf, problem, stateOf}
 use Rattle.rules.specs.Start.{startState}
 use Rattle.rules.specs.Step.{Ended, ended}
-use Rattle.rules.specs.Solve.{solved, close, endOf, solvePlan}
+use Rattle.rules.specs.Solve.{Solved, memoryAfter, close, endOf, solvePlan}
 use Rattle.rules.specs.Invariant.{ProblemFits, MemoryFits, Lengths, Fits}
 use Rattle.rules.specs.declared.Answer.{Answer}
 use Rattle.rules.proofs.Lengths.{memory-fits, lent-long}
 use Rattle.rules.proofs.Start.{start-fits, passed-fits}
 use Rattle.rules.proofs.Steps.{steps-fit, end-reached}
+use Rattle.state.specs.Packed.{packed, stateAt, keptAt, objectiveAt}
+use Rattle.state.specs.Memory.{numbersEnd, doublesEnd, memoryIn, Past, pastOf, handed, answered}
+use Rattle.state.proofs.Memory.{front-packed, front-sized, front-same, after-sized, after-long, after-memory, after-past}
 use Rattle.plan.specs.Lent.{rowsOf, Front}
 use Rattle.plan.specs.declared.Refusal.the-variants.{By, Nothing}
 use Rattle.plan.proofs.Parts.{kept-part}
@@ -32,14 +35,18 @@ use Rattle.gateway.specs.Gate.{refused, filled, refusalBy, begun, begunBy}
 use Rattle.gateway.specs.declared.Begun.{Begun}
 use Rattle.gateway.specs.declared.Begun.the-variants.{Refused, On}
 use Rattle.gateway.proofs.Gate.{Accepted, accepted, solved-by, begun-part, start-refused, start-filled}
+use Rattle.gateway.proofs.Long.{arrays-long}
+use Rattle.run.specs.Ran.{ranBy}
+use Rattle.run.specs.declared.Ran.{Ran}
 use Rattle.launch.specs.Launched.{firstState, launched, Launches}
 use Rattle.launch.proofs.Laws.{launchedBy, launched-end, fits-launch}
 use Rattle.close.specs.Lent.{Closes}
-use Rattle.close.proofs.Laws.{closedBy, lent, close-whole, fits-close}
+use Rattle.close.proofs.Laws.{close-whole, fits-close}
 
 -- 1 to 5
-pub refuses : (p : Plan) (m : Memory) (a : Answer) → By a ≡ refusalBy p m → solved a m ≡ solvePlan p m
-refuses p m a e = ap (solvedBy p m) e ∙ sym (solved-by p m)
+pub refuses : (p : Plan) (v : List Float) (N : List ℕ) (D : List Float) (a : Answer) → By a ≡ refusalBy p (memoryIn v N D)
+    → answered a v N D ≡ handed (solvePlan p (memoryIn v N D)) (pastOf N D)
+refuses p v N D a e = let m = memoryIn v N D in ap (λ (r : Solved). handed r (pastOf N D)) (ap (solvedBy p m) e ∙ sym (solved-by p m))
 
 -- what `begin` answered, with the scratch as it left it
 module _ (r : Begun) (xs slacks norms : List Float) (g : Gate.Scratch) (e : begunBy r xs slacks norms ≡ g) where
@@ -53,7 +60,10 @@ module _ (r : Begun) (xs slacks norms : List Float) (g : Gate.Scratch) (e : begu
 abbrev pub blank : Numbers
 blank = numbers (replicate maxColumns f0) (replicate maxRows f0) (replicate maxColumns f0) f0
 
-module _ (p : Plan) (m : Memory) (ok : Nothing ≡ refusalBy p m) where
+module _ (p : Plan) (v : List Float) (N : List ℕ) (D : List Float) (ok : Nothing ≡ refusalBy p (memoryIn v N D)) where
+  abbrev m : Memory
+  m = memoryIn v N D
+
   passed : Accepted p m
   passed = accepted p m ok
 
@@ -62,6 +72,12 @@ module _ (p : Plan) (m : Memory) (ok : Nothing ≡ refusalBy p m) where
 
   lent-all : MemoryFits p m
   lent-all = memory-fits p m (passed .passes-1)
+
+  long : (numbersEnd ≤ length N) × (doublesEnd ≤ length D)
+  long = arrays-long p v N D (fits-all .plan .columns-most) (fits-all .plan .rows-most) (passed .lent)
+
+  pub fronts-inside : (keptAt ≤ length N) × (objectiveAt ≤ length D)
+  fronts-inside = (omega (arith, long .0), omega (arith, long .1))
 
   from-six : fromSix p m ≡ solvePlan p m
   from-six = ap (solvedBy p m) ok ∙ sym (solved-by p m)
@@ -105,36 +121,58 @@ module _ (p : Plan) (m : Memory) (ok : Nothing ≡ refusalBy p m) where
     begun-whole = sym (begun-part P blank) ∙ ap (λ (Q : Problem). begun Q blank) same
 
     -- 6 and 7
-    pub start-refuses : (a : Answer) → refused a ≡ begun lentStart blank → solved a m ≡ solvePlan p m
-    start-refuses a e = sym (start-refused p m blank a (e ∙ begun-whole)) ∙ from-six
+    pub start-refuses : (a : Answer) → refused a ≡ begun lentStart blank → answered a v N D ≡ handed (solvePlan p m) (pastOf N D)
+    start-refuses a e = ap (λ (r : Solved). handed r (pastOf N D)) (sym (start-refused p m blank a (e ∙ begun-whole)) ∙ from-six)
 
     module _ (u : Numbers) (e : filled u ≡ begun lentStart blank) where
       reckons : u ≡ reckoned P blank
       reckons = start-filled p m blank u (e ∙ begun-whole) .0 ∙ ap (λ (Q : Problem). reckoned Q blank) (sym same)
 
-      pub launch-asks : Launches (launchedBy P) (p .budget) u (m .ws)
-      launch-asks = fits-launch P m blank u reckons fits lengths scratch
+      pub launch-asks : Launches (launchedBy P) (p .budget) u (take keptAt N) (take objectiveAt D)
+      launch-asks =
+          fits-launch P blank u reckons fits scratch (take keptAt N) (take objectiveAt D) (front-sized N D (long .0) (long .1))
+          (subst (Lengths P) (sym (front-same N D (long .0) (long .1))) lengths)
 
-      module _ (r : Ended) (w : r ≡ launched (launchedBy P) (p .budget) (firstState (launchedBy P) u (m .ws))) where
-        ends : r ≡ endOf P m
-        ends = launched-end P m blank u reckons r w
+      -- the launch left M and E
+      module _ (r : Ran) (M : List ℕ) (E : List Float) (q : length M ≡ length (take keptAt N)) (x : length E ≡ length (take objectiveAt D))
+          (w : ranBy r M E ≡ launched (launchedBy P) (p .budget) (firstState (launchedBy P) u (packed (take keptAt N) (take objectiveAt D)))) where
+        abbrev M+ : List ℕ
+        M+ = M ++ drop keptAt N
 
-        ends-fit : Fits P (r .state)
-        ends-fit = subst (λ (e : Ended). Fits P (e .state)) (sym ends) (steps-fit P (startState P (m .ws)) fits (start-fits P (m .ws) lengths) (end-reached P m .by-steps))
+        abbrev E+ : List Float
+        E+ = E ++ drop objectiveAt D
 
-        pub close-asks : Closes (checkedBy P) (memoryOf (m .values) (m .kept) (closedBy P m (r .why) (r .state)) (m .counts) (m .objective)) (lent P m (r .why) (r .state))
+        ends : ranBy r M E ≡ endOf P m
+        ends =
+            launched-end P blank u reckons m (ranBy r M E)
+            (w ∙ ap (λ (W : Workspace). launched (launchedBy P) (p .budget) (firstState (launchedBy P) u W)) (front-same N D (long .0) (long .1)))
+
+        whole : ended (r .why) (stateAt M+ E+ (r .at)) ≡ ranBy r M E
+        whole = ap (λ (W : Workspace). ended (r .why) (stateOf W (r .at .«eta_count») (r .at .objective) (r .at .steps))) (front-packed M (drop keptAt N) E (drop objectiveAt D) (after-sized N D (long .0) (long .1) M E q x))
+
+        ends-fit : Fits P (stateAt M+ E+ (r .at))
+        ends-fit = subst (λ (e : Ended). Fits P (e .state)) (sym (whole ∙ ends)) (steps-fit P (startState P (m .ws)) fits (start-fits P (m .ws) lengths) (end-reached P m .by-steps))
+
+        pub close-asks : Closes (checkedBy P) v M+ E+ (r .at)
         close-asks =
-            let a = lent-all in
-            let b = fits .few in
-            fits-close P m (r .why) (r .state) fits ends-fit (omega (arith, a .values-long, b)) (omega (arith, a .kept-long, b)) (a .counts-long) (a .objective-long)
+            let l = after-long N D (long .0) (long .1) M E q x in
+            fits-close P fits v M+ E+ (r .at) ends-fit (omega (arith, lent-all .values-long, fits .few)) (omega (arith, long .0, l .0)) (omega (arith, long .1, l .1))
 
-        pub solves : {a : Answer} {values : List Float} {kept counts : List ℕ} {objective : List Float}
-            → solved a (memoryOf values kept (closedBy P m (r .why) (r .state)) counts objective)
-            ≡ close (checkedBy P) (memoryOf (m .values) (m .kept) (closedBy P m (r .why) (r .state)) (m .counts) (m .objective)) (ended (r .why) (lent P m (r .why) (r .state)))
-            → solved a (memoryOf values kept (r .state .ws) counts objective) ≡ solvePlan p m
+        -- the end reads the values, the kept rows, the counts and the objective of the memory
+        closed : (z : Ended) → close P (memoryIn v M+ E+) z ≡ close P m z
+        unfolding close memoryAfter
+        closed z = ap (λ (k : Memory). close P k z) (after-memory N D (long .0) (long .1) M E q x v)
+
+        pub solves : {a : Answer} {values : List Float} {L : List ℕ} {F : List Float}
+            → answered a values L F ≡ handed (close (checkedBy P) (memoryIn v M+ E+) (ended (r .why) (stateAt M+ E+ (r .at)))) (pastOf M+ E+)
+            → answered a values L F ≡ handed (solvePlan p m) (pastOf N D)
         solves c =
-            close-whole P m (r .why) (r .state) c
-            ∙ ap (close P m) ends
+            c
+            ∙ ap (λ (t : Past). handed (close (checkedBy P) (memoryIn v M+ E+) (ended (r .why) (stateAt M+ E+ (r .at)))) t) (after-past N D (long .0) (long .1) M E q x)
+            ∙ ap (λ (t : Solved). handed t (pastOf N D))
+            (close-whole P (memoryIn v M+ E+) (ended (r .why) (stateAt M+ E+ (r .at)))
+            ∙ closed (ended (r .why) (stateAt M+ E+ (r .at)))
+            ∙ ap (close P m) (whole ∙ ends)
             ∙ ap (λ (Q : Problem). close Q m (endOf Q m)) same
             ∙ sym (start-filled p m blank u (e ∙ begun-whole) .1)
-            ∙ from-six
+            ∙ from-six)

@@ -1,10 +1,11 @@
 -- What `solve` promises: the file to start from. Its contract is one equation: from any plan and any lent memory, the answer and the memory afterwards are those of
--- `solvePlan`. Here each theorem of `rules` is said of any answer and memory r that this equation allows. Assumes nothing.
+-- `solvePlan`, and the cells past the sections stay. Here each theorem of `rules` is said of any answer and memory r that this equation allows. Assumes nothing.
 use mathlib.Core.Path.{_≡_, refl, sym, ap, _∙_, subst}
 use mathlib.Core.Bool.{true}
 use mathlib.Core.Logic.{_↔_, _⊎_}
 use Prim.Native.Nat.{ℕ, _*_, _<_, _≤_}
-use lib.Ieee.{le}
+use mathlib.Core.List.{List}
+use lib.Ieee.{Float, le}
 use Rattle.doubles.specs.Num.{eps, size}
 use Rattle.rules.specs.Plan.{Plan, Memory, State, problemOf, mOf}
 use Rattle.rules.specs.Start.{startState, dualFeasible}
@@ -13,13 +14,16 @@ use Rattle.rules.specs.Basis.{etaUsed}
 use Rattle.rules.specs.Step.{Ended, ended}
 use Rattle.rules.specs.FinalCheck.{valuesOf, finalCheck}
 use Rattle.rules.specs.Answers.{Row as Told, asRow, numberOf}
-use Rattle.rules.specs.Solve.{Solved, checkedAnswer, answerOf, close, endOf, solvePlan}
+use Rattle.rules.specs.Solve.{Solved, solved, checkedAnswer, answerOf, close, endOf, solvePlan}
 use Rattle.rules.specs.Conditions.{Gives, NoneBelow, Refusal, reached, Passes, Ends, Line}
 use Rattle.rules.specs.Invariant.{Maps, Numbers}
 use Rattle.rules.specs.Steps.{Steps, RunsTo, LentTails, Ran}
+use Rattle.rules.specs.declared.Answer.{Answer}
 use Rattle.rules.specs.declared.Entering.{Entering}
 use Rattle.rules.specs.declared.Choice.the-variants.{Enters}
 use Rattle.rules.specs.declared.Stop.{Stop}
+use Rattle.state.specs.Memory.{memoryIn, pastOf, Handed, handed, answered}
+use Rattle.state.proofs.Memory.{cells-settle}
 use Rattle.rules.proofs.Refusals.{refusal-exact, refusal-says, six-never}
 use Rattle.rules.proofs.Answers.{at-once, end-exact, answer-exact, unbounded-priced, optimal-writes, values-left}
 use Rattle.rules.proofs.Steps.{steps-same}
@@ -28,6 +32,26 @@ use Rattle.rules.proofs.Ran.{solved-closes, solved-ran}
 -- what the contract of `solve` says of an answer and the memory afterwards
 abbrev pub Promised : Plan → Memory → Solved → Type 0
 Promised p m r = r ≡ solvePlan p m
+
+-- The memory is read out of the values and the two arrays: `solve` says this of the answer a and of what it leaves of
+-- them, w, M and E.
+module _ (p : Plan) (v : List Float) (N : List ℕ) (D : List Float) where
+  abbrev pub PromisedIn : Answer → List Float → List ℕ → List Float → Type 0
+  PromisedIn a w M E = answered a w M E ≡ handed (solvePlan p (memoryIn v N D)) (pastOf N D)
+
+  pub in-memory : {a : Answer} {w : List Float} {M : List ℕ} {E : List Float} → PromisedIn a w M E → Promised p (memoryIn v N D) (solved a (memoryIn w M E))
+  in-memory e = ap (λ (h : Handed). h .solved) e
+
+  -- 01: "cells past what is written never change": those past the sections
+  pub past-stays : {a : Answer} {w : List Float} {M : List ℕ} {E : List Float} → PromisedIn a w M E → pastOf M E ≡ pastOf N D
+  past-stays e = ap (λ (h : Handed). h .past) e
+
+  -- 01: "Any two results allowed by a promise are shown equal": the answer and every cell, of arrays of any length
+  pub cells-settled : {a b : Answer} {w x : List Float} {M L : List ℕ} {E F : List Float} → PromisedIn a w M E → PromisedIn b x L F
+      → (a ≡ b) × (w ≡ x) × (M ≡ L) × (E ≡ F)
+  cells-settled e f =
+      let q = e ∙ sym f in
+      (ap (λ (h : Handed). h .solved .answer) q, cells-settle (ap (λ (h : Handed). h .solved .memory) q) (ap (λ (h : Handed). h .past) q))
 
 -- no refusal
 abbrev pub NotRefused : Solved → Type 0

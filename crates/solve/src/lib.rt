@@ -1,7 +1,8 @@
 // The solver's public call: any bytes in, the answer of 01 and every lent cell out.
 ghost use mathlib.Core.Path.{_≡_};
-ghost use Rattle.rules.specs.Parts.{planOf, etasOf, workspaceOf, memoryOf};
-ghost use Rattle.rules.specs.Solve.{solved, solvePlan};
+ghost use Rattle.rules.specs.Parts.{planOf};
+ghost use Rattle.rules.specs.Solve.{solvePlan};
+ghost use Rattle.state.specs.Memory.{memoryIn, pastOf, handed, answered};
 
 // Refusals 1 to 7 change nothing: their numbers are reckoned here, in scratch. Then the run, and the end.
 pub fn solve(
@@ -19,30 +20,13 @@ pub fn solve(
     ops: &[u8],
     rhs: &[f64],
     values: &mut [f64],
-    kept: &mut [usize],
-    basic_vars: &mut [usize],
-    basic_var_vals: &mut [f64],
-    nb_vars: &mut [usize],
-    nb_var_vals: &mut [f64],
-    nb_var_obj_coeffs: &mut [f64],
-    primal_edge_sq_norms: &mut [f64],
-    nb_var_states: &mut [u8],
-    var_states: &mut [usize],
-    eta_leaving: &mut [usize],
-    eta_starts: &mut [usize],
-    eta_rows: &mut [usize],
-    eta_coeffs: &mut [f64],
-    counts: &mut [usize],
-    objective: &mut [f64],
+    numbers: &mut [usize],
+    doubles: &mut [f64],
 ) -> rules::Answer
-    ensures { λ r. ⌜ solved r (memoryOf (now (values .exit)) (now (kept .exit)) (workspaceOf (now («basic_vars» .exit)) (now («basic_var_vals» .exit)) (now («nb_vars» .exit)) (now («nb_var_vals» .exit))
-        (now («nb_var_obj_coeffs» .exit)) (now («primal_edge_sq_norms» .exit)) (now («nb_var_states» .exit)) (now («var_states» .exit))
-        (etasOf (now («eta_leaving» .exit)) (now («eta_starts» .exit)) (now («eta_rows» .exit)) (now («eta_coeffs» .exit)))) (now (counts .exit)) (now (objective .exit)))
-        ≡ solvePlan (planOf columns rows entries budget tolerance (now (costs .entry)) (now (lowers .entry)) (now (uppers .entry))
+    ensures { λ r. ⌜ answered r (now (values .exit)) (now (numbers .exit)) (now (doubles .exit))
+        ≡ handed (solvePlan (planOf columns rows entries budget tolerance (now (costs .entry)) (now (lowers .entry)) (now (uppers .entry))
         (now (starts .entry)) (now (cols .entry)) (now (coeffs .entry)) (now (ops .entry)) (now (rhs .entry)))
-        (memoryOf (now (values .entry)) (now (kept .entry)) (workspaceOf (now («basic_vars» .entry)) (now («basic_var_vals» .entry)) (now («nb_vars» .entry)) (now («nb_var_vals» .entry))
-        (now («nb_var_obj_coeffs» .entry)) (now («primal_edge_sq_norms» .entry)) (now («nb_var_states» .entry)) (now («var_states» .entry))
-        (etasOf (now («eta_leaving» .entry)) (now («eta_starts» .entry)) (now («eta_rows» .entry)) (now («eta_coeffs» .entry)))) (now (counts .entry)) (now (objective .entry))) ⌝ }
+        (memoryIn (now (values .entry)) (now (numbers .entry)) (now (doubles .entry)))) (pastOf (now (numbers .entry)) (now (doubles .entry))) ⌝ }
 {
     let refusal = gateway::refusal(
         columns,
@@ -59,27 +43,14 @@ pub fn solve(
         ops,
         rhs,
         values,
-        kept,
-        basic_vars,
-        basic_var_vals,
-        nb_vars,
-        nb_var_vals,
-        nb_var_obj_coeffs,
-        primal_edge_sq_norms,
-        nb_var_states,
-        var_states,
-        eta_leaving,
-        eta_starts,
-        eta_rows,
-        eta_coeffs,
-        counts,
-        objective,
+        numbers,
+        doubles,
     );
     if let plan::Refusal::By(answer) = refusal {
         return answer;
     }
-    let mut numbers = [0usize; doubles::MAX_ROWS];
-    let m = plan::keep_rows(rows, starts, &mut numbers);
+    let mut kept = [0usize; doubles::MAX_ROWS];
+    let m = plan::keep_rows(rows, starts, &mut kept);
     let mut xs = [0.0; doubles::MAX_COLUMNS];
     let mut slacks = [0.0; doubles::MAX_ROWS];
     let mut norms = [0.0; doubles::MAX_COLUMNS];
@@ -93,7 +64,7 @@ pub fn solve(
         coeffs,
         ops,
         rhs,
-        &numbers[..m],
+        &kept[..m],
         &mut xs,
         &mut slacks,
         &mut norms,
@@ -102,18 +73,8 @@ pub fn solve(
         gateway::Begun::Refused(answer) => answer,
         gateway::Begun::On(start) => {
             let ran = launch::launch(
-                basic_vars,
-                basic_var_vals,
-                nb_vars,
-                nb_var_vals,
-                nb_var_obj_coeffs,
-                primal_edge_sq_norms,
-                nb_var_states,
-                var_states,
-                eta_leaving,
-                eta_starts,
-                eta_rows,
-                eta_coeffs,
+                &mut numbers[..state::KEPT],
+                &mut doubles[..state::OBJECTIVE],
                 columns,
                 budget,
                 costs,
@@ -123,7 +84,7 @@ pub fn solve(
                 cols,
                 coeffs,
                 ops,
-                &numbers[..m],
+                &kept[..m],
                 &xs,
                 &slacks,
                 &norms,
@@ -140,19 +101,12 @@ pub fn solve(
                 coeffs,
                 ops,
                 rhs,
-                &numbers[..m],
-                var_states,
-                basic_var_vals,
-                nb_var_vals,
-                eta_starts,
+                &kept[..m],
                 why,
-                ran.eta_count,
-                ran.objective,
-                ran.steps,
+                ran.at,
                 values,
-                kept,
-                counts,
-                objective,
+                numbers,
+                doubles,
             )
         }
     }

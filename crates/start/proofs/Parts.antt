@@ -1,8 +1,6 @@
 -- The start's numbers of a problem are those of the parts that its functions are lent. Assumes nothing.
 use mathlib.Core.Path.{_≡_, refl}
-use mathlib.Core.List.{[]}
-use Rattle.rules.specs.Plan.{Problem, Workspace, nOf, column}
-use Rattle.rules.specs.Parts.{workspaceOf, etasOf}
+use Rattle.rules.specs.Plan.{Problem, nOf, column}
 use Rattle.rules.specs.Start.{startVals, startObjective, startSlack, startNorm}
 use Rattle.start.specs.Lent.{unruled}
 use Rattle.start.specs.Reckoned.{Numbers, reckoned}
@@ -13,8 +11,3 @@ unruledOf P = let p = P .plan in unruled (nOf P) (p .costs) (p .lowers) (p .uppe
 pub reckoned-part : (P : Problem) (s : Numbers) → reckoned P s ≡ reckoned (unruledOf P) s
 unfolding reckoned startVals startObjective startSlack startNorm column
 reckoned-part P s = refl
-
--- the workspace as `write_start` is lent it
-abbrev pub lentOf : Workspace → Workspace
-lentOf w =
-    workspaceOf (w .basicVars) (w .basicVarVals) (w .nbVars) (w .nbVarVals) (w .nbVarObjCoeffs) (w .primalEdgeSqNorms) (w .nbVarStates) (w .varStates) (etasOf [] (w .etas .starts) [] [])

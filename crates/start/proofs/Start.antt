@@ -14,14 +14,14 @@ use Rattle.sparse.specs.Scattered.{Within}
 use Rattle.rules.specs.Plan.{Plan, Problem, Etas, Workspace, nOf, mOf, rowCols, rowCoeffs, dot, dotTurn, slackMin, slackMax}
 use Rattle.rules.specs.Parts.{workspaceOf, etasOf, stateOf}
 use Rattle.rules.specs.Start.{startValAt, startVals, startObjective, objectiveTurn, startSlack, startNorm, startFlags, startWorkspace, startState, inBounds, passes6, passes7}
-use Rattle.rules.specs.Invariant.{ProblemFits, Lengths}
+use Rattle.rules.specs.Invariant.{ProblemFits}
 use Rattle.rules.proofs.Lists.{over-at, over-enough}
 use Rattle.plan.specs.Kept.{bare, RowReads}
 use Rattle.plan.proofs.Kept.{fits-read}
 use Rattle.start_values.specs.Lent.{costed}
-use Rattle.start.specs.Lent.{Reckonable, Scratch, Room}
+use Rattle.start.specs.Lent.{Reckonable, Scratch}
 use Rattle.start.specs.Reckoned.{Numbers, numbers, reckoned, allFinite, slacksInside, written}
-use Rattle.start.proofs.Parts.{unruledOf, lentOf, reckoned-part}
+use Rattle.start.proofs.Parts.{unruledOf, reckoned-part}
 
 -- two lists with the same first n cells
 pub record Same (n : ℕ) (xs ys : List Float) : Type 0 where
@@ -151,16 +151,10 @@ module _ (P : Problem) (s u : Numbers) (e : u ≡ reckoned (unruledOf P) s) wher
         norms-long = over-enough (nOf P) (startNorm P) (s .norms) (l .norms-long);
       })
 
-  -- the arrays that `write_start` was lent, with those of the store that it wasn't
-  pub start-is : (w : Workspace) {basicVars nbVars flags places starts : List ℕ} {basicVarVals nbVarVals prices norms : List Float}
-      → workspaceOf basicVars basicVarVals nbVars nbVarVals prices norms flags places (etasOf [] starts [] [])
-      ≡ written (nOf P) (mOf P) (P .plan .costs) (P .plan .lowers) (P .plan .uppers) (u .vals) (u .slacks) (u .norms) (lentOf w)
-      → stateOf (workspaceOf basicVars basicVarVals nbVars nbVarVals prices norms flags places (etasOf (w .etas .leaving) starts (w .etas .rows) (w .etas .coeffs))) 0 (u .objective) 0 ≡ startState P w
-  unfolding written
-  start-is w f =
-      ap (λ (v : Workspace). stateOf (workspaceOf (v .basicVars) (v .basicVarVals) (v .nbVars) (v .nbVarVals) (v .nbVarObjCoeffs) (v .primalEdgeSqNorms) (v .nbVarStates) (v .varStates)
-      (etasOf (w .etas .leaving) (v .etas .starts) (w .etas .rows) (w .etas .coeffs))) 0 (u .objective) 0) f
-      ∙ ap (λ (v : Numbers). stateOf (written (nOf P) (mOf P) (P .plan .costs) (P .plan .lowers) (P .plan .uppers) (v .vals) (v .slacks) (v .norms) w) 0 (v .objective) 0) whole
+  -- the workspace that `write_start` leaves is the start's
+  pub start-is : (w : Workspace) → stateOf (written (nOf P) (mOf P) (P .plan .costs) (P .plan .lowers) (P .plan .uppers) (u .vals) (u .slacks) (u .norms) w) 0 (u .objective) 0 ≡ startState P w
+  start-is w =
+      ap (λ (v : Numbers). stateOf (written (nOf P) (mOf P) (P .plan .costs) (P .plan .lowers) (P .plan .uppers) (v .vals) (v .slacks) (v .norms) w) 0 (v .objective) 0) whole
       ∙ first-state P s w
 
 -- ---- what the functions ask, of a problem that fits
@@ -178,18 +172,3 @@ module _ (P : Problem) (f : ProblemFits P) where
   -- of `passes_7`
   pub fits-ops : Within (length (P .plan .ops)) (mOf P) (P .kept)
   fits-ops = record { inside = λ r h. omega (arith, f .kept r h .inside, f .plan .ops-long) }
-
--- of `write_start`
-pub lengths-room : (P : Problem) (w : Workspace) → Lengths P w → Room (nOf P) (mOf P) (lentOf w)
-lengths-room P w l =
-    record {
-      basicVars-long = l .basicVars-long;
-      basicVarVals-long = l .basicVarVals-long;
-      nbVars-long = l .nbVars-long;
-      nbVarVals-long = l .nbVarVals-long;
-      nbVarObjCoeffs-long = l .nbVarObjCoeffs-long;
-      primalEdgeSqNorms-long = l .primalEdgeSqNorms-long;
-      nbVarStates-long = l .nbVarStates-long;
-      varStates-long = l .varStates-long;
-      starts-long = omega (arith, l .starts-long);
-    }

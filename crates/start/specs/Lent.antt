@@ -1,12 +1,12 @@
 -- The parts of a problem that a function is lent, the others empty, and what the functions ask of them. Assumes nothing.
 use mathlib.Core.List.{List, []}
-use Prim.Native.Nat.{ℕ, _+_, _<_, _≤_}
+use Prim.Native.Nat.{ℕ, _≤_}
 use lib.ListN.{length}
 use lib.Ieee.{Float}
 use Rattle.doubles.specs.Num.{f0}
 use Rattle.doubles.specs.Limits.{maxColumns, maxRows}
 use Rattle.sparse.specs.Scattered.{Within}
-use Rattle.rules.specs.Plan.{Problem, Workspace, nOf, mOf}
+use Rattle.rules.specs.Plan.{Problem, nOf, mOf}
 use Rattle.rules.specs.Parts.{planOf, problem}
 use Rattle.plan.specs.Kept.{bare, RowsRead}
 use Rattle.start_values.specs.Lent.{Columns}
@@ -28,15 +28,3 @@ pub record Scratch (n m : ℕ) (xs slacks norms : List Float) : Type 0 where
   pub vals-long : n ≤ length xs
   pub slacks-long : m ≤ length slacks
   pub norms-long : n ≤ length norms
-
--- and so has what is written
-pub record Room (n m : ℕ) (w : Workspace) : Type 0 where
-  pub basicVars-long : m ≤ length (w .basicVars)
-  pub basicVarVals-long : m ≤ length (w .basicVarVals)
-  pub nbVars-long : n ≤ length (w .nbVars)
-  pub nbVarVals-long : n ≤ length (w .nbVarVals)
-  pub nbVarObjCoeffs-long : n ≤ length (w .nbVarObjCoeffs)
-  pub primalEdgeSqNorms-long : n ≤ length (w .primalEdgeSqNorms)
-  pub nbVarStates-long : n ≤ length (w .nbVarStates)
-  pub varStates-long : n + m ≤ length (w .varStates)
-  pub starts-long : 0 < length (w .etas .starts)

@@ -11,10 +11,10 @@ ghost use Rattle.doubles.specs.Loop.{table};
 ghost use Rattle.doubles.specs.Lists.{_!_, over};
 ghost use Rattle.sparse.specs.Scattered.{Within};
 ghost use Rattle.rules.specs.Plan.{slackMin, slackMax};
-ghost use Rattle.rules.specs.Parts.{workspaceOf, etasOf};
 ghost use Rattle.rules.specs.Start.{startFlags, inBounds};
+ghost use Rattle.state.specs.Packed.{packed, Sized};
 ghost use Rattle.start_values.specs.Lent.{costed, Columns};
-ghost use Rattle.start.specs.Lent.{unruled, Reckonable, Scratch, Room};
+ghost use Rattle.start.specs.Lent.{unruled, Reckonable, Scratch};
 ghost use Rattle.start.specs.Reckoned.{numbers, reckoned, allFinite, slacksInside, written};
 
 // Everything that the start reckons. Its objective is handed back.
@@ -104,7 +104,7 @@ fn count_from(first: usize, n: usize, to: &mut [usize])
     }
 }
 
-fn write_flags(n: usize, lowers: &[f64], uppers: &[f64], xs: &[f64], flags: &mut [u8])
+fn write_flags(n: usize, lowers: &[f64], uppers: &[f64], xs: &[f64], flags: &mut [usize])
     requires { ⌜ (n ≤ length (now lowers)) × (n ≤ length (now uppers)) × (n ≤ length (now xs)) × (n ≤ length (now flags)) ⌝ }
     ensures { λ _. ⌜ now (flags .exit) ≡ over (table n (startFlags (costed n [] (now (lowers .entry)) (now (uppers .entry))) (now (xs .entry)))) (now (flags .entry)) ⌝ }
 {
@@ -117,7 +117,7 @@ fn write_flags(n: usize, lowers: &[f64], uppers: &[f64], xs: &[f64], flags: &mut
     }
 }
 
-// The first state over the fronts of what is lent, from the numbers in scratch. "Columns are non-basic in their order,
+// The first state over the fronts of its sections, from the numbers in scratch. "Columns are non-basic in their order,
 // and slacks basic in theirs, so the cell of variable v is v"; the eta store is empty.
 pub fn write_start(
     n: usize,
@@ -128,32 +128,40 @@ pub fn write_start(
     xs: &[f64; doubles::MAX_COLUMNS],
     slacks: &[f64; doubles::MAX_ROWS],
     norms: &[f64; doubles::MAX_COLUMNS],
-    basic_vars: &mut [usize],
-    basic_var_vals: &mut [f64],
-    nb_vars: &mut [usize],
-    nb_var_vals: &mut [f64],
-    nb_var_obj_coeffs: &mut [f64],
-    primal_edge_sq_norms: &mut [f64],
-    nb_var_states: &mut [u8],
-    var_states: &mut [usize],
-    eta_starts: &mut [usize],
+    numbers: &mut [usize],
+    doubles: &mut [f64],
 )
     requires { ⌜ (n ≤ maxColumns) × (m ≤ maxRows) × Columns n (now costs) (now lowers) (now uppers) × Scratch n m (now xs) (now slacks) (now norms) ⌝ }
-    requires { ⌜ Room n m (workspaceOf (now «basic_vars») (now «basic_var_vals») (now «nb_vars») (now «nb_var_vals») (now «nb_var_obj_coeffs»)
-        (now «primal_edge_sq_norms») (now «nb_var_states») (now «var_states») (etasOf [] (now «eta_starts») [] [])) ⌝ }
-    ensures { λ _. ⌜ workspaceOf (now («basic_vars» .exit)) (now («basic_var_vals» .exit)) (now («nb_vars» .exit)) (now («nb_var_vals» .exit)) (now («nb_var_obj_coeffs» .exit))
-        (now («primal_edge_sq_norms» .exit)) (now («nb_var_states» .exit)) (now («var_states» .exit)) (etasOf [] (now («eta_starts» .exit)) [] [])
+    requires { ⌜ Sized (now numbers) (now doubles) ⌝ }
+    ensures { λ _. ⌜ packed (now (numbers .exit)) (now (doubles .exit))
         ≡ written n m (now (costs .entry)) (now (lowers .entry)) (now (uppers .entry)) (now (xs .entry)) (now (slacks .entry)) (now (norms .entry))
-        (workspaceOf (now («basic_vars» .entry)) (now («basic_var_vals» .entry)) (now («nb_vars» .entry)) (now («nb_var_vals» .entry)) (now («nb_var_obj_coeffs» .entry))
-        (now («primal_edge_sq_norms» .entry)) (now («nb_var_states» .entry)) (now («var_states» .entry)) (etasOf [] (now («eta_starts» .entry)) [] [])) ⌝ }
+        (packed (now (numbers .entry)) (now (doubles .entry))) ⌝ }
 {
-    count_from(n, m, basic_vars);
-    copy_front(m, slacks, basic_var_vals);
-    count_from(0, n, nb_vars);
-    copy_front(n, xs, nb_var_vals);
-    copy_front(n, costs, nb_var_obj_coeffs);
-    copy_front(n, norms, primal_edge_sq_norms);
-    write_flags(n, lowers, uppers, xs, nb_var_states);
-    count_from(0, n + m, var_states);
-    eta_starts[0] = 0;
+    count_from(n, m, &mut numbers[state::BASIC_VARS..state::BASIC_VARS_END]);
+    copy_front(
+        m,
+        slacks,
+        &mut doubles[state::BASIC_VAR_VALS..state::BASIC_VAR_VALS_END],
+    );
+    count_from(0, n, &mut numbers[state::NB_VARS..state::NB_VARS_END]);
+    copy_front(
+        n,
+        xs,
+        &mut doubles[state::NB_VAR_VALS..state::NB_VAR_VALS_END],
+    );
+    copy_front(n, costs, &mut doubles[state::PRICES..state::PRICES_END]);
+    copy_front(n, norms, &mut doubles[state::NORMS..state::NORMS_END]);
+    write_flags(
+        n,
+        lowers,
+        uppers,
+        xs,
+        &mut numbers[state::FLAGS..state::FLAGS_END],
+    );
+    count_from(
+        0,
+        n + m,
+        &mut numbers[state::VAR_STATES..state::VAR_STATES_END],
+    );
+    numbers[state::ETA_STARTS] = 0;
 }

@@ -1,69 +1,75 @@
 // One step from the entering column on: its solve, the ratio, then a flip or an exchange.
 // From minilp 0.2.2, src/solver.rs, choose_pivot and pivot, Apache-2.0, changed: 01's answers 21 and 23, and the vectors are local arrays.
 ghost use mathlib.Core.Path.{_≡_};
-ghost use mathlib.Core.Bool.{Bool};
-ghost use mathlib.Core.List.{List, []};
+ghost use mathlib.Core.List.{List};
 ghost use Prim.Native.Nat.{ℕ, _<_};
 ghost use lib.ListN.{length};
 ghost use lib.Ieee.{Float};
-ghost use Rattle.doubles.specs.Limits.{maxBudget};
 ghost use Rattle.sparse.specs.Scattered.{sv};
-ghost use Rattle.rules.specs.Plan.{Etas};
-ghost use Rattle.rules.specs.Parts.{bounded, rowed, etasOf, noEtas, workspaceOf, stateOf};
+ghost use Rattle.rules.specs.Plan.{State};
+ghost use Rattle.rules.specs.Parts.{rowed};
 ghost use Rattle.rules.specs.Step as Step;
 ghost use Rattle.columns.specs.Columns.{ByColumns};
-ghost use Rattle.new_numbers.specs.Lent.{Listing};
-ghost use Rattle.pivot.specs.Lent.{Flips};
-ghost use Rattle.exchange.specs.Left.{after, leftBy, stepped};
+ghost use Rattle.rows.specs.Lent.{Fresh};
+ghost use Rattle.state.specs.Packed.{stateAt};
+ghost use Rattle.exchange.specs.Left.{afterBy, leftBy, stepped};
 ghost use Rattle.exchange.specs.Lent.{Ready};
+ghost use Rattle.step.specs.Found.{found, foundBy};
+ghost use Rattle.step.specs.Lent.{Enters};
 
-// A flip: all new numbers, then the store. The arrays that aren't lent stay as they are, whatever they hold.
-fn flip(
-    basic_var_vals: &mut [f64],
-    nb_vars: &[usize],
-    nb_var_vals: &mut [f64],
-    nb_var_states: &mut [u8],
-    eta_count: usize,
-    objective: f64,
-    steps: usize,
+// What is decided of a step: how many places the column lists, with the numbers of the flip or of the exchange, or why
+// there is none.
+pub enum Decided {
+    Flips { count: usize, value: f64, diff: f64 },
+    Exchanges { count: usize, x: state::Exchange },
+    Stops(rules::Stop),
+}
+
+// 01: "column solve; ratio; Unbounded", and a flip's new numbers. The column is written to a fresh vector, the state is
+// read.
+fn decide(
+    values: &mut [f64; doubles::PLACES],
+    marks: &mut [bool; doubles::PLACES],
+    list: &mut [usize; doubles::PLACES],
+    numbers: &[usize],
+    doubles: &[f64],
+    at: state::Tally,
     n: usize,
     lowers: &[f64],
     uppers: &[f64],
     ops: &[u8],
     kept: &[usize],
-    values: &[f64; doubles::PLACES],
-    list: &[usize; doubles::PLACES],
-    count: usize,
+    cstarts: &[usize],
+    crows: &[usize],
+    ccoeffs: &[f64],
     e: rules::Entering,
-    value: f64,
-    diff: f64,
-) -> exchange::Went
-    requires { ⌜ Listing (length (now «basic_var_vals»)) count (now list) × (steps < maxBudget) ⌝ }
-    requires { ⌜ Flips (bounded n (now lowers) (now uppers) (now ops) (now kept)) (workspaceOf [] [] (now «nb_vars») (now «nb_var_vals») [] [] (now «nb_var_states») [] noEtas) (e .col) ⌝ }
-    ensures { λ r. ⌜ ((m : List Bool) (b v : List ℕ) (p q : List Float) (h : Etas)
-        → leftBy r (workspaceOf b (now («basic_var_vals» .exit)) (now («nb_vars» .entry)) (now («nb_var_vals» .exit)) p q (now («nb_var_states» .exit)) v h)
-        ≡ after (stateOf (workspaceOf b (now («basic_var_vals» .entry)) (now («nb_vars» .entry)) (now («nb_var_vals» .entry)) p q (now («nb_var_states» .entry)) v h) «eta_count» objective steps)
-        (Step.flip (bounded n (now (lowers .entry)) (now (uppers .entry)) (now (ops .entry)) (now (kept .entry)))
-        (stateOf (workspaceOf b (now («basic_var_vals» .entry)) (now («nb_vars» .entry)) (now («nb_var_vals» .entry)) p q (now («nb_var_states» .entry)) v h) «eta_count» objective steps)
-        e (sv (now (values .entry)) m (now (list .entry)) count) value diff)) ⌝ }
+) -> Decided
+    requires { ⌜ Fresh (sv (now values) (now marks) (now list) 0) ⌝ }
+    requires { ⌜ Enters n (now lowers) (now uppers) (now ops) (now kept) (now cstarts) (now crows) (now ccoeffs) (now numbers) (now doubles) at e ⌝ }
+    ensures { λ r. ⌜ ((starts cols : List ℕ) (coeffs : List Float) → ByColumns (rowed n starts cols coeffs (now (kept .entry))) (now (cstarts .entry)) (now (crows .entry)) (now (ccoeffs .entry))
+        → foundBy r (now (values .exit)) (now (marks .exit)) (now (list .exit))
+        ≡ found (stepped n (now (lowers .entry)) (now (uppers .entry)) starts cols coeffs (now (ops .entry)) (now (kept .entry))) (stateAt (now (numbers .entry)) (now (doubles .entry)) at) e) ⌝ }
 {
-    if !new_numbers::flip_finite(
-        basic_var_vals,
+    let col = e.col;
+    let count = step_reads::column(
         values,
+        marks,
         list,
-        count,
-        objective,
-        e,
-        value,
-        diff,
-    ) {
-        return exchange::Went::Stops(rules::Stop::NotFinite);
+        numbers,
+        doubles,
+        at,
+        n,
+        cstarts,
+        crows,
+        ccoeffs,
+        col,
+    );
+    if !rows::listed_finite(values, list, count) {
+        return Decided::Stops(rules::Stop::NotFinite);
     }
-    let after = pivot::store_flip(
-        basic_var_vals,
-        nb_var_vals,
-        nb_var_states,
-        nb_vars,
+    let ratio = step_reads::ratio(
+        numbers,
+        doubles,
         n,
         lowers,
         uppers,
@@ -72,35 +78,47 @@ fn flip(
         values,
         list,
         count,
-        objective,
         e,
-        value,
-        diff,
     );
-    exchange::Went::On {
-        eta_count,
-        objective: after,
-        steps: steps + 1,
+    match ratio {
+        rules::Ratio::NotFinite => {
+            return Decided::Stops(rules::Stop::NotFinite);
+        }
+        rules::Ratio::Unbounded => {
+            return Decided::Stops(rules::Stop::Unbounded);
+        }
+        rules::Ratio::Pivot(pivot) => match pivot {
+            rules::PivotInfo::Flip { value, diff } => {
+                if !step_reads::flip_finite(doubles, at, values, list, count, e, value, diff) {
+                    return Decided::Stops(rules::Stop::NotFinite);
+                }
+                return Decided::Flips { count, value, diff };
+            }
+            rules::PivotInfo::Exchange {
+                value,
+                diff,
+                row,
+                pivot,
+                leaving,
+            } => {
+                let x = state::Exchange {
+                    value,
+                    diff,
+                    row,
+                    pivot,
+                    leaving,
+                };
+                return Decided::Exchanges { count, x };
+            }
+        },
     }
 }
 
-// 01: "column solve; ratio; Unbounded", then a flip or an exchange.
+// A step that is decided is a stop, a flip to be stored, or an exchange.
 pub fn step(
-    basic_vars: &mut [usize],
-    basic_var_vals: &mut [f64],
-    nb_vars: &mut [usize],
-    nb_var_vals: &mut [f64],
-    prices: &mut [f64],
-    norms: &mut [f64],
-    nb_var_states: &mut [u8],
-    var_states: &mut [usize],
-    eta_leaving: &mut [usize],
-    eta_starts: &mut [usize],
-    eta_rows: &mut [usize],
-    eta_coeffs: &mut [f64],
-    eta_count: usize,
-    objective: f64,
-    steps: usize,
+    numbers: &mut [usize],
+    doubles: &mut [f64],
+    at: state::Tally,
     n: usize,
     lowers: &[f64],
     uppers: &[f64],
@@ -114,132 +132,73 @@ pub fn step(
     ccoeffs: &[f64],
     e: rules::Entering,
 ) -> exchange::Went
-    requires { ⌜ Ready n (now lowers) (now uppers) (now starts) (now cols) (now coeffs) (now ops) (now kept)
-        (stateOf (workspaceOf (now «basic_vars») (now «basic_var_vals») (now «nb_vars») (now «nb_var_vals») (now prices) (now norms) (now «nb_var_states») (now «var_states»)
-        (etasOf (now «eta_leaving») (now «eta_starts») (now «eta_rows») (now «eta_coeffs»))) «eta_count» objective steps) ⌝ }
+    requires { ⌜ Ready n (now lowers) (now uppers) (now starts) (now cols) (now coeffs) (now ops) (now kept) (now numbers) (now doubles) at ⌝ }
     requires { ⌜ ByColumns (rowed n (now starts) (now cols) (now coeffs) (now kept)) (now cstarts) (now crows) (now ccoeffs) × (n < length (now cstarts)) × (e .col < n) ⌝ }
-    ensures { λ r. ⌜ leftBy r (workspaceOf (now («basic_vars» .exit)) (now («basic_var_vals» .exit)) (now («nb_vars» .exit)) (now («nb_var_vals» .exit))
-        (now (prices .exit)) (now (norms .exit)) (now («nb_var_states» .exit)) (now («var_states» .exit))
-        (etasOf (now («eta_leaving» .exit)) (now («eta_starts» .exit)) (now («eta_rows» .exit)) (now («eta_coeffs» .exit))))
-        ≡ after (stateOf (workspaceOf (now («basic_vars» .entry)) (now («basic_var_vals» .entry)) (now («nb_vars» .entry)) (now («nb_var_vals» .entry))
-        (now (prices .entry)) (now (norms .entry)) (now («nb_var_states» .entry)) (now («var_states» .entry))
-        (etasOf (now («eta_leaving» .entry)) (now («eta_starts» .entry)) (now («eta_rows» .entry)) (now («eta_coeffs» .entry)))) «eta_count» objective steps)
-        (Step.step (stepped n (now (lowers .entry)) (now (uppers .entry)) (now (starts .entry)) (now (cols .entry)) (now (coeffs .entry)) (now (ops .entry)) (now (kept .entry)))
-        (stateOf (workspaceOf (now («basic_vars» .entry)) (now («basic_var_vals» .entry)) (now («nb_vars» .entry)) (now («nb_var_vals» .entry))
-        (now (prices .entry)) (now (norms .entry)) (now («nb_var_states» .entry)) (now («var_states» .entry))
-        (etasOf (now («eta_leaving» .entry)) (now («eta_starts» .entry)) (now («eta_rows» .entry)) (now («eta_coeffs» .entry)))) «eta_count» objective steps) e) ⌝ }
+    ensures { λ r. ⌜ leftBy r (now (numbers .exit)) (now (doubles .exit))
+        ≡ afterBy (λ (s : State). Step.step (stepped n (now (lowers .entry)) (now (uppers .entry)) (now (starts .entry)) (now (cols .entry)) (now (coeffs .entry)) (now (ops .entry)) (now (kept .entry))) s e)
+        (stateAt (now (numbers .entry)) (now (doubles .entry)) at) ⌝ }
 {
-    let col = e.col;
-    let var = nb_vars[col];
     let mut values = [0.0; doubles::PLACES];
     let mut marks = [false; doubles::PLACES];
     let mut list = [0usize; doubles::PLACES];
-    let count = solves::col_coeffs(
+    let decided = decide(
         &mut values,
         &mut marks,
         &mut list,
-        cstarts,
-        crows,
-        ccoeffs,
-        eta_leaving,
-        eta_starts,
-        eta_rows,
-        eta_coeffs,
-        eta_count,
-        n,
-        var,
-    );
-    if !rows::listed_finite(&values, &list, count) {
-        return exchange::Went::Stops(rules::Stop::NotFinite);
-    }
-    let found = ratio::ratio(
-        e,
+        numbers,
+        doubles,
+        at,
         n,
         lowers,
         uppers,
         ops,
         kept,
-        basic_vars,
-        basic_var_vals,
-        nb_vars,
-        nb_var_vals,
-        prices,
-        &values,
-        &list,
-        count,
+        cstarts,
+        crows,
+        ccoeffs,
+        e,
     );
-    match found {
-        rules::Ratio::NotFinite => {
-            return exchange::Went::Stops(rules::Stop::NotFinite);
+    match decided {
+        Decided::Stops(why) => {
+            return exchange::Went::Stops(why);
         }
-        rules::Ratio::Unbounded => {
-            return exchange::Went::Stops(rules::Stop::Unbounded);
-        }
-        rules::Ratio::Pivot(pivot) => match pivot {
-            rules::PivotInfo::Flip { value, diff } => {
-                return flip(
-                    basic_var_vals,
-                    nb_vars,
-                    nb_var_vals,
-                    nb_var_states,
-                    eta_count,
-                    objective,
-                    steps,
-                    n,
-                    lowers,
-                    uppers,
-                    ops,
-                    kept,
-                    &values,
-                    &list,
-                    count,
-                    e,
-                    value,
-                    diff,
-                );
-            }
-            rules::PivotInfo::Exchange {
+        Decided::Flips { count, value, diff } => {
+            return exchange::Went::On(pivot::store_flip(
+                numbers,
+                doubles,
+                at,
+                n,
+                lowers,
+                uppers,
+                ops,
+                kept,
+                &values,
+                &list,
+                count,
+                e,
                 value,
                 diff,
-                row,
-                pivot,
-                leaving,
-            } => {
-                return exchange::exchange(
-                    basic_vars,
-                    basic_var_vals,
-                    nb_vars,
-                    nb_var_vals,
-                    prices,
-                    norms,
-                    nb_var_states,
-                    var_states,
-                    eta_leaving,
-                    eta_starts,
-                    eta_rows,
-                    eta_coeffs,
-                    eta_count,
-                    objective,
-                    steps,
-                    n,
-                    lowers,
-                    uppers,
-                    starts,
-                    cols,
-                    coeffs,
-                    ops,
-                    kept,
-                    &values,
-                    &list,
-                    count,
-                    e,
-                    value,
-                    diff,
-                    row,
-                    pivot,
-                    leaving,
-                );
-            }
-        },
+            ));
+        }
+        Decided::Exchanges { count, x } => {
+            return exchange::exchange(
+                numbers,
+                doubles,
+                at,
+                n,
+                lowers,
+                uppers,
+                starts,
+                cols,
+                coeffs,
+                ops,
+                kept,
+                &values,
+                &list,
+                count,
+                e,
+                x,
+            );
+        }
     }
 }

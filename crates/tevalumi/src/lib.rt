@@ -10,6 +10,7 @@ ghost use Rattle.sheet_rules.specs.Sheet.{planOf, keptOf, sheetOf};
 ghost use Rattle.sheet_rules.specs.Verdict.{verdict, verdictNumbers};
 ghost use Rattle.rules.specs.Parts as Parts;
 ghost use Rattle.rules.specs.Solve.{solvePlan};
+ghost use Rattle.state.specs.Memory.{memoryIn, pastOf, handed};
 ghost use Rattle.face.specs.Face.{triResult, sheetNumbers, faced, facedBy};
 
 mod files;
@@ -341,30 +342,13 @@ pub extern "C" fn tevalumi_solve(
     ops: &[u8],
     rhs: &[f64],
     values: &mut [f64],
-    kept: &mut [usize],
-    basic_vars: &mut [usize],
-    basic_var_vals: &mut [f64],
-    nb_vars: &mut [usize],
-    nb_var_vals: &mut [f64],
-    nb_var_obj_coeffs: &mut [f64],
-    primal_edge_sq_norms: &mut [f64],
-    nb_var_states: &mut [u8],
-    var_states: &mut [usize],
-    eta_leaving: &mut [usize],
-    eta_starts: &mut [usize],
-    eta_rows: &mut [usize],
-    eta_coeffs: &mut [f64],
-    counts: &mut [usize],
-    objective: &mut [f64],
+    numbers: &mut [usize],
+    doubles: &mut [f64],
 ) -> face::TevalumiAnswer
-    ensures { λ r. ⌜ faced r (Parts.memoryOf (now (values .exit)) (now (kept .exit)) (Parts.workspaceOf (now («basic_vars» .exit)) (now («basic_var_vals» .exit)) (now («nb_vars» .exit)) (now («nb_var_vals» .exit))
-        (now («nb_var_obj_coeffs» .exit)) (now («primal_edge_sq_norms» .exit)) (now («nb_var_states» .exit)) (now («var_states» .exit))
-        (Parts.etasOf (now («eta_leaving» .exit)) (now («eta_starts» .exit)) (now («eta_rows» .exit)) (now («eta_coeffs» .exit)))) (now (counts .exit)) (now (objective .exit)))
-        ≡ facedBy (solvePlan (Parts.planOf columns rows entries budget tolerance (now (costs .entry)) (now (lowers .entry)) (now (uppers .entry))
+    ensures { λ r. ⌜ faced r (now (values .exit)) (now (numbers .exit)) (now (doubles .exit))
+        ≡ facedBy (handed (solvePlan (Parts.planOf columns rows entries budget tolerance (now (costs .entry)) (now (lowers .entry)) (now (uppers .entry))
         (now (starts .entry)) (now (cols .entry)) (now (coeffs .entry)) (now (ops .entry)) (now (rhs .entry)))
-        (Parts.memoryOf (now (values .entry)) (now (kept .entry)) (Parts.workspaceOf (now («basic_vars» .entry)) (now («basic_var_vals» .entry)) (now («nb_vars» .entry)) (now («nb_var_vals» .entry))
-        (now («nb_var_obj_coeffs» .entry)) (now («primal_edge_sq_norms» .entry)) (now («nb_var_states» .entry)) (now («var_states» .entry))
-        (Parts.etasOf (now («eta_leaving» .entry)) (now («eta_starts» .entry)) (now («eta_rows» .entry)) (now («eta_coeffs» .entry)))) (now (counts .entry)) (now (objective .entry)))) ⌝ }
+        (memoryIn (now (values .entry)) (now (numbers .entry)) (now (doubles .entry)))) (pastOf (now (numbers .entry)) (now (doubles .entry)))) ⌝ }
 {
     let a = solve::solve(
         columns,
@@ -381,21 +365,8 @@ pub extern "C" fn tevalumi_solve(
         ops,
         rhs,
         values,
-        kept,
-        basic_vars,
-        basic_var_vals,
-        nb_vars,
-        nb_var_vals,
-        nb_var_obj_coeffs,
-        primal_edge_sq_norms,
-        nb_var_states,
-        var_states,
-        eta_leaving,
-        eta_starts,
-        eta_rows,
-        eta_coeffs,
-        counts,
-        objective,
+        numbers,
+        doubles,
     );
     face::solve_answer(a)
 }

@@ -1,6 +1,8 @@
 //! Hands a plan to the library and keeps what it answers.
 
-use tevalumi::raw::{limits, solve_lent, Answer, PlanRef, Status, Workspace, WorkspaceMut};
+use tevalumi::raw::{
+    limits, sections, solve_lent, Answer, PlanRef, Status, Workspace, WorkspaceMut,
+};
 
 use super::plan::Plan;
 
@@ -38,7 +40,7 @@ pub fn solve(plan: &Plan) -> Solved {
     let mut memory = work.lend();
     let mut values_lent = values.as_mut_slice();
     for (&name, &length) in &plan.shorter {
-        cut(&mut memory, &mut values_lent, name, length);
+        cut(plan, &mut memory, &mut values_lent, name, length);
     }
     let answer = solve_lent(&lent, &mut memory, values_lent);
     if answer.status.is_refusal() {
@@ -49,7 +51,7 @@ pub fn solve(plan: &Plan) -> Solved {
             slack_prices: Vec::new(),
         };
     }
-    let kept = work.kept[..work.kept_rows()].to_vec();
+    let kept = work.kept().to_vec();
     values.truncate(plan.columns + kept.len());
     if answer.status != Status::Optimal {
         values.clear();
@@ -65,34 +67,45 @@ pub fn solve(plan: &Plan) -> Solved {
 
 /// A place below the columns is non-basic.
 fn slack_price(plan: &Plan, work: &Workspace, kept_row: usize) -> Option<f64> {
-    let place = work.var_states[plan.columns + kept_row];
-    (place < plan.columns).then(|| work.nb_var_obj_coeffs[place])
+    let place = work.numbers[sections::VAR_STATES][plan.columns + kept_row];
+    (place < plan.columns).then(|| work.doubles[sections::PRICES][place])
 }
 
-/// Lends no more than `length` cells of the named array.
-fn cut(memory: &mut WorkspaceMut<'_>, values: &mut &mut [f64], name: &str, length: usize) {
+/// Lends no more than `length` cells of the named array. A section that is to be shorter than the plan needs makes the
+/// array that holds it a cell short.
+fn cut(
+    plan: &Plan,
+    memory: &mut WorkspaceMut<'_>,
+    values: &mut &mut [f64],
+    name: &str,
+    length: usize,
+) {
     fn to<T>(slice: &mut &mut [T], length: usize) {
         let all = std::mem::take(slice);
         let length = length.min(all.len());
         *slice = &mut all[..length];
     }
-    match name {
-        "values" => to(values, length),
-        "kept" => to(&mut memory.kept, length),
-        "basic" => to(&mut memory.basic_vars, length),
-        "bval" => to(&mut memory.basic_var_vals, length),
-        "nonbasic" => to(&mut memory.nb_vars, length),
-        "nval" => to(&mut memory.nb_var_vals, length),
-        "price" => to(&mut memory.nb_var_obj_coeffs, length),
-        "norm" => to(&mut memory.primal_edge_sq_norms, length),
-        "flags" => to(&mut memory.nb_var_states, length),
-        "where" => to(&mut memory.var_states, length),
-        "etarow" => to(&mut memory.eta_leaving, length),
-        "etaptr" => to(&mut memory.eta_starts, length),
-        "etaidx" => to(&mut memory.eta_rows, length),
-        "etaval" => to(&mut memory.eta_coeffs, length),
-        "counts" => to(&mut memory.counts, length),
-        "obj" => to(&mut memory.objective, length),
-        _ => {}
+    let (columns, rows) = (plan.columns, plan.rows);
+    let (in_numbers, needed) = match name {
+        "values" => return to(values, length),
+        "numbers" => return to(&mut memory.numbers, length),
+        "doubles" => return to(&mut memory.doubles, length),
+        "kept" | "basic" => (true, rows),
+        "bval" => (false, rows),
+        "nonbasic" | "flags" => (true, columns),
+        "nval" | "price" | "norm" => (false, columns),
+        "where" => (true, columns.saturating_add(rows)),
+        "etarow" => (true, sections::ETA_LEAVING.len()),
+        "etaptr" => (true, sections::ETA_STARTS.len()),
+        "etaidx" => (true, sections::ETA_ROWS.len()),
+        "etaval" => (false, sections::ETA_COEFFS.len()),
+        "counts" => (true, sections::COUNTS.len()),
+        "obj" => (false, sections::OBJECTIVE.len()),
+        _ => return,
+    };
+    match (length < needed, in_numbers) {
+        (false, _) => {}
+        (true, true) => to(&mut memory.numbers, sections::NUMBERS - 1),
+        (true, false) => to(&mut memory.doubles, sections::DOUBLES - 1),
     }
 }

@@ -105,7 +105,7 @@ pub struct Plan {
     pub lines: Lines,
     pub column_names: Vec<String>,
     pub row_names: Vec<String>,
-    /// Lent arrays that are cut to a length, by their names in docs/EXCHANGE.md.
+    /// The length said of a lent array or section, by its name in docs/EXCHANGE.md.
     pub shorter: BTreeMap<&'static str, usize>,
     /// What the reader left out or took for granted, for the person who reads the answer.
     pub notes: Vec<String>,

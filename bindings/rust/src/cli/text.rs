@@ -3,10 +3,10 @@
 
 use super::plan::{Fault, Plan, END};
 
-/// The lent arrays that a `short` line may name.
-pub const LENT: [&str; 15] = [
+/// What a `short` line may name: a section of the state, or an array of them.
+pub const LENT: [&str; 17] = [
     "kept", "basic", "bval", "nonbasic", "nval", "price", "norm", "flags", "where", "etarow",
-    "etaptr", "etaidx", "etaval", "counts", "obj",
+    "etaptr", "etaidx", "etaval", "counts", "obj", "numbers", "doubles",
 ];
 
 pub fn read(text: &str) -> Result<Vec<Plan>, Fault> {

@@ -39,6 +39,9 @@ mul-better-2 c = search needs
 shared-slice-read-better-2 : tie.Need-shared-slice-read-better-2 Inv-loop μ-loop
 shared-slice-read-better-2 c = search needs
 
+mul-better-3 : tie.Need-mul-better-3 Inv-loop μ-loop
+mul-better-3 c = search needs
+
 shared-slice-read-better-3 : tie.Need-shared-slice-read-better-3 Inv-loop μ-loop
 shared-slice-read-better-3 c = search needs
 
@@ -73,6 +76,7 @@ best-column-spec =
     shared-slice-read-better
     mul-better-2
     shared-slice-read-better-2
+    mul-better-3
     shared-slice-read-better-3
     better-requires
     add-c

@@ -1,19 +1,21 @@
--- `gateway::memory_long` meets its contract. Assumes nothing.
+-- `gateway::memory_long` meets its contract: the last sections decide. Assumes nothing.
+use mathlib.Core.Path.{sym}
+use mathlib.Core.List.{[]}
 use borrow.Author.Needs.{needs}
-use Rattle.rules.specs.Refusals.{memoryLong}
+use Rattle.doubles.specs.Num.{f0}
+use Rattle.rules.specs.Parts.{planOf}
+use Rattle.gateway.proofs.Long.{long-is}
 use Rattle.gateway.proofs.memory_long.Statement.{statement}
 use Rattle.gateway.proofs.memory_long.Tie as tie
 
 add-result : tie.Need-add-result
 add-result c = search needs
 
-workspace-long-requires : tie.Need-workspace-long-requires
-workspace-long-requires c κs = search needs
-
 returns : tie.Need-returns
-unfolding memoryLong
-returns c = let d : tie.After-workspace-long = search in
-    rw (d .workspace-long .ensures)
+returns c =
+    let s : tie.Start = search in
+    let a = s .args in
+    sym (long-is (planOf (a .columns) (a .rows) 0 0 f0 [] [] [] [] [] [] [] []) (a .values .now) (a .numbers .now) (a .doubles .now) (s .pre .0) (s .pre .1))
 
 pub memory-long-spec : {M : Type 1} → statement M
-memory-long-spec = tie.close (tie.spec add-result workspace-long-requires returns)
+memory-long-spec = tie.close (tie.spec add-result returns)

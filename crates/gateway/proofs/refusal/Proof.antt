@@ -4,8 +4,9 @@ use mathlib.Core.Bool.{true}
 use borrow.Author.Needs.{needs}
 use Rattle.doubles.proofs.Bools.{turned, turned-true, itself}
 use Rattle.rules.specs.Plan.{Plan, Memory}
-use Rattle.rules.specs.Parts.{planOf, etasOf, workspaceOf, memoryOf}
+use Rattle.rules.specs.Parts.{planOf}
 use Rattle.rules.specs.Refusals.{sizesFit, planLong, memoryLong}
+use Rattle.state.specs.Memory.{memoryIn}
 use Rattle.plan.proofs.Parts.{sizes-part, long-part, refusal-part}
 use Rattle.gateway.proofs.Gate.{sizes-small, size-over, plan-short, memory-short, long-enough, memory-part}
 use Rattle.gateway.proofs.refusal.Statement.{statement}
@@ -15,12 +16,7 @@ abbrev p : tie.Start → Plan
 p s = let a = s .args in planOf (a .columns) (a .rows) (a .entries) (a .budget) (a .tolerance) (a .costs .now) (a .lowers .now) (a .uppers .now) (a .starts .now) (a .cols .now) (a .coeffs .now) (a .ops .now) (a .rhs .now)
 
 abbrev m : tie.Start → Memory
-m s =
-    let a = s .args in
-    memoryOf (a .values .now) (a .kept .now)
-    (workspaceOf (a .basic-vars .now) (a .basic-var-vals .now) (a .nb-vars .now) (a .nb-var-vals .now) (a .nb-var-obj-coeffs .now) (a .primal-edge-sq-norms .now) (a .nb-var-states .now) (a .var-states .now)
-    (etasOf (a .eta-leaving .now) (a .eta-starts .now) (a .eta-rows .now) (a .eta-coeffs .now)))
-    (a .counts .now) (a .objective .now)
+m s = let a = s .args in memoryIn (a .values .now) (a .numbers .now) (a .doubles .now)
 
 -- what has passed on the way
 abbrev at : tie.Else1 → tie.Start

@@ -47,6 +47,9 @@ shared-slice-read-t20 c = omega arith
 pack-flags-requires : tie.Need-pack-flags-requires Inv-loop μ-loop
 pack-flags-requires c κs = search needs
 
+mul-flags : tie.Need-mul-flags Inv-loop μ-loop
+mul-flags c = omega arith
+
 slice-write-flags : tie.Need-slice-write-flags Inv-loop μ-loop
 slice-write-flags c = omega arith
 
@@ -86,6 +89,7 @@ write-flags-spec =
     mul-t18
     shared-slice-read-t20
     pack-flags-requires
+    mul-flags
     slice-write-flags
     add-j
     loop-less

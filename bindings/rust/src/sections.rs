@@ -1,0 +1,47 @@
+//! Where each section of a solve's two arrays stands, by cells. The proved library has the same names in
+//! crates/state/src/lib.rt, and C has them in include/tevalumi.h; the driver's tests compare all three. The driver has this
+//! file too.
+
+use std::ops::Range;
+
+/// The cells that follow a section.
+const fn after(before: &Range<usize>, cells: usize) -> Range<usize> {
+    before.end..before.end + cells
+}
+
+/// In `numbers`: the basic variable of each kept row. Column `j` is variable `j`, the slack of kept row `k` is variable
+/// `columns + k`.
+pub const BASIC_VARS: Range<usize> = 0..96;
+/// In `numbers`: the non-basic variables.
+pub const NB_VARS: Range<usize> = after(&BASIC_VARS, 128);
+/// In `numbers`: where each variable stands: below `columns` a non-basic place, from there on a kept row.
+pub const VAR_STATES: Range<usize> = after(&NB_VARS, 224);
+/// In `numbers`: the flags of the non-basic variables: 1 at the lower bound, 2 at the upper bound, 3 at both.
+pub const FLAGS: Range<usize> = after(&VAR_STATES, 128);
+/// In `numbers`: the leaving row of each eta column.
+pub const ETA_LEAVING: Range<usize> = after(&FLAGS, 256);
+/// In `numbers`: where each eta column starts, and at the end the number of eta entries.
+pub const ETA_STARTS: Range<usize> = after(&ETA_LEAVING, 257);
+/// In `numbers`: the row of each eta entry.
+pub const ETA_ROWS: Range<usize> = after(&ETA_STARTS, 4_096);
+/// In `numbers`: the plan's number of each kept row. A row without entries is dropped.
+pub const KEPT: Range<usize> = after(&ETA_ROWS, 96);
+/// In `numbers`: kept rows, eta columns, eta entries, steps, and the status number of the last run.
+pub const COUNTS: Range<usize> = after(&KEPT, 5);
+/// The cells of `numbers`.
+pub const NUMBERS: usize = COUNTS.end;
+
+/// In `doubles`: the values of the basic variables.
+pub const BASIC_VAR_VALS: Range<usize> = 0..96;
+/// In `doubles`: the values of the non-basic variables.
+pub const NB_VAR_VALS: Range<usize> = after(&BASIC_VAR_VALS, 128);
+/// In `doubles`: their prices (reduced costs).
+pub const PRICES: Range<usize> = after(&NB_VAR_VALS, 128);
+/// In `doubles`: their norms, by which the entering column is scored.
+pub const NORMS: Range<usize> = after(&PRICES, 128);
+/// In `doubles`: the coefficient of each eta entry.
+pub const ETA_COEFFS: Range<usize> = after(&NORMS, 4_096);
+/// In `doubles`: the running objective.
+pub const OBJECTIVE: Range<usize> = after(&ETA_COEFFS, 1);
+/// The cells of `doubles`.
+pub const DOUBLES: usize = OBJECTIVE.end;

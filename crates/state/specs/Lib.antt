@@ -1,0 +1,3 @@
+-- The state in two lists, and all that is lent.
+pub mod Packed
+pub mod Memory

@@ -1,0 +1,115 @@
+//! The places of the state's sections, said three times: by the proved code, by the header and by the Rust crate.
+
+use std::collections::BTreeMap;
+use std::ops::Range;
+
+use driver::sections::*;
+
+type Numbers = BTreeMap<String, usize>;
+
+/// A sum of numbers and names.
+fn sum(text: &str, known: &Numbers) -> usize {
+    text.split('+')
+        .map(|term| {
+            let term = term.trim().trim_matches(['(', ')']);
+            let named = known.get(term.trim_start_matches("doubles::"));
+            named.copied().unwrap_or_else(|| term.parse().expect(term))
+        })
+        .sum()
+}
+
+/// The whole-number constants of a crate's source.
+fn constants(source: &str, mut known: Numbers) -> Numbers {
+    for line in source.lines() {
+        let Some(rest) = line.strip_prefix("pub const ") else {
+            continue;
+        };
+        let Some((name, value)) = rest.split_once(": usize = ") else {
+            continue;
+        };
+        let value = sum(value.trim_end_matches(';'), &known);
+        known.insert(name.to_string(), value);
+    }
+    known
+}
+
+/// The header's constants.
+fn defined(header: &str) -> Numbers {
+    let mut known = Numbers::new();
+    for line in header.lines() {
+        let Some(rest) = line.strip_prefix("#define TEVALUMI_") else {
+            continue;
+        };
+        if let Some((name, value)) = rest.split_once(' ') {
+            let value = value.trim().trim_start_matches('(').trim_end_matches(')');
+            let value = sum(&value.replace("TEVALUMI_", ""), &known);
+            known.insert(name.to_string(), value);
+        }
+    }
+    known
+}
+
+const SECTIONS: [(&str, Range<usize>); 15] = [
+    ("BASIC_VARS", BASIC_VARS),
+    ("NB_VARS", NB_VARS),
+    ("VAR_STATES", VAR_STATES),
+    ("FLAGS", FLAGS),
+    ("ETA_LEAVING", ETA_LEAVING),
+    ("ETA_STARTS", ETA_STARTS),
+    ("ETA_ROWS", ETA_ROWS),
+    ("KEPT", KEPT),
+    ("COUNTS", COUNTS),
+    ("BASIC_VAR_VALS", BASIC_VAR_VALS),
+    ("NB_VAR_VALS", NB_VAR_VALS),
+    ("PRICES", PRICES),
+    ("NORMS", NORMS),
+    ("ETA_COEFFS", ETA_COEFFS),
+    ("OBJECTIVE", OBJECTIVE),
+];
+
+#[test]
+fn three_lists_are_one() {
+    let limits = constants(
+        include_str!("../../crates/doubles/src/lib.rt"),
+        Numbers::new(),
+    );
+    let proved = constants(
+        include_str!("../../crates/state/src/lib.rt"),
+        limits.clone(),
+    );
+    let header = defined(include_str!("../../include/tevalumi.h"));
+    let ours = proved.len() - limits.len();
+    assert_eq!(
+        ours,
+        2 * SECTIONS.len() + 2,
+        "a section that isn't listed here"
+    );
+    assert_eq!(
+        header.len(),
+        SECTIONS.len() + 2,
+        "a section that isn't listed here"
+    );
+    for (name, cells) in SECTIONS {
+        assert_eq!(proved[name], cells.start, "{name}");
+        assert_eq!(proved[&format!("{name}_END")], cells.end, "{name}");
+        assert_eq!(header[name], cells.start, "{name}");
+    }
+    for (name, cells) in [("NUMBERS", NUMBERS), ("DOUBLES", DOUBLES)] {
+        assert_eq!((proved[name], header[name]), (cells, cells), "{name}");
+    }
+    let oracle = (oracle::limits::NUMBERS, oracle::limits::DOUBLES);
+    assert_eq!(oracle, (NUMBERS as u64, DOUBLES as u64));
+}
+
+/// Every cell of an array stands in just one section.
+#[test]
+fn sections_tile_their_array() {
+    let (numbers, doubles) = SECTIONS.split_at(9);
+    for (sections, end) in [(numbers, NUMBERS), (doubles, DOUBLES)] {
+        let last = sections.iter().fold(0, |from, (name, cells)| {
+            assert_eq!(cells.start, from, "{name}");
+            cells.end
+        });
+        assert_eq!(last, end);
+    }
+}
