@@ -1,11 +1,9 @@
 -- What the solves keep, and that the columns of a store in order can be read. No contract cites this file. Assumes nothing.
 use mathlib.Core.Path.{_≡_}
 use mathlib.Core.List.{List}
-use Prim.Native.Nat.{ℕ, _+_, _-_, _<_, _≤_}
-use native.Mathlib.Nat.{le-refl}
+use Prim.Native.Nat.{ℕ, _+_, _<_, _≤_, _-_}
 use native.Mathlib.Omega.{arith}
 use lib.ListN.{length}
-use lib.Ieee.{Float}
 use Rattle.doubles.specs.Limits.{places}
 use Rattle.doubles.specs.Loop.{run}
 use Rattle.doubles.specs.Lists.{_!_, _#_}
@@ -13,20 +11,11 @@ use Rattle.doubles.proofs.Loops.{keeps}
 use Rattle.sparse.specs.Scattered.{Sv, Good, Within}
 use Rattle.sparse.proofs.Laws.{good-putAt}
 use Rattle.rules.specs.Plan.{Etas, Problem, State, mOf}
-use Rattle.rules.specs.Basis.{etaRowsOf, etaCoeffsOf, takeTurn, takeOff, etaTurn, etaTurnTransp, factorSolve}
+use Rattle.rules.specs.Basis.{etaRowsOf, etaCoeffsOf, etaTurn, etaTurnTransp, factorSolve}
 use Rattle.rules.specs.Invariant.{ProblemFits, Fits}
 use Rattle.rules.proofs.Lists.{part-long, part-at}
 use Rattle.rules.proofs.Vectors.{rows-places}
 use Rattle.eta.specs.Store.{ReadableCol, Readable}
-
--- ---- a column taken off
-module _ {n : ℕ} (x : Float) (rows : List ℕ) (coeffs : List Float) (w : Within n (length rows) rows) (s : Sv) (g : Good n s) where
-  pub good-taking : (k : ℕ) → k ≤ length rows → Good n (run (takeTurn x rows coeffs) k s)
-  good-taking k h = keeps (takeTurn x rows coeffs) s (λ _. Good n) (length rows) (λ j t l p. good-putAt t _ _ p (w .inside j l)) g k h
-
-  good-takeOff : Good n (takeOff x rows coeffs s)
-  unfolding takeOff
-  good-takeOff = good-taking (length rows) (le-refl (length rows))
 
 -- ---- a column that can be read
 module _ (h : Etas) (k : ℕ) (c : ReadableCol h k) where

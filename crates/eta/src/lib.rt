@@ -2,54 +2,11 @@
 // From minilp 0.2.2, src/solver.rs, EtaMatrices and BasisSolver, Apache-2.0, changed: the vector and the store are lent
 // arrays, the vector is loaded by the caller, and the first factor is the identity.
 ghost use mathlib.Core.Path.{_≡_};
-ghost use Prim.Native.Nat.{_≤_};
-ghost use lib.ListN.{length};
 ghost use Rattle.doubles.specs.Limits.{places};
-ghost use Rattle.sparse.specs.Scattered.{sv, Good, Within};
-ghost use Rattle.rules.specs.Plan.{dot};
+ghost use Rattle.sparse.specs.Scattered.{sv, Good, dot};
 ghost use Rattle.rules.specs.Parts.{etasOf};
-ghost use Rattle.rules.specs.Basis.{takeOff, etaTurn, solveEtas, factorSolve, solve, etaTurnTransp, solveEtasTransp, factorSolveTransp, solveTransp};
+ghost use Rattle.rules.specs.Basis.{etaTurn, solveEtas, factorSolve, solve, etaTurnTransp, solveEtasTransp, factorSolveTransp, solveTransp};
 ghost use Rattle.eta.specs.Store.{Readable, ReadableCol};
-
-// Coefficient times value, summed from 0.0 in the list's order. A row's sum and an eta column's are both this.
-pub fn dot(at: &[usize], xs: &[f64], v: &[f64]) -> f64
-    requires { ⌜ (length (now at) ≤ length (now xs)) × Within (length (now v)) (length (now at)) (now at) ⌝ }
-    ensures { λ r. ⌜ r ≡ dot (now (at .entry)) (now (xs .entry)) (now (v .entry)) ⌝ }
-{
-    let mut sum = 0.0;
-    let mut k = 0;
-    while k < at.len() {
-        let i = at[k];
-        sum = sum + xs[k] * v[i];
-        k += 1;
-    }
-    sum
-}
-
-// x times a column taken off the vector. Every place of the column is touched, also where x is 0.0.
-fn take_off(
-    values: &mut [f64; doubles::PLACES],
-    marks: &mut [bool; doubles::PLACES],
-    list: &mut [usize; doubles::PLACES],
-    count: usize,
-    rows: &[usize],
-    coeffs: &[f64],
-    x: f64,
-) -> usize
-    requires { ⌜ Good places (sv (now values) (now marks) (now list) count) ⌝ }
-    requires { ⌜ (length (now rows) ≤ length (now coeffs)) × Within places (length (now rows)) (now rows) ⌝ }
-    ensures { λ r. ⌜ sv (now (values .exit)) (now (marks .exit)) (now (list .exit)) r
-        ≡ takeOff x (now (rows .entry)) (now (coeffs .entry)) (sv (now (values .entry)) (now (marks .entry)) (now (list .entry)) count) ⌝ }
-{
-    let mut n = count;
-    let mut k = 0;
-    while k < rows.len() {
-        let r = rows[k];
-        n = sparse::sub_at(values, marks, list, n, r, x * coeffs[k]);
-        k += 1;
-    }
-    n
-}
 
 // The eta matrix k: the value at its leaving row, times its column, is taken off.
 fn eta_turn(
@@ -71,7 +28,7 @@ fn eta_turn(
     let coeff = values[r];
     let a = starts[k];
     let e = starts[k + 1];
-    take_off(
+    sparse::take_off(
         values,
         marks,
         list,
@@ -101,7 +58,7 @@ fn eta_turn_transp(
 {
     let a = starts[k];
     let e = starts[k + 1];
-    let coeff = dot(&rows[a..e], &coeffs[a..e], values);
+    let coeff = sparse::dot(&rows[a..e], &coeffs[a..e], values);
     let r = leaving[k];
     sparse::sub_at(values, marks, list, count, r, coeff)
 }

@@ -1,14 +1,16 @@
-// A new eta column, written into the unused tail of the store.
+// The store's room, and a new eta column, written into its unused tail.
 // From minilp 0.2.2, src/solver.rs, push_eta_matrix and EtaMatrices, Apache-2.0, changed: the store is sections of the lent arrays.
 ghost use mathlib.Core.Path.{_≡_};
 ghost use mathlib.Core.Bool.{Bool};
-ghost use mathlib.Core.List.{List};
+ghost use mathlib.Core.List.{List, []};
 ghost use Prim.Native.Nat.{_≤_};
 ghost use lib.ListN.{length};
-ghost use Rattle.doubles.specs.Limits.{places};
+ghost use lib.Ieee.{Float};
+ghost use Rattle.doubles.specs.Limits.{places, etaColumns, etaEntries};
+ghost use Rattle.doubles.specs.Lists.{_#_};
 ghost use Rattle.sparse.specs.Scattered.{sv, Within};
-ghost use Rattle.rules.specs.Basis.{etaEntry, tail, writeColumn};
-ghost use Rattle.state.specs.Packed.{packed, Sized};
+ghost use Rattle.rules.specs.Basis.{etaEntry, tail, writeColumn, etaFits};
+ghost use Rattle.state.specs.Packed.{packed, stateAt, Sized, keptAt};
 ghost use Rattle.eta_store.specs.Room.{Room, columnPushed};
 
 // 01: "Eta entry (ours): 1 - 1/pivot at the leaving row, else coefficient/pivot".
@@ -73,4 +75,15 @@ pub fn push_eta(
     );
     numbers[state::ETA_LEAVING + n] = row;
     numbers[state::ETA_STARTS + (n + 1)] = used + count;
+}
+
+// 22: "the next eta column doesn't fit the room left".
+pub fn eta_fits(numbers: &[usize], at: state::Tally, count: usize) -> bool
+    requires { ⌜ (length (now numbers) ≡ keptAt) × (at .«eta_count» ≤ etaColumns) × (count ≤ places) ⌝ }
+    requires { ⌜ packed (now numbers) [] .etas .starts # (at .«eta_count») ≤ etaEntries ⌝ }
+    ensures { λ r. ⌜ ((D : List Float) → r ≡ etaFits (stateAt (now (numbers .entry)) D at) count) ⌝ }
+{
+    let columns = at.eta_count;
+    let used = numbers[state::ETA_STARTS + columns];
+    (columns < doubles::ETA_COLUMNS) & (used + count <= doubles::ETA_ENTRIES)
 }

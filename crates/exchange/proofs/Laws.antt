@@ -2,17 +2,17 @@
 use mathlib.Core.Path.{_≡_, refl, sym, subst, ap, _∙_}
 use mathlib.Core.Bool.{Bool, true, false, _&&_}
 use mathlib.Core.List.{List, []}
-use Prim.Native.Nat.{ℕ, _+_, _<_, _≤_}
+use Prim.Native.Nat.{ℕ, _<_, _≤_}
 use native.Mathlib.Omega.{arith}
 use lib.ListN.{length}
 use lib.Ieee.{Float}
 use Rattle.doubles.specs.Num.{f1}
 use Rattle.doubles.specs.Limits.{maxRows, maxColumns, places, etaColumns, etaEntries}
 use Rattle.doubles.specs.Lists.{_#_}
-use Rattle.sparse.specs.Scattered.{Sv, sv, svOf, blank, putAt, Within}
+use Rattle.sparse.specs.Scattered.{Sv, sv, svOf, blank, putAt, Within, relisted, listedFinite}
 use Rattle.rules.specs.Plan.{Problem, State, nOf}
 use Rattle.rules.specs.Parts.{planOf, problem, rowed}
-use Rattle.rules.specs.Basis.{solveTransp, relisted, rowCoeffsOf, helperOf, combine, addRow, listedFinite, etaFits}
+use Rattle.rules.specs.Basis.{solveTransp, rowCoeffsOf, helperOf, combine, addRow, etaFits}
 use Rattle.rules.specs.Pivot.{newNorm, exchangeFinite, exchanged}
 use Rattle.rules.specs.Step.{Outcome, moved, stopped, unless, exchange}
 use Rattle.rules.specs.Invariant.{Vector}
@@ -22,8 +22,7 @@ use Rattle.rules.specs.declared.Stop.{Stop}
 use Rattle.rules.specs.declared.Stop.the-variants.{StoreFull, NotFinite}
 use Rattle.rules.proofs.Vectors.{rows-places, vector-blank, vector-putAt, relisted-vector, row-solve-vector, helper-solve-vector, row-vector, helper-vector}
 use Rattle.eta.proofs.Laws.{fits-readable}
-use Rattle.rows.specs.Lent.{Fresh}
-use Rattle.rows.proofs.Parts.{fresh-blank, fits-rows, vector-listed}
+use Rattle.rows.proofs.Parts.{fits-rows, vector-listed}
 use Rattle.new_numbers.specs.Lent.{Listing}
 use Rattle.new_numbers.proofs.Parts.{vector-listing}
 use Rattle.pivot.specs.Lent.{Swaps}

@@ -4,9 +4,9 @@ use mathlib.Core.Bool.{Bool, true, false, _&&_}
 use mathlib.Core.List.{List}
 use Prim.Native.Nat.{ℕ}
 use lib.Ieee.{Float}
-use Rattle.sparse.specs.Scattered.{Sv, sv}
+use Rattle.sparse.specs.Scattered.{Sv, sv, listedFinite}
 use Rattle.rules.specs.Plan.{Problem, State}
-use Rattle.rules.specs.Basis.{rowCoeffsOf, helperOf, listedFinite, etaFits}
+use Rattle.rules.specs.Basis.{rowCoeffsOf, helperOf, etaFits}
 use Rattle.rules.specs.Pivot.{exchangeFinite}
 use Rattle.rules.specs.declared.Entering.{Entering}
 use Rattle.rules.specs.declared.Stop.{Stop}

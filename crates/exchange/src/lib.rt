@@ -7,13 +7,11 @@ ghost use mathlib.Core.List.{List};
 ghost use Prim.Native.Nat.{ℕ, _<_, _≤_};
 ghost use lib.ListN.{length};
 ghost use Rattle.doubles.specs.Limits.{maxRows, maxColumns, places};
-ghost use Rattle.sparse.specs.Scattered.{sv, Within};
+ghost use Rattle.sparse.specs.Scattered.{sv, Within, listedFinite, Fresh};
 ghost use Rattle.rules.specs.Plan.{Problem, State};
 ghost use Rattle.rules.specs.Parts.{rowed};
-ghost use Rattle.rules.specs.Basis.{listedFinite};
 ghost use Rattle.rules.specs.Pivot.{exchangeFinite};
 ghost use Rattle.rules.specs.Step as Step;
-ghost use Rattle.rows.specs.Lent.{Fresh};
 ghost use Rattle.new_numbers.specs.Lent.{Listing};
 ghost use Rattle.state.specs.Packed.{stateAt, objectiveAt};
 ghost use Rattle.exchange.specs.Left.{afterBy, leftBy, stepped};
@@ -57,10 +55,10 @@ fn numbers_finite(
         (sv (now («row_values» .entry)) rm (now («row_list» .entry)) «row_count») (sv (now («helper_values» .entry)) hm (now («helper_list» .entry)) «helper_count»)
         (x .value) (x .diff) (x .row) (x .pivot) (x .leaving))) ⌝ }
 {
-    if !rows::listed_finite(row_values, row_list, row_count) {
+    if !sparse::listed_finite(row_values, row_list, row_count) {
         return false;
     }
-    if !rows::listed_finite(helper_values, helper_list, helper_count) {
+    if !sparse::listed_finite(helper_values, helper_list, helper_count) {
         return false;
     }
     step_reads::exchange_finite(
@@ -109,7 +107,7 @@ fn decide(
         ≡ decided (rowed n (now (starts .entry)) (now (cols .entry)) (now (coeffs .entry)) (now (kept .entry)))
         (stateAt (now (numbers .entry)) (now (doubles .entry)) at) e (sv (now (values .entry)) m (now (list .entry)) count) x) ⌝ }
 {
-    if !step_reads::eta_fits(numbers, at, count) {
+    if !eta_store::eta_fits(numbers, at, count) {
         return Decided::Stops(rules::Stop::StoreFull);
     }
     let row_count = step_reads::row(

@@ -2,7 +2,7 @@
 use mathlib.Core.Path.{_≡_, refl, sym, ap, _∙_}
 use mathlib.Core.Bool.{true, false}
 use mathlib.Core.List.{List}
-use Prim.Native.Nat.{ℕ, _+_, _-_, _<_}
+use Prim.Native.Nat.{ℕ, _+_, _<_, _-_}
 use native.Mathlib.Omega.{arith}
 use lib.ListN.{length, drop, List·getD-append}
 use lib.Seq.{ext-getD}
@@ -14,7 +14,8 @@ use Rattle.doubles.specs.Loop.{table}
 use Rattle.doubles.specs.Lists.{_!_, _#_, over}
 use Rattle.doubles.proofs.Bools.{by-test}
 use Rattle.doubles.proofs.Loops.{run-same, length-tab, getD-table}
-use Rattle.rules.specs.Plan.{Problem, Workspace, nOf, mOf, varMin, varMax, dot, dotTurn, rowSum, rowCols, rowCoeffs}
+use Rattle.sparse.specs.Scattered.{dot, dotTurn}
+use Rattle.rules.specs.Plan.{Problem, Workspace, nOf, mOf, varMin, varMax, rowSum, rowCols, rowCoeffs}
 use Rattle.rules.specs.FinalCheck.{valueOf, valuesOf, beyond, larger, placesOf, worstOf, valueExcess, rowExcess, excessAt, worstTurn, worst, judged, finalCheck}
 use Rattle.rules.specs.declared.Checked.{Checked}
 use Rattle.final_check.specs.Lent.{sizesOf, RowsRead}

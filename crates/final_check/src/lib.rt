@@ -119,7 +119,7 @@ fn row_excess(
 {
     let i = kept[r];
     let at = plan::row_cols(starts, cols, i);
-    let sum = eta::dot(at, plan::row_coeffs(starts, coeffs, i), xs);
+    let sum = sparse::dot(at, plan::row_coeffs(starts, coeffs, i), xs);
     counted(doubles::abs(rhs[i] - (sum + xs[n + r])))
 }
 

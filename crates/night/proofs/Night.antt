@@ -4,12 +4,12 @@ use mathlib.Core.List.{map}
 use lib.Ieee.{add, sub, mul, div, lt, le, eq, neg, ofBits, ofInt, isNan}
 use Rattle.doubles.specs.Num.{finite, infinite, size}
 use Rattle.doubles.specs.Loop.{run, down, all, seek, tab, until, each}
-use Rattle.sparse.specs.Scattered.{touched, putAt, sqNorm}
-use Rattle.rules.specs.Plan.{slackMin, slackMax, varMin, varMax, keptRows, dot, column, varStateOf, varCell, flagsCell, flagsOf}
+use Rattle.sparse.specs.Scattered.{touched, putAt, sqNorm, takeOff, relisted, listedFinite, dot}
+use Rattle.rules.specs.Plan.{slackMin, slackMax, varMin, varMax, keptRows, column, varStateOf, varCell, flagsCell, flagsOf}
 use Rattle.rules.specs.Refusals.{sizesFit, planLong, storeLong, workspaceLong, memoryLong, startsRise, passes1, passes2, badAt, firstBadRow, firstCrossed, zeroHolds, firstFalse}
 use Rattle.rules.specs.Start.{startVal, startDual, startVals, dualFeasible, startObjective, startSlack, startNorm, startWorkspace, startState, passes6, passes7}
 use Rattle.rules.specs.Choose.{mayEnter, scoreOf, betterTurn, bestColumn, otherVal, enteringOf, choose}
-use Rattle.rules.specs.Basis.{factorSolve, factorSolveTransp, takeOff, etaTurn, solveEtas, solve, etaTurnTransp, solveEtasTransp, solveTransp, colCoeffs, addEntry, addRow, combine, rowCoeffsOf, relisted, helperOf, listedFinite, etaEntry, etaFits, writeColumn, pushEta}
+use Rattle.rules.specs.Basis.{factorSolve, factorSolveTransp, etaTurn, solveEtas, solve, etaTurnTransp, solveEtasTransp, solveTransp, colCoeffs, addEntry, addRow, combine, rowCoeffsOf, helperOf, etaEntry, etaFits, writeColumn, pushEta}
 use Rattle.rules.specs.Ratio.{towardsMax, ahead, limitBy, limit, examined, relaxed, stepTo, soundRatios, passOne, candidate, passTwoTurn, passTwo, flipOf, exchangeOf, pivotOf, soundDistance, ratio}
 use Rattle.rules.specs.Pivot.{stored, storesFinite, flagsAt, newObjective, movedVal, flipFinite, flipped, newVal, newPrice, newNorm, etaFinite, exchangeFinite, exchanged}
 use Rattle.rules.specs.Step.{exchange, flip, pivot, step, next, atBudget, runOf}

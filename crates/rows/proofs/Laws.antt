@@ -2,7 +2,7 @@
 use mathlib.Core.Path.{_≡_, refl}
 use mathlib.Core.Bool.{Bool, true, false}
 use mathlib.Core.List.{List}
-use Prim.Native.Nat.{ℕ, _-_, _<_, _≤_}
+use Prim.Native.Nat.{ℕ, _<_, _≤_, _-_}
 use native.Mathlib.Nat.{le-refl}
 use native.Mathlib.Omega.{arith}
 use lib.Dec.{ltb}
@@ -13,7 +13,7 @@ use Rattle.doubles.specs.Limits.{places}
 use Rattle.doubles.specs.Loop.{run}
 use Rattle.doubles.specs.Lists.{_!_, _#_}
 use Rattle.doubles.proofs.Loops.{keeps}
-use Rattle.sparse.specs.Scattered.{Sv, blank, Good, Within, putAt, listed, listedVal}
+use Rattle.sparse.specs.Scattered.{Sv, blank, Good, listed, listedVal}
 use Rattle.sparse.proofs.Laws.{good-putAt, good-blank}
 use Rattle.rules.specs.Plan.{Problem, nOf, rowCols, rowCoeffs, varStateOf}
 use Rattle.rules.specs.declared.VarState.{VarState}
@@ -54,9 +54,3 @@ good-rows P h vs y k =
     keeps (λ k s. addRow P vs (listed y k) (listedVal y k) s) blank (λ _. Good places) k
     (λ j t _ p. good-addEntry (nOf P) h vs _ _ _ (good-adding (nOf P) h vs (rowCols (P .plan) (P .kept # listed y j)) (rowCoeffs (P .plan) (P .kept # listed y j)) _ t p _))
     good-blank k (le-refl k)
-
--- a loop that lists a vector anew
-pub good-relisting : (c : Sv) → Within places (c .pat .count) (c .pat .list) → (k : ℕ) → k ≤ c .pat .count → Good places (run (λ k t. putAt t (listed c k) (listedVal c k)) k blank)
-good-relisting c w k h =
-    keeps (λ k t. putAt t (listed c k) (listedVal c k)) blank (λ _. Good places) (c .pat .count)
-    (λ j t l p. good-putAt t _ _ p (w .inside j l)) good-blank k h

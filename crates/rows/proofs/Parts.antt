@@ -4,7 +4,7 @@ use mathlib.Core.List.{List}
 use Prim.Native.Nat.{ℕ, _+_, _≤_}
 use native.Mathlib.Omega.{arith}
 use Rattle.doubles.specs.Limits.{places}
-use Rattle.sparse.specs.Scattered.{Sv, blank, Within}
+use Rattle.sparse.specs.Scattered.{Sv, blank, Within, Fresh}
 use Rattle.sparse.proofs.Laws.{wf-listed}
 use Rattle.rules.specs.Plan.{Problem, nOf, mOf}
 use Rattle.rules.specs.Parts.{rowed}
@@ -12,7 +12,7 @@ use Rattle.rules.specs.Basis.{addRow, combine}
 use Rattle.rules.specs.Invariant.{ProblemFits, Vector}
 use Rattle.rules.proofs.Vectors.{columns-places}
 use Rattle.plan.proofs.Kept.{fits-read, wider}
-use Rattle.rows.specs.Lent.{RowsLent, Fresh}
+use Rattle.rows.specs.Lent.{RowsLent}
 
 pub fresh-blank : Fresh blank
 fresh-blank = record { fresh = refl }

@@ -1,8 +1,6 @@
 -- What the functions ask of the arrays that they are lent. The definitions that their contracts cite are those of `rules`. Assumes nothing.
-use mathlib.Core.Path.{_≡_}
 use Prim.Native.Nat.{ℕ, _+_, _<_, _≤_}
 use Rattle.doubles.specs.Limits.{places}
-use Rattle.sparse.specs.Scattered.{Sv, blank}
 use Rattle.rules.specs.Plan.{Problem, nOf, mOf}
 use Rattle.plan.specs.Kept.{bare, RowReads}
 
@@ -16,7 +14,3 @@ pub record RowLent (P : Problem) (cells r : ℕ) : Type 0 where
 pub record RowsLent (P : Problem) (cells : ℕ) : Type 0 where
   pub columns : nOf P ≤ places
   pub row : (r : ℕ) → r < mOf P → RowLent P cells r
-
--- the vector is a fresh one
-pub record Fresh (s : Sv) : Type 0 where
-  pub fresh : s ≡ blank

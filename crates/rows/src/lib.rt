@@ -8,10 +8,10 @@ ghost use Prim.Native.Nat.{_<_, _≤_};
 ghost use lib.ListN.{length};
 ghost use Rattle.doubles.specs.Limits.{places};
 ghost use Rattle.doubles.specs.Loop.{run};
-ghost use Rattle.sparse.specs.Scattered.{sv, Good, Within};
+ghost use Rattle.sparse.specs.Scattered.{sv, Good, Within, Fresh};
 ghost use Rattle.rules.specs.Parts.{rowed};
-ghost use Rattle.rules.specs.Basis.{addEntry, addTurn, addRow, combine, relisted, listedFinite};
-ghost use Rattle.rows.specs.Lent.{RowLent, RowsLent, Fresh};
+ghost use Rattle.rules.specs.Basis.{addEntry, addTurn, addRow, combine};
+ghost use Rattle.rows.specs.Lent.{RowLent, RowsLent};
 
 // x for the variable v, added at its place; a basic variable has none.
 fn add_entry(
@@ -140,47 +140,4 @@ pub fn combine(
         k += 1;
     }
     c
-}
-
-// A vector's listed values, in listed order, put onto a fresh vector: what the helper's row solve starts from.
-pub fn relist(
-    values: &mut [f64; doubles::PLACES],
-    marks: &mut [bool; doubles::PLACES],
-    list: &mut [usize; doubles::PLACES],
-    from: &[f64; doubles::PLACES],
-    from_list: &[usize; doubles::PLACES],
-    from_count: usize,
-) -> usize
-    requires { ⌜ Fresh (sv (now values) (now marks) (now list) 0) × («from_count» ≤ places) × Within places «from_count» (now «from_list») ⌝ }
-    ensures { λ c. ⌜ ((m : List Bool) → sv (now (values .exit)) (now (marks .exit)) (now (list .exit)) c
-        ≡ relisted (sv (now (from .entry)) m (now («from_list» .entry)) «from_count»)) ⌝ }
-{
-    let mut c = 0;
-    let mut k = 0;
-    while k < from_count {
-        let r = from_list[k];
-        c = sparse::put_at(values, marks, list, c, r, from[r]);
-        k += 1;
-    }
-    c
-}
-
-// 01: "Column, row and helper entries .. must be finite": every listed value is.
-pub fn listed_finite(
-    values: &[f64; doubles::PLACES],
-    list: &[usize; doubles::PLACES],
-    count: usize,
-) -> bool
-    requires { ⌜ (count ≤ places) × Within places count (now list) ⌝ }
-    ensures { λ r. ⌜ ((m : List Bool) → r ≡ listedFinite (sv (now (values .entry)) m (now (list .entry)) count)) ⌝ }
-{
-    let mut k = 0;
-    while k < count {
-        let i = list[k];
-        if !doubles::is_finite(values[i]) {
-            return false;
-        }
-        k += 1;
-    }
-    true
 }

@@ -4,7 +4,7 @@ use mathlib.Core.Path.{_≡_, sym, ap, _∙_}
 use mathlib.Core.Bool.{true, false}
 use mathlib.Core.List.{List}
 use mathlib.Core.Logic.{⊎-elim}
-use Prim.Native.Nat.{ℕ, zero, suc, _+_, _-_, _<_, _≤_}
+use Prim.Native.Nat.{ℕ, zero, suc, _+_, _<_, _≤_, _-_}
 use native.Mathlib.Nat.{le-refl, eq-or-lt-of-le, le-of-suc-le-suc}
 use native.Mathlib.Omega.{arith}
 use lib.ListN.{length, getD}
@@ -16,11 +16,11 @@ use Rattle.doubles.specs.Loop.{down}
 use Rattle.doubles.specs.Lists.{_!_, _#_}
 use Rattle.doubles.proofs.Loops.{keeps, keeps-down}
 use Rattle.doubles.proofs.Tests.{true-by, false-by, not-both}
-use Rattle.sparse.specs.Scattered.{Sv, blank, putAt, listed, listedVal}
+use Rattle.sparse.specs.Scattered.{Sv, blank, putAt, listed, listedVal, takeTurn, takeOff}
 use Rattle.sparse.proofs.Laws.{marked-listed, no-both}
 use Rattle.rules.specs.Plan.{Problem, State, Etas, nOf, mOf, column}
 use Rattle.rules.specs.Choose.{choose}
-use Rattle.rules.specs.Basis.{factorSolve, factorSolveTransp, etaRowsOf, etaCoeffsOf, takeTurn, takeOff, etaTurn, solveEtas, solve, etaTurnTransp, solveEtasTransp, solveTransp, colCoeffs, rowCoeffsOf}
+use Rattle.rules.specs.Basis.{factorSolve, factorSolveTransp, etaRowsOf, etaCoeffsOf, etaTurn, solveEtas, solve, etaTurnTransp, solveEtasTransp, solveTransp, colCoeffs, rowCoeffsOf}
 use Rattle.rules.specs.Choices.{Listed}
 use Rattle.rules.specs.Conditions.{stepColumn}
 use Rattle.rules.specs.Invariant.{ProblemFits, Store, Sound, Vector, Touched}

@@ -6,10 +6,10 @@ use Prim.Native.Nat.{ℕ, _<_}
 use lib.Ieee.{Float}
 use Rattle.doubles.proofs.Loops.{both-true}
 use Rattle.doubles.proofs.Tests.{true-by}
-use Rattle.sparse.specs.Scattered.{Sv}
+use Rattle.sparse.specs.Scattered.{Sv, listedFinite}
 use Rattle.rules.specs.Plan.{Problem, State, Workspace, nOf}
 use Rattle.rules.specs.Choose.{choose}
-use Rattle.rules.specs.Basis.{rowCoeffsOf, helperOf, listedFinite, etaFits}
+use Rattle.rules.specs.Basis.{rowCoeffsOf, helperOf, etaFits}
 use Rattle.rules.specs.Ratio.{rises}
 use Rattle.rules.specs.Choices.{Listed, maxStep, RatioGives, exchanges}
 use Rattle.rules.specs.Pivot.{flipFinite, flipped, exchangeFinite, exchanged}

@@ -19,7 +19,8 @@ use Rattle.doubles.specs.Words.{Within}
 use Rattle.doubles.proofs.Bools.{never}
 use Rattle.doubles.proofs.Loops.{all-by, getD-table, each-snoc, keeps}
 use Rattle.doubles.proofs.Bounds.{double, weaker, zero-within, one-within, product, minus, one-more, total}
-use Rattle.rules.specs.Plan.{Plan, Memory, Entry, entry, problemOf, mOf, rowCols, rowCoeffs, rowSum, dot, column, columnRow, columnTurn}
+use Rattle.sparse.specs.Scattered.{dot}
+use Rattle.rules.specs.Plan.{Plan, Memory, Entry, entry, problemOf, mOf, rowCols, rowCoeffs, rowSum, column, columnRow, columnTurn}
 use Rattle.rules.specs.Refusals.{passes1, passes2, firstBadRow, isLower, isUpper}
 use Rattle.rules.specs.Start.{startVal, startValAt, startVals, startObjective, startSlack, startNorm, passes6}
 use Rattle.rules.specs.Invariant.{ProblemFits}

@@ -6,10 +6,10 @@ use mathlib.Core.Logic.{_↔_, _⊎_, inl, inr, ⊎-elim, Iff·rfl, Iff·trans}
 use Prim.Native.Nat.{ℕ}
 use native.Mathlib.Omega.{arith}
 use lib.Ieee.{Float}
-use Rattle.doubles.proofs.Bools.{_or_, never, itself, leb-fails, ltb-fails, some-fails}
-use Rattle.sparse.specs.Scattered.{Sv}
+use Rattle.doubles.proofs.Bools.{never, itself, leb-fails, ltb-fails, some-fails, _or_}
+use Rattle.sparse.specs.Scattered.{Sv, listedFinite}
 use Rattle.rules.specs.Plan.{Problem, State}
-use Rattle.rules.specs.Basis.{listedFinite, etaFits, rowCoeffsOf, helperOf}
+use Rattle.rules.specs.Basis.{etaFits, rowCoeffsOf, helperOf}
 use Rattle.rules.specs.Ratio.{ratio}
 use Rattle.rules.specs.Pivot.{storesFinite, flipFinite, etaFinite, exchangeFinite}
 use Rattle.rules.specs.Step.{Outcome, moved, stopped, unless, exchange, flip, pivot, step}

@@ -18,10 +18,10 @@ use Rattle.doubles.specs.Loop.{run, down}
 use Rattle.doubles.specs.Lists.{_#_}
 use Rattle.doubles.proofs.Loops.{keeps}
 use Rattle.doubles.proofs.Tests.{true-by}
-use Rattle.sparse.specs.Scattered.{Sv, blank, putAt, touched, touchedBy, listed, listedVal}
+use Rattle.sparse.specs.Scattered.{Sv, blank, putAt, touched, touchedBy, listed, listedVal, relisted}
 use Rattle.sparse.proofs.Laws.{untouched, no-both, none-set, falses, listed-marked, marked-listed}
 use Rattle.rules.specs.Plan.{Problem, State, Etas, nOf, mOf, rowCols, rowCoeffs, varStateOf}
-use Rattle.rules.specs.Basis.{factorSolveTransp, etaTurnTransp, solveEtasTransp, solveTransp, addEntry, addTurn, addRow, combine, rowCoeffsOf, relisted, helperOf}
+use Rattle.rules.specs.Basis.{factorSolveTransp, etaTurnTransp, solveEtasTransp, solveTransp, addEntry, addTurn, addRow, combine, rowCoeffsOf, helperOf}
 use Rattle.rules.specs.Invariant.{ProblemFits, Store, Fits, Vector, Touched}
 use Rattle.rules.proofs.Maps.{split}
 use Rattle.rules.proofs.Vectors.{vector-blank, vector-putAt, rows-places, columns-places, vector-addEntry, vector-addRow, vector-combine, relisted-vector}

@@ -2,7 +2,7 @@
 use mathlib.Core.Path.{_≡_, refl}
 use mathlib.Core.Bool.{Bool, true, false}
 use mathlib.Core.List.{List, [], _∷_, _++_}
-use Prim.Native.Nat.{ℕ, suc, _+_, _-_, _<_, _≤_}
+use Prim.Native.Nat.{ℕ, suc, _+_, _<_, _≤_, _-_}
 use native.Mathlib.Nat.{le-refl}
 use native.Mathlib.Omega.{arith}
 use lib.Dec.{ltb, eqb}
@@ -14,10 +14,10 @@ use Rattle.doubles.specs.Limits.{places, etaEntries}
 use Rattle.doubles.specs.Loop.{run, each}
 use Rattle.doubles.specs.Lists.{_!_, _#_}
 use Rattle.doubles.proofs.Loops.{keeps, keeps-down}
-use Rattle.sparse.specs.Scattered.{Sv, blank, putAt, listed, listedVal}
+use Rattle.sparse.specs.Scattered.{Sv, blank, putAt, listed, listedVal, takeTurn, takeOff, relisted}
 use Rattle.sparse.proofs.Laws.{good-putAt, below-putAt, good-blank, below-blank, count-below, listed-once}
 use Rattle.rules.specs.Plan.{Problem, State, Etas, Entry, entry, nOf, mOf, rowCols, rowCoeffs, column, columnTurn, columnRow, varStateOf}
-use Rattle.rules.specs.Basis.{factorSolve, factorSolveTransp, etaRowsOf, etaCoeffsOf, takeTurn, takeOff, etaTurn, solveEtas, solve, etaTurnTransp, solveEtasTransp, solveTransp, colCoeffs, addEntry, addTurn, addRow, combine, rowCoeffsOf, relisted, helperOf}
+use Rattle.rules.specs.Basis.{factorSolve, factorSolveTransp, etaRowsOf, etaCoeffsOf, etaTurn, solveEtas, solve, etaTurnTransp, solveEtasTransp, solveTransp, colCoeffs, addEntry, addTurn, addRow, combine, rowCoeffsOf, helperOf}
 use Rattle.rules.specs.Invariant.{ProblemFits, Store, Fits, Vector}
 use Rattle.rules.proofs.Lists.{part-long, part-at, snoc-at}
 

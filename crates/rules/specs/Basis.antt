@@ -5,12 +5,12 @@ use Prim.Native.Nat.{ℕ, _+_}
 use lib.Dec.{ltb, leb, eqb}
 use lib.ListN.{length, set, take, drop}
 use lib.Ieee.{Float}
-use Rattle.doubles.specs.Num.{_⊖_, _⊗_, _⊘_, f1, finite}
+use Rattle.doubles.specs.Num.{_⊖_, _⊗_, _⊘_, f1}
 use Rattle.doubles.specs.Limits.{etaColumns, etaEntries}
-use Rattle.doubles.specs.Loop.{run, down, all, each}
+use Rattle.doubles.specs.Loop.{run, down, each}
 use Rattle.doubles.specs.Lists.{_!_, _#_, part}
-use Rattle.sparse.specs.Scattered.{Sv, blank, putAt, addAt, subAt, listed, listedVal}
-use Rattle.rules.specs.Plan.{Problem, State, Etas, nOf, rowCols, rowCoeffs, dot, column, varStateOf}
+use Rattle.sparse.specs.Scattered.{Sv, blank, putAt, addAt, subAt, listed, listedVal, dot, takeOff, relisted}
+use Rattle.rules.specs.Plan.{Problem, State, Etas, nOf, rowCols, rowCoeffs, column, varStateOf}
 use Rattle.rules.specs.declared.VarState.the-variants.{Basic, NonBasic}
 
 -- "The first factor is the identity"
@@ -26,13 +26,7 @@ etaRowsOf h k = part (h .starts # k) (h .starts # (k + 1)) (h .rows)
 abbrev pub etaCoeffsOf : Etas → ℕ → List Float
 etaCoeffsOf h k = part (h .starts # k) (h .starts # (k + 1)) (h .coeffs)
 
--- ---- solve: x times a column taken off, in its order; a place is touched even where x is 0.0
-abbrev pub takeTurn : Float → List ℕ → List Float → ℕ → Sv → Sv
-takeTurn x rows coeffs k s = subAt s (rows # k) (x ⊗ coeffs ! k)
-
-unfoldable pub takeOff : Float → List ℕ → List Float → Sv → Sv
-takeOff x rows coeffs s = run (takeTurn x rows coeffs) (length rows) s
-
+-- ---- solve: the value at an eta's leaving row times its column is taken off
 unfoldable pub etaTurn : Etas → ℕ → Sv → Sv
 etaTurn h k s = takeOff (s .vals ! (h .leaving # k)) (etaRowsOf h k) (etaCoeffsOf h k) s
 
@@ -76,15 +70,8 @@ unfoldable pub rowCoeffsOf : Problem → State → ℕ → Sv
 rowCoeffsOf P s r = combine P (s .ws .varStates) (solveTransp (s .ws .etas) (s .etaCount) (putAt blank r f1))
 
 -- sq_norms_update_helper. "An untouched place of sq_norms_update_helper counts as 0.0"
-unfoldable pub relisted : Sv → Sv
-relisted c = run (λ k t. putAt t (listed c k) (listedVal c k)) (c .pat .count) blank
-
 unfoldable pub helperOf : Problem → State → Sv → Sv
 helperOf P s c = combine P (s .ws .varStates) (solveTransp (s .ws .etas) (s .etaCount) (relisted c))
-
--- every listed entry is finite
-unfoldable pub listedFinite : Sv → Bool
-listedFinite s = all (s .pat .count) (λ k. finite (listedVal s k))
 
 -- ---- push_eta_matrix. "Eta entry (ours): 1 - 1/pivot at the leaving row, else coefficient/pivot, in the column's listed order"
 unfoldable pub etaEntry : ℕ → Float → ℕ → Float → Float

@@ -1,12 +1,13 @@
 -- What is lent: the plan, which is read, and the memory, which is written. Arrays may be longer or shorter than the sizes that the caller says. Assumes nothing.
 use mathlib.Core.Bool.{Bool, true, false}
 use mathlib.Core.List.{List, [], _∷_, _++_}
-use Prim.Native.Nat.{ℕ, zero, suc, _+_, _-_, _*_, _/_, _%_}
+use Prim.Native.Nat.{ℕ, zero, suc, _+_, _*_, _/_, _%_, _-_}
 use lib.Dec.{ltb, eqb}
 use lib.ListN.{length}
 use lib.Ieee.{Float}
-use Rattle.doubles.specs.Num.{f0, f1, +inf, -inf, _⊕_, _⊗_}
+use Rattle.doubles.specs.Num.{f0, f1, +inf, -inf}
 use Rattle.doubles.specs.Loop.{run}
+use Rattle.sparse.specs.Scattered.{dot}
 use Rattle.doubles.specs.Lists.{_!_, _#_, part}
 use Rattle.rules.specs.declared.VarState.{VarState}
 use Rattle.rules.specs.declared.VarState.the-variants.{Basic, NonBasic}
@@ -112,13 +113,6 @@ keptRows p = run (keptTurn p) (p .rows) []
 
 abbrev pub problemOf : Plan → Problem
 problemOf p = record { plan = p; kept = keptRows p }
-
--- the sum of coefficient times value, from 0.0, in order
-abbrev pub dotTurn : List ℕ → List Float → List Float → ℕ → Float → Float
-dotTurn at xs v k t = t ⊕ xs ! k ⊗ v ! (at # k)
-
-unfoldable pub dot : List ℕ → List Float → List Float → Float
-dot at xs v = run (dotTurn at xs v) (length at) f0
 
 abbrev pub rowSum : Plan → ℕ → List Float → Float
 rowSum p i v = dot (rowCols p i) (rowCoeffs p i) v

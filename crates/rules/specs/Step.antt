@@ -4,10 +4,10 @@ use Prim.Native.Nat.{ℕ}
 use lib.Ieee.{Float}
 use Rattle.doubles.specs.Loop.{until, Next, done, more}
 use Rattle.doubles.specs.Lists.{_#_}
-use Rattle.sparse.specs.Scattered.{Sv}
+use Rattle.sparse.specs.Scattered.{Sv, listedFinite}
 use Rattle.rules.specs.Plan.{Problem, State}
 use Rattle.rules.specs.Choose.{choose}
-use Rattle.rules.specs.Basis.{colCoeffs, rowCoeffsOf, helperOf, listedFinite, etaFits}
+use Rattle.rules.specs.Basis.{colCoeffs, rowCoeffsOf, helperOf, etaFits}
 use Rattle.rules.specs.Ratio.{ratio}
 use Rattle.rules.specs.Pivot.{flipFinite, flipped, exchangeFinite, exchanged}
 use Rattle.rules.specs.declared.Entering.{Entering}

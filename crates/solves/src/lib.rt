@@ -7,15 +7,13 @@ ghost use mathlib.Core.List.{List, []};
 ghost use Prim.Native.Nat.{_<_, _≤_};
 ghost use lib.ListN.{length};
 ghost use Rattle.doubles.specs.Num.{f1};
-ghost use Rattle.doubles.specs.Limits.{places, etaEntries};
-ghost use Rattle.doubles.specs.Lists.{_#_};
-ghost use Rattle.sparse.specs.Scattered.{sv, blank, putAt, Within};
+ghost use Rattle.doubles.specs.Limits.{places};
+ghost use Rattle.sparse.specs.Scattered.{sv, blank, putAt, Within, relisted, Fresh};
 ghost use Rattle.rules.specs.Plan.{Problem, nOf};
 ghost use Rattle.rules.specs.Parts.{rowed, etasOf};
-ghost use Rattle.rules.specs.Basis.{colCoeffs, rowCoeffsOf, helperOf, relisted, etaFits};
+ghost use Rattle.rules.specs.Basis.{colCoeffs, rowCoeffsOf, helperOf};
 ghost use Rattle.columns.specs.Columns.{ByColumns};
 ghost use Rattle.eta.specs.Store.{Readable};
-ghost use Rattle.rows.specs.Lent.{Fresh};
 ghost use Rattle.solves.specs.Lent.{mapped, columnOn, ColumnLent, RowSolve};
 
 // The row of an exchange, with the maps before it: the unit vector of the leaving row, solved, and the rows combined.
@@ -102,7 +100,7 @@ pub fn helper(
     let mut y = [0.0; doubles::PLACES];
     let mut y_marks = [false; doubles::PLACES];
     let mut y_list = [0usize; doubles::PLACES];
-    let again = rows::relist(
+    let again = sparse::relist(
         &mut y,
         &mut y_marks,
         &mut y_list,
@@ -135,15 +133,6 @@ pub fn helper(
         coeffs,
         kept,
     )
-}
-
-// 22: "the next eta column doesn't fit the room left".
-pub fn eta_fits(eta_starts: &[usize], eta_count: usize, count: usize) -> bool
-    requires { ⌜ («eta_count» < length (now «eta_starts»)) × (now «eta_starts» # «eta_count» ≤ etaEntries) × (count ≤ places) ⌝ }
-    ensures { λ r. ⌜ r ≡ etaFits (mapped [] (etasOf [] (now («eta_starts» .entry)) [] []) «eta_count») count ⌝ }
-{
-    let used = eta_starts[eta_count];
-    (eta_count < doubles::ETA_COLUMNS) & (used + count <= doubles::ETA_ENTRIES)
 }
 
 // The column of variable v on a fresh vector: its entries in the matrix by columns, or a slack's own row with 1.0.

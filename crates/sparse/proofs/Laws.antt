@@ -16,7 +16,7 @@ use Rattle.doubles.specs.Lists.{_#_}
 use Rattle.doubles.specs.Limits.{places}
 use Rattle.doubles.specs.Loop.{run}
 use Rattle.doubles.proofs.Loops.{keeps}
-use Rattle.sparse.specs.Scattered.{Pat, pat, Sv, blank, touched, touchedBy, trues, Built, Wf, Good, Below, Within, listed, putAt, putTurn, loaded}
+use Rattle.sparse.specs.Scattered.{Pat, pat, Sv, blank, touched, touchedBy, trues, Built, Wf, Good, Below, Within, listed, listedVal, putAt, takeTurn, takeOff, putTurn, loaded}
 
 -- ---- the count of the marks
 
@@ -283,3 +283,18 @@ good-blank =
 
 pub below-blank : {m : ℕ} → Below m blank
 below-blank = record { below = λ k h. absurd (omega arith) }
+
+-- ---- a column taken off
+module _ {n : ℕ} (x : Float) (rows : List ℕ) (coeffs : List Float) (w : Within n (length rows) rows) (s : Sv) (g : Good n s) where
+  pub good-taking : (k : ℕ) → k ≤ length rows → Good n (run (takeTurn x rows coeffs) k s)
+  good-taking k h = keeps (takeTurn x rows coeffs) s (λ _. Good n) (length rows) (λ j t l p. good-putAt t _ _ p (w .inside j l)) g k h
+
+  pub good-takeOff : Good n (takeOff x rows coeffs s)
+  unfolding takeOff
+  good-takeOff = good-taking (length rows) (le-refl (length rows))
+
+-- a loop that lists a vector anew
+pub good-relisting : (c : Sv) → Within places (c .pat .count) (c .pat .list) → (k : ℕ) → k ≤ c .pat .count → Good places (run (λ k t. putAt t (listed c k) (listedVal c k)) k blank)
+good-relisting c w k h =
+    keeps (λ k t. putAt t (listed c k) (listedVal c k)) blank (λ _. Good places) (c .pat .count)
+    (λ j t l p. good-putAt t _ _ p (w .inside j l)) good-blank k h

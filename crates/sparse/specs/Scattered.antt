@@ -6,9 +6,9 @@ use mathlib.Core.List.{List, [], _∷_}
 use Prim.Native.Nat.{ℕ, suc, _+_, _<_, _≤_}
 use lib.ListN.{length, getD, set, take, replicate}
 use lib.Ieee.{Float}
-use Rattle.doubles.specs.Num.{_⊕_, _⊖_, _⊗_, f0}
+use Rattle.doubles.specs.Num.{_⊕_, _⊖_, _⊗_, f0, finite}
 use Rattle.doubles.specs.Limits.{places}
-use Rattle.doubles.specs.Loop.{run}
+use Rattle.doubles.specs.Loop.{run, all}
 use Rattle.doubles.specs.Lists.{_!_, _#_}
 
 -- is_nonzero, nonzero and how many places of the list are in use
@@ -74,6 +74,28 @@ squareTurn s k t = t ⊕ listedVal s k ⊗ listedVal s k
 unfoldable pub sqNorm : Sv → Float
 sqNorm s = run (squareTurn s) (s .pat .count) f0
 
+-- x times a column taken off, in its order; a place is touched even where x is 0.0
+abbrev pub takeTurn : Float → List ℕ → List Float → ℕ → Sv → Sv
+takeTurn x rows coeffs k s = subAt s (rows # k) (x ⊗ coeffs ! k)
+
+unfoldable pub takeOff : Float → List ℕ → List Float → Sv → Sv
+takeOff x rows coeffs s = run (takeTurn x rows coeffs) (length rows) s
+
+-- the sum of coefficient times value, from 0.0, in order
+abbrev pub dotTurn : List ℕ → List Float → List Float → ℕ → Float → Float
+dotTurn at xs v k t = t ⊕ xs ! k ⊗ v ! (at # k)
+
+unfoldable pub dot : List ℕ → List Float → List Float → Float
+dot at xs v = run (dotTurn at xs v) (length at) f0
+
+-- the listed values, in listed order, put onto a fresh vector
+unfoldable pub relisted : Sv → Sv
+relisted c = run (λ k t. putAt t (listed c k) (listedVal c k)) (c .pat .count) blank
+
+-- every listed entry is finite
+unfoldable pub listedFinite : Sv → Bool
+listedFinite s = all (s .pat .count) (λ k. finite (listedVal s k))
+
 -- ---- what is always true of a vector
 
 -- how many marks are set
@@ -100,6 +122,10 @@ pub record Good (n : ℕ) (s : Sv) : Type 0 where
   pub vals-long : length (s .vals) ≡ n
   pub wf : Wf n (s .pat)
   pub zeros : (j : ℕ) → j < n → getD (s .pat .marks) j false ≡ false → s .vals ! j ≡ f0
+
+-- the vector is a fresh one
+pub record Fresh (s : Sv) : Type 0 where
+  pub fresh : s ≡ blank
 
 -- every listed place is below m
 pub record Below (m : ℕ) (s : Sv) : Type 0 where

@@ -10,9 +10,9 @@ use Rattle.doubles.specs.Num.{_⊕_, _⊖_, _⊗_, f0, finite}
 use Rattle.doubles.specs.Loop.{table}
 use Rattle.doubles.specs.Lists.{_!_, _#_, over}
 use Rattle.doubles.proofs.Loops.{run-same, all-same, over-same, length-tab}
-use Rattle.sparse.specs.Scattered.{Within}
-use Rattle.rules.specs.Plan.{Plan, Problem, Etas, Workspace, nOf, mOf, rowCols, rowCoeffs, dot, dotTurn, slackMin, slackMax}
-use Rattle.rules.specs.Parts.{workspaceOf, etasOf, stateOf}
+use Rattle.sparse.specs.Scattered.{Within, dot, dotTurn}
+use Rattle.rules.specs.Plan.{Plan, Problem, Etas, Workspace, nOf, mOf, rowCols, rowCoeffs, slackMin, slackMax}
+use Rattle.rules.specs.Parts.{workspaceOf, stateOf}
 use Rattle.rules.specs.Start.{startValAt, startVals, startObjective, objectiveTurn, startSlack, startNorm, startFlags, startWorkspace, startState, inBounds, passes6, passes7}
 use Rattle.rules.specs.Invariant.{ProblemFits}
 use Rattle.rules.proofs.Lists.{over-at, over-enough}

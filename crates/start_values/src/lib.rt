@@ -136,7 +136,7 @@ fn start_slack(
     let i = kept[r];
     let row_cols = plan::row_cols(starts, cols, i);
     let row_coeffs = plan::row_coeffs(starts, coeffs, i);
-    rhs[i] - eta::dot(row_cols, row_coeffs, xs)
+    rhs[i] - sparse::dot(row_cols, row_coeffs, xs)
 }
 
 // The slacks of the kept rows, over the front of the scratch.

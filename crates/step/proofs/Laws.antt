@@ -2,17 +2,17 @@
 use mathlib.Core.Path.{_≡_, refl, sym, subst, ap, _∙_}
 use mathlib.Core.Bool.{Bool, true, false}
 use mathlib.Core.List.{List}
-use Prim.Native.Nat.{ℕ, suc, _+_, _<_, _≤_}
+use Prim.Native.Nat.{ℕ, suc, _<_, _≤_}
 use native.Mathlib.Omega.{arith}
 use lib.ListN.{length}
 use lib.Ieee.{Float}
 use Rattle.doubles.specs.Limits.{maxRows, maxColumns, places}
 use Rattle.doubles.specs.Lists.{_#_}
-use Rattle.sparse.specs.Scattered.{Sv, sv, Within}
+use Rattle.sparse.specs.Scattered.{Sv, sv, Within, listedFinite}
 use Rattle.rules.specs.Plan.{Problem, Workspace, State, nOf, column, varMin, varMax}
 use Rattle.rules.specs.Parts.{planOf, problem, bounded, rowed}
 use Rattle.rules.specs.Choose.{otherVal, choose}
-use Rattle.rules.specs.Basis.{colCoeffs, addRow, combine, rowCoeffsOf, helperOf, listedFinite}
+use Rattle.rules.specs.Basis.{colCoeffs, addRow, combine, rowCoeffsOf, helperOf}
 use Rattle.rules.specs.Ratio.{ahead, limit, examined, relaxed, stepTo, soundRatios, passOne, candidate, passTwoTurn, passTwo, flipOf, exchangeOf as ratioExchange, pivotOf, soundDistance, ratio}
 use Rattle.rules.specs.Choices.{RatioGives, exchanges as gives-exchange}
 use Rattle.rules.specs.Pivot.{flagsAt, flipFinite, flipped, exchangeFinite, exchanged}
@@ -42,13 +42,12 @@ use Rattle.pivot.specs.Lent.{Flips}
 use Rattle.cells.proofs.Parts.{boundsOf}
 use Rattle.pivot.proofs.Parts.{fits-flips, flipped-part}
 use Rattle.columns.specs.Columns.{ByColumns}
-use Rattle.columns.proofs.Callers.{columns-part}
 use Rattle.solves.specs.Lent.{ColumnLent}
 use Rattle.state.specs.Packed.{packed, stateAt}
 use Rattle.state.specs.declared.Tally.{Tally}
 use Rattle.state.specs.declared.Exchange.{Exchange}
 use Rattle.exchange.specs.Left.{Left, on, off, after, stepped}
-use Rattle.exchange.specs.Lent.{Ready, Solved}
+use Rattle.exchange.specs.Lent.{Ready}
 use Rattle.step.specs.Found.{Found, flips, exchanges, ends, exchangeOf, byPivot, byRatio, found, foundBy}
 use Rattle.step.specs.declared.Decided.{Decided}
 use Rattle.step.specs.declared.Decided.the-variants.{Flips as Flips·found, Exchanges, Stops}

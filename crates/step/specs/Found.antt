@@ -5,9 +5,9 @@ use mathlib.Core.List.{List}
 use Prim.Native.Nat.{ℕ}
 use lib.Ieee.{Float}
 use Rattle.doubles.specs.Lists.{_#_}
-use Rattle.sparse.specs.Scattered.{Sv, sv}
+use Rattle.sparse.specs.Scattered.{Sv, sv, listedFinite}
 use Rattle.rules.specs.Plan.{Problem, State}
-use Rattle.rules.specs.Basis.{colCoeffs, listedFinite}
+use Rattle.rules.specs.Basis.{colCoeffs}
 use Rattle.rules.specs.Ratio as Ratio
 use Rattle.rules.specs.Pivot.{flipFinite}
 use Rattle.rules.specs.declared.Entering.{Entering}

@@ -5,12 +5,11 @@ ghost use mathlib.Core.List.{List};
 ghost use Prim.Native.Nat.{ℕ, _<_};
 ghost use lib.ListN.{length};
 ghost use lib.Ieee.{Float};
-ghost use Rattle.sparse.specs.Scattered.{sv};
+ghost use Rattle.sparse.specs.Scattered.{sv, Fresh};
 ghost use Rattle.rules.specs.Plan.{State};
 ghost use Rattle.rules.specs.Parts.{rowed};
 ghost use Rattle.rules.specs.Step as Step;
 ghost use Rattle.columns.specs.Columns.{ByColumns};
-ghost use Rattle.rows.specs.Lent.{Fresh};
 ghost use Rattle.state.specs.Packed.{stateAt};
 ghost use Rattle.exchange.specs.Left.{afterBy, leftBy, stepped};
 ghost use Rattle.exchange.specs.Lent.{Ready};
@@ -64,7 +63,7 @@ fn decide(
         ccoeffs,
         col,
     );
-    if !rows::listed_finite(values, list, count) {
+    if !sparse::listed_finite(values, list, count) {
         return Decided::Stops(rules::Stop::NotFinite);
     }
     let found = step_reads::ratio(

@@ -4,25 +4,23 @@ ghost use mathlib.Core.Bool.{Bool};
 ghost use mathlib.Core.List.{List, []};
 ghost use Prim.Native.Nat.{ℕ, _<_, _≤_};
 ghost use lib.ListN.{length};
-ghost use lib.Ieee.{Float};
 ghost use Rattle.doubles.specs.Num.{f1};
-ghost use Rattle.doubles.specs.Limits.{maxRows, maxColumns, etaColumns, etaEntries, places};
+ghost use Rattle.doubles.specs.Limits.{maxRows, maxColumns, places};
 ghost use Rattle.doubles.specs.Lists.{_#_};
-ghost use Rattle.sparse.specs.Scattered.{Pat, sv, svOf, sqNorm, blank, putAt, Within};
+ghost use Rattle.sparse.specs.Scattered.{Pat, sv, svOf, sqNorm, blank, putAt, Within, relisted, Fresh};
 ghost use Rattle.rules.specs.Plan.{Problem, nOf};
 ghost use Rattle.rules.specs.Parts.{bounded, rowed};
 ghost use Rattle.rules.specs.Choose as Choose;
 ghost use Rattle.rules.specs.Ratio as Ratio;
-ghost use Rattle.rules.specs.Basis.{colCoeffs, rowCoeffsOf, helperOf, relisted, etaFits};
+ghost use Rattle.rules.specs.Basis.{colCoeffs, rowCoeffsOf, helperOf};
 ghost use Rattle.rules.specs.Pivot.{flipFinite, exchangeFinite};
 ghost use Rattle.columns.specs.Columns.{ByColumns};
 ghost use Rattle.eta.specs.Store.{Readable};
-ghost use Rattle.rows.specs.Lent.{Fresh};
 ghost use Rattle.choose.specs.Lent.{Choosing};
 ghost use Rattle.ratio.specs.Lent.{Stepping};
 ghost use Rattle.solves.specs.Lent.{ColumnLent, RowSolve};
 ghost use Rattle.new_numbers.specs.Lent.{Listing};
-ghost use Rattle.state.specs.Packed.{packed, stateAt, Sized, keptAt, objectiveAt};
+ghost use Rattle.state.specs.Packed.{packed, stateAt, Sized, objectiveAt};
 
 // The entering column, or none.
 pub fn choose(
@@ -126,20 +124,6 @@ pub fn ratio(
         &doubles[state::PRICES..state::PRICES_END],
         values,
         list,
-        count,
-    )
-}
-
-// 22: "the next eta column doesn't fit the room left".
-pub fn eta_fits(numbers: &[usize], at: state::Tally, count: usize) -> bool
-    requires { ⌜ (length (now numbers) ≡ keptAt) × (at .«eta_count» ≤ etaColumns) × (count ≤ places) ⌝ }
-    requires { ⌜ packed (now numbers) [] .etas .starts # (at .«eta_count») ≤ etaEntries ⌝ }
-    ensures { λ r. ⌜ ((D : List Float) → r ≡ etaFits (stateAt (now (numbers .entry)) D at) count) ⌝ }
-{
-    let columns = at.eta_count;
-    solves::eta_fits(
-        &numbers[state::ETA_STARTS..state::ETA_STARTS_END],
-        columns,
         count,
     )
 }

@@ -1,15 +1,15 @@
--- `eta::dot` meets its contract: after k turns the sum is the definition's after k turns. Assumes nothing.
+-- `sparse::dot` meets its contract: after k turns the sum is the definition's after k turns. Assumes nothing.
 use borrow.Author.Needs.{needs}
 use mathlib.Core.Path.{_≡_, refl}
-use Prim.Native.Nat.{_-_, _<_, _≤_}
+use Prim.Native.Nat.{_<_, _≤_, _-_}
 use native.Mathlib.Omega.{arith}
 use lib.ListN.{length, getD}
 use Rattle.doubles.specs.Num.{f0}
 use Rattle.doubles.specs.Loop.{run}
 use Rattle.doubles.proofs.Loops.{next, done}
-use Rattle.rules.specs.Plan.{dotTurn, dot}
-use Rattle.eta.proofs.dot.Statement.{statement}
-use Rattle.eta.proofs.dot.Tie as tie
+use Rattle.sparse.specs.Scattered.{dotTurn, dot}
+use Rattle.sparse.proofs.dot.Statement.{statement}
+use Rattle.sparse.proofs.dot.Tie as tie
 
 abbrev Inv-loop : tie.InvT-loop
 Inv-loop at xs v sum₀ k₀ sum k = (k ≤ length at) × (sum ≡ run (dotTurn at xs v) k f0)

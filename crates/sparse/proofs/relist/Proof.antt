@@ -1,17 +1,16 @@
--- `rows::relist` meets its contract: after k turns the vector is the definition's after k turns, and so in order. Assumes nothing.
+-- `sparse::relist` meets its contract: after k turns the vector is the definition's after k turns, and so in order. Assumes nothing.
 use mathlib.Core.Path.{_≡_, sym, subst}
 use mathlib.Core.List.{[]}
-use Prim.Native.Nat.{_-_, _<_, _≤_}
+use Prim.Native.Nat.{_<_, _≤_, _-_}
 use native.Mathlib.Omega.{arith}
 use lib.ListN.{getD}
 use Rattle.doubles.specs.Limits.{places}
 use Rattle.doubles.specs.Loop.{run}
 use Rattle.doubles.proofs.Loops.{next, done}
-use Rattle.sparse.specs.Scattered.{sv, blank, putAt, listed, listedVal, Good}
-use Rattle.rules.specs.Basis.{relisted}
-use Rattle.rows.proofs.Laws.{good-relisting}
-use Rattle.rows.proofs.relist.Statement.{statement}
-use Rattle.rows.proofs.relist.Tie as tie
+use Rattle.sparse.specs.Scattered.{sv, blank, putAt, listed, listedVal, Good, relisted}
+use Rattle.sparse.proofs.Laws.{good-relisting}
+use Rattle.sparse.proofs.relist.Statement.{statement}
+use Rattle.sparse.proofs.relist.Tie as tie
 
 abbrev Inv-loop : tie.InvT-loop
 Inv-loop values₀ marks₀ list₀ from from-list from-count c₀ k₀ values marks list c k =

@@ -1,16 +1,15 @@
--- `eta::take_off` meets its contract: after k turns the vector is the definition's after k turns, and so in order. Assumes nothing.
+-- `sparse::take_off` meets its contract: after k turns the vector is the definition's after k turns, and so in order. Assumes nothing.
 use mathlib.Core.Path.{_≡_, refl, sym, subst}
-use Prim.Native.Nat.{_-_, _≤_}
+use Prim.Native.Nat.{_≤_, _-_}
 use native.Mathlib.Omega.{arith}
 use lib.ListN.{length}
 use Rattle.doubles.specs.Limits.{places}
 use Rattle.doubles.specs.Loop.{run}
 use Rattle.doubles.proofs.Loops.{next, done}
-use Rattle.sparse.specs.Scattered.{sv, Good}
-use Rattle.rules.specs.Basis.{takeTurn, takeOff}
-use Rattle.eta.proofs.Laws.{good-taking}
-use Rattle.eta.proofs.take_off.Statement.{statement}
-use Rattle.eta.proofs.take_off.Tie as tie
+use Rattle.sparse.specs.Scattered.{sv, Good, takeTurn, takeOff}
+use Rattle.sparse.proofs.Laws.{good-taking}
+use Rattle.sparse.proofs.take_off.Statement.{statement}
+use Rattle.sparse.proofs.take_off.Tie as tie
 
 abbrev Inv-loop : tie.InvT-loop
 Inv-loop values₀ marks₀ list₀ count rows coeffs x n₀ k₀ values marks list n k =

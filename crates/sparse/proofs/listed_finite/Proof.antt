@@ -1,8 +1,8 @@
--- `rows::listed_finite` meets its contract: every listed value before k is finite. Assumes nothing.
+-- `sparse::listed_finite` meets its contract: every listed value before k is finite. Assumes nothing.
 use mathlib.Core.Path.{_≡_, refl, sym, _∙_}
 use mathlib.Core.Bool.{true}
 use mathlib.Core.List.{[]}
-use Prim.Native.Nat.{_-_, _<_, _≤_}
+use Prim.Native.Nat.{_<_, _≤_, _-_}
 use native.Mathlib.Omega.{arith}
 use lib.ListN.{getD}
 use borrow.Author.Tests.{not-true, not-false}
@@ -10,10 +10,9 @@ use Rattle.doubles.specs.Num.{finite}
 use Rattle.doubles.specs.Limits.{places}
 use Rattle.doubles.specs.Loop.{all}
 use Rattle.doubles.proofs.Loops.{all-next, all-fails, all-done}
-use Rattle.sparse.specs.Scattered.{sv, listedVal}
-use Rattle.rules.specs.Basis.{listedFinite}
-use Rattle.rows.proofs.listed_finite.Statement.{statement}
-use Rattle.rows.proofs.listed_finite.Tie as tie
+use Rattle.sparse.specs.Scattered.{sv, listedVal, listedFinite}
+use Rattle.sparse.proofs.listed_finite.Statement.{statement}
+use Rattle.sparse.proofs.listed_finite.Tie as tie
 
 abbrev Inv-loop : tie.InvT-loop
 Inv-loop values list count k₀ k = (k ≤ count) × (all k (λ j. finite (listedVal (sv values [] list count) j)) ≡ true)
