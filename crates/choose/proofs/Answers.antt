@@ -17,10 +17,10 @@ module _ (P : Problem) (w : Workspace) {b : Best} (best : b ≡ bestColumn (nOf 
   pick b = elim (ltb (b .col) (nOf P)) [ true ↦ Enters (enteringOf P w b) | false ↦ Nothing ]
 
   pub chosen : {o d : Float} → b .col < nOf P → o ≡ otherVal P w (b .col) → d ≡ size (o ⊖ w .nbVarVals ! b .col)
-      → Enters (record { col = b .col; price = w .nbVarObjCoeffs ! b .col; score = b .score; distance = d }) ≡ choose P w
+      → Enters (record { col = b .col; price = w .prices ! b .col; score = b .score; distance = d }) ≡ choose P w
   unfolding choose enteringOf
   chosen {o} {d} l e f =
-      let this : Enters (record { col = b .col; price = w .nbVarObjCoeffs ! b .col; score = b .score; distance = d }) ≡ pick b =
+      let this : Enters (record { col = b .col; price = w .prices ! b .col; score = b .score; distance = d }) ≡ pick b =
       rw (lt-ltb (b .col) (nOf P) l, pick, f, e) in
       this ∙ ap pick best
 

@@ -14,8 +14,8 @@ module _ {P : Problem} (f : ProblemFits P) where
   choosing g =
       record {
         sides = sides;
-        columns = record { nbVars-long = g .lengths .nbVars-long; prices-long = g .lengths .nbVarObjCoeffs-long; place = λ c l. g .maps .place c l .var };
+        columns = record { nbVars-long = g .lengths .nbVars-long; prices-long = g .lengths .prices-long; place = λ c l. g .maps .place c l .var };
         vals-long = g .lengths .nbVarVals-long;
-        norms-long = g .lengths .primalEdgeSqNorms-long;
-        flags-long = g .lengths .nbVarStates-long;
+        norms-long = g .lengths .norms-long;
+        flags-long = g .lengths .flags-long;
       }

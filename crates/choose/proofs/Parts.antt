@@ -6,7 +6,7 @@ use Rattle.cells.proofs.Parts.{boundsOf}
 use Rattle.choose.specs.Lent.{nonBasicOf}
 
 abbrev pub choosingOf : Workspace → Workspace
-choosingOf w = nonBasicOf (w .nbVars) (w .nbVarVals) (w .nbVarObjCoeffs) (w .primalEdgeSqNorms) (w .nbVarStates)
+choosingOf w = nonBasicOf (w .nbVars) (w .nbVarVals) (w .prices) (w .norms) (w .flags)
 
 pub choose-part : (P : Problem) (w : Workspace) → choose P w ≡ choose (boundsOf P) (choosingOf w)
 unfolding choose enteringOf otherVal bestColumn betterTurn varMin varMax

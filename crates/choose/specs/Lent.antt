@@ -15,7 +15,7 @@ nonBasicOf nbVars nbVarVals prices norms flags = workspaceOf [] [] nbVars nbVarV
 -- the places: each has a variable of the problem
 pub record Places (P : Problem) (w : Workspace) : Type 0 where
   pub nbVars-long : nOf P ≤ length (w .nbVars)
-  pub prices-long : nOf P ≤ length (w .nbVarObjCoeffs)
+  pub prices-long : nOf P ≤ length (w .prices)
   pub place : (c : ℕ) → c < nOf P → w .nbVars # c < nOf P + mOf P
 
 -- what the choice of the entering column is lent
@@ -23,5 +23,5 @@ pub record Choosing (P : Problem) (w : Workspace) : Type 0 where
   pub sides : Sides P
   pub columns : Places P w
   pub vals-long : nOf P ≤ length (w .nbVarVals)
-  pub norms-long : nOf P ≤ length (w .primalEdgeSqNorms)
-  pub flags-long : nOf P ≤ length (w .nbVarStates)
+  pub norms-long : nOf P ≤ length (w .norms)
+  pub flags-long : nOf P ≤ length (w .flags)

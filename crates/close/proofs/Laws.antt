@@ -22,11 +22,11 @@ use Rattle.rules.specs.Answers.{numberOf}
 use Rattle.rules.specs.Solve.{Solved, solved, checkedAnswer, answerOf, valuesAfter, memoryAfter, close}
 use Rattle.rules.specs.Invariant.{ProblemFits, Fits}
 use Rattle.rules.specs.declared.Stop.{Stop}
-use Rattle.rules.specs.declared.Stop.the-variants.{Finished, Spent as Stop·Spent, Unbounded as Stop·Unbounded, StoreFull as Stop·StoreFull, NotFinite as Stop·NotFinite}
+use Rattle.rules.specs.declared.Stop.the-variants.{Finished, Spent as Stop·Spent, Unbounded as Stop·Unbounded, NoRoom as Stop·NoRoom, NotFinite as Stop·NotFinite}
 use Rattle.rules.specs.declared.Checked.{Checked}
 use Rattle.rules.specs.declared.Checked.the-variants.{Passed, Value, Row}
 use Rattle.rules.specs.declared.Answer.{Answer}
-use Rattle.rules.specs.declared.Answer.the-variants.{Spent, Unbounded, StoreFull, NotFinite}
+use Rattle.rules.specs.declared.Answer.the-variants.{Spent, Unbounded, NoRoom, NotFinite}
 use Rattle.state.specs.Packed.{section, packed, stateAt, basicVarsAt, nbVarsAt, varStatesAt, flagCellsAt, etaLeavingAt, etaStartsAt, etaRowsAt, keptAt, countsAt, basicVarValsAt, nbVarValsAt, pricesAt, normsAt, etaCoeffsAt, objectiveAt}
 use Rattle.state.specs.Memory.{numbersEnd, doublesEnd, memoryIn, pastOf, handed, answered}
 use Rattle.state.specs.declared.Tally.{Tally}
@@ -61,7 +61,7 @@ module _ (P : Problem) (s : State) where
   unfolding answerOf
   ends-unbounded q = by-why q
 
-  pub ends-full : {v : Stop} → v ≡ Stop·StoreFull → StoreFull (s .objective) (s .steps) ≡ answerOf P (ended v s)
+  pub ends-full : {v : Stop} → v ≡ Stop·NoRoom → NoRoom (s .objective) (s .steps) ≡ answerOf P (ended v s)
   unfolding answerOf
   ends-full q = by-why q
 
@@ -97,7 +97,7 @@ answer-part P Finished s =
     sym (told-part P (stateOf (s .ws) 0 (s .objective) (s .steps)) c) ∙ told-part P s c
 answer-part P Stop·Spent s = refl
 answer-part P Stop·Unbounded s = refl
-answer-part P Stop·StoreFull s = refl
+answer-part P Stop·NoRoom s = refl
 answer-part P Stop·NotFinite s = refl
 
 -- the values that stand in the sections are the workspace's
@@ -193,7 +193,7 @@ module _ (P : Problem) where
   answer-whole Finished s = ap (checkedAnswer s) (sym (final-part P (valuesOf P (s .ws))))
   answer-whole Stop·Spent s = refl
   answer-whole Stop·Unbounded s = refl
-  answer-whole Stop·StoreFull s = refl
+  answer-whole Stop·NoRoom s = refl
   answer-whole Stop·NotFinite s = refl
 
   pub close-whole : (m : Memory) (r : Ended) → close (checkedBy P) m r ≡ close P m r

@@ -31,8 +31,8 @@ pub fn number_of(a: rules::Answer) -> usize
         rules::Answer::BadSize => 1,
         rules::Answer::BadNumber => 2,
         rules::Answer::BadEntry { row: _, place: _ } => 3,
-        rules::Answer::BadBounds { column: _ } => 4,
-        rules::Answer::FalseRow { row: _ } => 5,
+        rules::Answer::CrossedBounds { column: _ } => 4,
+        rules::Answer::FalseEmptyRow { row: _ } => 5,
         rules::Answer::StartNotFinite => 6,
         rules::Answer::SlackOutside => 7,
         rules::Answer::Unbounded {
@@ -43,7 +43,7 @@ pub fn number_of(a: rules::Answer) -> usize
             objective: _,
             steps: _,
         } => 21,
-        rules::Answer::StoreFull {
+        rules::Answer::NoRoom {
             objective: _,
             steps: _,
         } => 22,
@@ -147,7 +147,7 @@ fn answer_of(
         ),
         rules::Stop::Spent => rules::Answer::Spent { objective, steps },
         rules::Stop::Unbounded => rules::Answer::Unbounded { objective, steps },
-        rules::Stop::StoreFull => rules::Answer::StoreFull { objective, steps },
+        rules::Stop::NoRoom => rules::Answer::NoRoom { objective, steps },
         rules::Stop::NotFinite => rules::Answer::NotFinite { objective, steps },
     }
 }

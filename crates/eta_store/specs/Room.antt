@@ -16,5 +16,5 @@ pub record Room (h : Etas) (n k : ℕ) : Type 0 where
 -- the store alone changes
 abbrev pub columnPushed : Sv → ℕ → Float → ℕ → Workspace → Workspace
 columnPushed c row pivot n w =
-    workspaceOf (w .basicVars) (w .basicVarVals) (w .nbVars) (w .nbVarVals) (w .nbVarObjCoeffs) (w .primalEdgeSqNorms)
-    (w .nbVarStates) (w .varStates) (pushEta c row pivot n (w .etas))
+    workspaceOf (w .basicVars) (w .basicVarVals) (w .nbVars) (w .nbVarVals) (w .prices) (w .norms)
+    (w .flags) (w .varStates) (pushEta c row pivot n (w .etas))

@@ -14,12 +14,12 @@ use Rattle.rules.specs.Plan.{Problem, State, nOf}
 use Rattle.rules.specs.Parts.{planOf, problem, rowed}
 use Rattle.rules.specs.Basis.{solveTransp, rowCoeffsOf, helperOf, combine, addRow, etaFits}
 use Rattle.rules.specs.Pivot.{newNorm, exchangeFinite, exchanged}
-use Rattle.rules.specs.Step.{Outcome, moved, stopped, unless, exchange}
+use Rattle.rules.specs.Step.{Outcome, moved, stopped, orStop, exchange}
 use Rattle.rules.specs.Invariant.{Vector}
 use Rattle.rules.specs.declared.Entering.{Entering}
 use Rattle.rules.specs.declared.PivotInfo.the-variants.{Exchange as Exchanges}
 use Rattle.rules.specs.declared.Stop.{Stop}
-use Rattle.rules.specs.declared.Stop.the-variants.{StoreFull, NotFinite}
+use Rattle.rules.specs.declared.Stop.the-variants.{NoRoom, NotFinite}
 use Rattle.rules.proofs.Vectors.{rows-places, vector-blank, vector-putAt, relisted-vector, row-solve-vector, helper-solve-vector, row-vector, helper-vector}
 use Rattle.eta.proofs.Laws.{fits-readable}
 use Rattle.rows.proofs.Parts.{fits-rows, vector-listed}
@@ -96,7 +96,7 @@ module _ {n : ℕ} {lowers uppers : List Float} {starts cols : List ℕ} {coeffs
 
 -- ---- what is decided
 module _ (P : Problem) (s : State) (e : Entering) (c : Sv) (x : Exchange) where
-  pub decided-full : etaFits s (c .pat .count) ≡ false → ends StoreFull ≡ decided P s e c x
+  pub decided-full : etaFits s (c .pat .count) ≡ false → ends NoRoom ≡ decided P s e c x
   unfolding decided decision
   decided-full q = rw q
 
@@ -137,7 +137,7 @@ module _ (Q : Problem) (s : State) (e : Entering) (c : Sv) (x : Exchange) where
   byDecision (ends w) = stopped w
 
   -- of the helper its values alone are stored
-  by-tests : (a b : Bool) (u v : Sv) → unless a StoreFull (unless b NotFinite (moved (Exchanges (x .value) (x .diff) (x .row) (x .pivot) (x .leaving)) (left u v))) ≡ byDecision (decision a b u (v .vals))
+  by-tests : (a b : Bool) (u v : Sv) → orStop a NoRoom (orStop b NotFinite (moved (Exchanges (x .value) (x .diff) (x .row) (x .pivot) (x .leaving)) (left u v))) ≡ byDecision (decision a b u (v .vals))
   unfolding decision exchanged newNorm
   by-tests false b u v = refl
   by-tests true false u v = refl

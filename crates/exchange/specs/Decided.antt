@@ -10,7 +10,7 @@ use Rattle.rules.specs.Basis.{rowCoeffsOf, helperOf, etaFits}
 use Rattle.rules.specs.Pivot.{exchangeFinite}
 use Rattle.rules.specs.declared.Entering.{Entering}
 use Rattle.rules.specs.declared.Stop.{Stop}
-use Rattle.rules.specs.declared.Stop.the-variants.{StoreFull, NotFinite}
+use Rattle.rules.specs.declared.Stop.the-variants.{NoRoom, NotFinite}
 use Rattle.state.specs.declared.Exchange.{Exchange}
 use Rattle.exchange.specs.declared.Decided.{Decided}
 use Rattle.exchange.specs.declared.Decided.the-variants.{Goes, Stops}
@@ -22,7 +22,7 @@ pub data Decision : Type 0 where
 
 -- by the two tests
 unfoldable pub decision : Bool → Bool → Sv → List Float → Decision
-decision false b r h = ends StoreFull
+decision false b r h = ends NoRoom
 decision true false r h = ends NotFinite
 decision true true r h = goes r h
 

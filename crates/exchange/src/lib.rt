@@ -108,7 +108,7 @@ fn decide(
         (stateAt (now (numbers .entry)) (now (doubles .entry)) at) e (sv (now (values .entry)) m (now (list .entry)) count) x) ⌝ }
 {
     if !eta_store::eta_fits(numbers, at, count) {
-        return Decided::Stops(rules::Stop::StoreFull);
+        return Decided::Stops(rules::Stop::NoRoom);
     }
     let row_count = step_reads::row(
         row_values,

@@ -13,7 +13,7 @@ use Rattle.rules.specs.Plan.{Plan, Memory, Problem, problemOf, nOf, column}
 use Rattle.rules.specs.Parts.{planOf, problem}
 use Rattle.rules.specs.Refusals.{sizesFit, planLong, memoryLong, startsRise, passes1, passes2, firstBadRow}
 use Rattle.rules.specs.Start.{startVals, startObjective, startSlack, startNorm, passes6, passes7}
-use Rattle.rules.specs.Solve.{Solved, solved, unless, close, endOf, solvePlan}
+use Rattle.rules.specs.Solve.{Solved, solved, orRefuse, close, endOf, solvePlan}
 use Rattle.rules.specs.declared.Answer.{Answer}
 use Rattle.rules.specs.declared.Answer.the-variants.{BadSize, BadNumber, BadEntry, StartNotFinite, SlackOutside}
 use Rattle.plan.specs.Refused.{passing, refusalOf}
@@ -111,7 +111,7 @@ module _ (p : Plan) (m : Memory) (s : Numbers) where
   begunFrom b c = elim b [ true ↦ elim c [ true ↦ filled (reckoned P s) | false ↦ refused SlackOutside ] | false ↦ refused StartNotFinite ]
 
   abbrev solvedFrom : Bool → Bool → Solved
-  solvedFrom b c = unless b StartNotFinite m (unless c SlackOutside m (close P m (endOf P m)))
+  solvedFrom b c = orRefuse b StartNotFinite m (orRefuse c SlackOutside m (close P m (endOf P m)))
 
   clash : {A : Type 0} → _≡_ {A = ℕ} 0 1 → A
   clash e = absurd (omega arith)

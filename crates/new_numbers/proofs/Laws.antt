@@ -20,7 +20,7 @@ passes e f = rw e f
 
 -- the new norm, with the entering column's sum of squares known
 pub norm-is : (w : Workspace) (e : Entering) (c : Sv) (pivot : Float) (row helper : Sv) (sq : Float) → sq ≡ sqNorm c
-    → (λ (j : ℕ). normBy (e .col) (sq ⊕ f1) pivot (pivot ⊗ pivot) j (w .primalEdgeSqNorms ! j) (row .vals ! j) (helper .vals ! j)) ≡ newNorm w e c pivot row helper
+    → (λ (j : ℕ). normBy (e .col) (sq ⊕ f1) pivot (pivot ⊗ pivot) j (w .norms ! j) (row .vals ! j) (helper .vals ! j)) ≡ newNorm w e c pivot row helper
 unfolding newNorm normBy
 norm-is w e c pivot row helper sq q =
-    ap {B = ℕ → Float} (λ x j. normBy (e .col) (x ⊕ f1) pivot (pivot ⊗ pivot) j (w .primalEdgeSqNorms ! j) (row .vals ! j) (helper .vals ! j)) q
+    ap {B = ℕ → Float} (λ x j. normBy (e .col) (x ⊕ f1) pivot (pivot ⊗ pivot) j (w .norms ! j) (row .vals ! j) (helper .vals ! j)) q

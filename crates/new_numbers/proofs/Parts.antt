@@ -39,6 +39,6 @@ module _ (P Q : Problem) (s : State) (e : Entering) (c : Sv) (value diff : Float
 
   pub exchange-finite-part : (rowSv helper : Sv) (row : ℕ) (pivot leaving : Float)
       → exchangeFinite P s e c rowSv helper value diff row pivot leaving
-      ≡ exchangeFinite Q (stateOf (numbersOf (s .ws .basicVarVals) (s .ws .nbVarObjCoeffs) (s .ws .primalEdgeSqNorms)) 0 (s .objective) 0) e c rowSv helper value diff row pivot leaving
+      ≡ exchangeFinite Q (stateOf (numbersOf (s .ws .basicVarVals) (s .ws .prices) (s .ws .norms)) 0 (s .objective) 0) e c rowSv helper value diff row pivot leaving
   unfolding exchangeFinite newObjective newVal movedVal newPrice newNorm
   exchange-finite-part rowSv helper row pivot leaving = refl

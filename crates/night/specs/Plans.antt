@@ -72,9 +72,9 @@ roomFor p =
         basicVarVals = replicate m f0;
         nbVars = replicate n 0;
         nbVarVals = replicate n f0;
-        nbVarObjCoeffs = replicate n f0;
-        primalEdgeSqNorms = replicate n f0;
-        nbVarStates = replicate n 0;
+        prices = replicate n f0;
+        norms = replicate n f0;
+        flags = replicate n 0;
         varStates = replicate (n + m) 0;
         etas = record { leaving = replicate etaColumns 0; starts = replicate (etaColumns + 1) 0; rows = replicate etaEntries 0; coeffs = replicate etaEntries f0 };
       };

@@ -7,9 +7,9 @@ use lib.Dec.{eqb}
 use Rattle.rules.specs.Plan.{Plan, Memory, problemOf}
 use Rattle.rules.specs.Refusals.{sizesFit, planLong, memoryLong, startsRise, passes1, passes2, firstBadRow, firstBadIn, firstCrossed, firstFalse}
 use Rattle.rules.specs.Start.{passes6, passes7}
-use Rattle.rules.specs.Solve.{Solved, solved, unless, close, endOf, solvePlan}
+use Rattle.rules.specs.Solve.{Solved, solved, orRefuse, close, endOf, solvePlan}
 use Rattle.rules.specs.declared.Answer.{Answer}
-use Rattle.rules.specs.declared.Answer.the-variants.{BadSize, BadNumber, BadEntry, BadBounds, FalseRow, StartNotFinite, SlackOutside}
+use Rattle.rules.specs.declared.Answer.the-variants.{BadSize, BadNumber, BadEntry, CrossedBounds, FalseEmptyRow, StartNotFinite, SlackOutside}
 use Rattle.rules.proofs.Lengths.{arrays, rising, ends}
 use Rattle.plan.specs.declared.Bad.the-variants.{Entry, Nothing}
 use Rattle.plan.specs.declared.Refusal.{Refusal}
@@ -41,10 +41,10 @@ goes b a r e = sym (ap (λ x. passing x a r) e)
 module _ (p : Plan) where
   -- what is left of the ladder from 5, 4, 3 and 2 on
   abbrev from5 : Refusal
-  from5 = passing (eqb (firstFalse p) (p .rows)) (FalseRow (firstFalse p)) Refusal·Nothing
+  from5 = passing (eqb (firstFalse p) (p .rows)) (FalseEmptyRow (firstFalse p)) Refusal·Nothing
 
   abbrev from4 : Refusal
-  from4 = passing (eqb (firstCrossed p) (p .columns)) (BadBounds (firstCrossed p)) from5
+  from4 = passing (eqb (firstCrossed p) (p .columns)) (CrossedBounds (firstCrossed p)) from5
 
   abbrev from3 : Refusal
   from3 = passing (eqb (firstBadRow p) (p .rows)) (BadEntry (firstBadRow p) (firstBadIn p (firstBadRow p))) from4
@@ -88,24 +88,24 @@ module _ (p : Plan) where
             go true q h = goes _ (BadEntry (firstBadRow p) (firstBadIn p (firstBadRow p))) from4 q
             go false q h = absurd (let z : _≡_ {A = ℕ} 0 1 = cc in omega arith)
 
-        pub says-4 : eqb (firstCrossed p) (p .columns) ≡ false → By (BadBounds (firstCrossed p)) ≡ refusalOf p
-        says-4 e = falls _ (BadBounds (firstCrossed p)) from5 e ∙ at-4
+        pub says-4 : eqb (firstCrossed p) (p .columns) ≡ false → By (CrossedBounds (firstCrossed p)) ≡ refusalOf p
+        says-4 e = falls _ (CrossedBounds (firstCrossed p)) from5 e ∙ at-4
 
         module _ (four : eqb (firstCrossed p) (p .columns) ≡ true) where
           at-5 : from5 ≡ refusalOf p
-          at-5 = goes _ (BadBounds (firstCrossed p)) from5 four ∙ at-4
+          at-5 = goes _ (CrossedBounds (firstCrossed p)) from5 four ∙ at-4
 
-          pub says-5 : eqb (firstFalse p) (p .rows) ≡ false → By (FalseRow (firstFalse p)) ≡ refusalOf p
-          says-5 e = falls _ (FalseRow (firstFalse p)) Refusal·Nothing e ∙ at-5
+          pub says-5 : eqb (firstFalse p) (p .rows) ≡ false → By (FalseEmptyRow (firstFalse p)) ≡ refusalOf p
+          says-5 e = falls _ (FalseEmptyRow (firstFalse p)) Refusal·Nothing e ∙ at-5
 
           pub says-nothing : eqb (firstFalse p) (p .rows) ≡ true → Refusal·Nothing ≡ refusalOf p
-          says-nothing e = goes _ (FalseRow (firstFalse p)) Refusal·Nothing e ∙ at-5
+          says-nothing e = goes _ (FalseEmptyRow (firstFalse p)) Refusal·Nothing e ∙ at-5
 
 -- ---- the whole solve by the answer
 module _ (p : Plan) (m : Memory) where
   -- what follows 5
   abbrev pub fromSix : Solved
-  fromSix = let P = problemOf p in unless (passes6 P) StartNotFinite m (unless (passes7 P) SlackOutside m (close P m (endOf P m)))
+  fromSix = let P = problemOf p in orRefuse (passes6 P) StartNotFinite m (orRefuse (passes7 P) SlackOutside m (close P m (endOf P m)))
 
   abbrev pub solvedBy : Refusal → Solved
   solvedBy (By a) = solved a m
@@ -113,25 +113,25 @@ module _ (p : Plan) (m : Memory) where
 
   abbrev afterOne : Solved
   afterOne =
-      unless (passes2 p) BadNumber m
-      (unless (eqb (firstBadRow p) (p .rows)) (BadEntry (firstBadRow p) (firstBadIn p (firstBadRow p))) m
-      (unless (eqb (firstCrossed p) (p .columns)) (BadBounds (firstCrossed p)) m
-      (unless (eqb (firstFalse p) (p .rows)) (FalseRow (firstFalse p)) m fromSix)))
+      orRefuse (passes2 p) BadNumber m
+      (orRefuse (eqb (firstBadRow p) (p .rows)) (BadEntry (firstBadRow p) (firstBadIn p (firstBadRow p))) m
+      (orRefuse (eqb (firstCrossed p) (p .columns)) (CrossedBounds (firstCrossed p)) m
+      (orRefuse (eqb (firstFalse p) (p .rows)) (FalseEmptyRow (firstFalse p)) m fromSix)))
 
-  rung : (b : Bool) (a : Answer) (s : Solved) (r : Refusal) → s ≡ solvedBy r → unless b a m s ≡ solvedBy (passing b a r)
+  rung : (b : Bool) (a : Answer) (s : Solved) (r : Refusal) → s ≡ solvedBy r → orRefuse b a m s ≡ solvedBy (passing b a r)
   rung true a s r e = e
   rung false a s r e = refl
 
   pub too-short : sizesFit p && planLong p && memoryLong p m ≡ false → solvePlan p m ≡ solved BadSize m
   unfolding solvePlan passes1
-  too-short e = ap (λ b. unless (b && startsRise p) BadSize m afterOne) e
+  too-short e = ap (λ b. orRefuse (b && startsRise p) BadSize m afterOne) e
 
   pub by-refusal : sizesFit p && planLong p && memoryLong p m ≡ true → solvePlan p m ≡ solvedBy (refusalOf p)
   unfolding solvePlan passes1 refusalOf
   by-refusal e =
-      ap (λ b. unless (b && startsRise p) BadSize m afterOne) e
+      ap (λ b. orRefuse (b && startsRise p) BadSize m afterOne) e
       ∙ rung (startsRise p) BadSize _ (from2 p)
       (rung (passes2 p) BadNumber _ (from3 p)
       (rung (eqb (firstBadRow p) (p .rows)) (BadEntry (firstBadRow p) (firstBadIn p (firstBadRow p))) _ (from4 p)
-      (rung (eqb (firstCrossed p) (p .columns)) (BadBounds (firstCrossed p)) _ (from5 p)
-      (rung (eqb (firstFalse p) (p .rows)) (FalseRow (firstFalse p)) fromSix Refusal·Nothing refl))))
+      (rung (eqb (firstCrossed p) (p .columns)) (CrossedBounds (firstCrossed p)) _ (from5 p)
+      (rung (eqb (firstFalse p) (p .rows)) (FalseEmptyRow (firstFalse p)) fromSix Refusal·Nothing refl))))

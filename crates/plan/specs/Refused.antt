@@ -4,7 +4,7 @@ use lib.Dec.{eqb}
 use Rattle.rules.specs.Plan.{Plan}
 use Rattle.rules.specs.Refusals.{startsRise, passes2, firstBadRow, firstBadIn, firstCrossed, firstFalse}
 use Rattle.rules.specs.declared.Answer.{Answer}
-use Rattle.rules.specs.declared.Answer.the-variants.{BadSize, BadNumber, BadEntry, BadBounds, FalseRow}
+use Rattle.rules.specs.declared.Answer.the-variants.{BadSize, BadNumber, BadEntry, CrossedBounds, FalseEmptyRow}
 use Rattle.plan.specs.declared.Bad.{Bad}
 use Rattle.plan.specs.declared.Bad.the-variants.{Entry, Nothing}
 use Rattle.plan.specs.declared.Refusal.{Refusal}
@@ -24,5 +24,5 @@ refusalOf p =
     passing (startsRise p) BadSize
     (passing (passes2 p) BadNumber
     (passing (eqb (firstBadRow p) (p .rows)) (BadEntry (firstBadRow p) (firstBadIn p (firstBadRow p)))
-    (passing (eqb (firstCrossed p) (p .columns)) (BadBounds (firstCrossed p))
-    (passing (eqb (firstFalse p) (p .rows)) (FalseRow (firstFalse p)) Refusal·Nothing))))
+    (passing (eqb (firstCrossed p) (p .columns)) (CrossedBounds (firstCrossed p))
+    (passing (eqb (firstFalse p) (p .rows)) (FalseEmptyRow (firstFalse p)) Refusal·Nothing))))

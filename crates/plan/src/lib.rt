@@ -233,11 +233,11 @@ pub fn first_refusal(
     }
     let column = first_crossed(columns, lowers, uppers);
     if column != columns {
-        return Refusal::By(rules::Answer::BadBounds { column });
+        return Refusal::By(rules::Answer::CrossedBounds { column });
     }
     let row = first_false(rows, starts, ops, rhs);
     if row != rows {
-        return Refusal::By(rules::Answer::FalseRow { row });
+        return Refusal::By(rules::Answer::FalseEmptyRow { row });
     }
     Refusal::Nothing
 }

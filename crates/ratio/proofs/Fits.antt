@@ -16,7 +16,7 @@ module _ {P : Problem} {s : State} (f : ProblemFits P) (g : Fits P s) where
         sides = sides f;
         rows = record { basicVars-long = g .lengths .basicVars-long; basicVarVals-long = g .lengths .basicVarVals-long; row = λ r h. g .maps .row r h .var };
         listing = record { rows-fit = omega (arith, f .few, f .plan .rows-most); count-fits = v .good .wf .within; rows-listed = record { inside = v .places-below .below } };
-        columns = record { nbVars-long = g .lengths .nbVars-long; prices-long = g .lengths .nbVarObjCoeffs-long; place = λ c h. g .maps .place c h .var };
+        columns = record { nbVars-long = g .lengths .nbVars-long; prices-long = g .lengths .prices-long; place = λ c h. g .maps .place c h .var };
         vals-long = g .lengths .nbVarVals-long;
         col-inside = l;
       }

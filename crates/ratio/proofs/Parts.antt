@@ -15,7 +15,7 @@ use Rattle.ratio.specs.Lent.{basicOf, Passing, Stepping}
 use Rattle.ratio.specs.Parts.{leavingBy, pivotBy}
 
 abbrev pub steppingOf : Workspace → Workspace
-steppingOf w = workspaceOf (w .basicVars) (w .basicVarVals) (w .nbVars) (w .nbVarVals) (w .nbVarObjCoeffs) [] [] [] noEtas
+steppingOf w = workspaceOf (w .basicVars) (w .basicVarVals) (w .nbVars) (w .nbVarVals) (w .prices) [] [] [] noEtas
 
 pub ratio-part : (P : Problem) (w : Workspace) (e : Entering) (c : Sv) → ratio P w e c ≡ ratio (boundsOf P) (steppingOf w) e c
 unfolding ratio soundDistance pivotOf flipOf exchangeOf otherVal soundRatios passOne passTwo passTwoTurn candidate examined relaxed stepTo limit ahead varMin varMax

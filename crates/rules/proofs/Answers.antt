@@ -34,7 +34,7 @@ use Rattle.rules.specs.declared.Entering.{Entering}
 use Rattle.rules.specs.declared.Choice.{Choice}
 use Rattle.rules.specs.declared.Choice.the-variants.{Enters, Nothing}
 use Rattle.rules.specs.declared.Stop.{Stop}
-use Rattle.rules.specs.declared.Stop.the-variants.{Finished, Spent as Stop·Spent, Unbounded as Stop·Unbounded, StoreFull as Stop·StoreFull, NotFinite as Stop·NotFinite}
+use Rattle.rules.specs.declared.Stop.the-variants.{Finished, Spent as Stop·Spent, Unbounded as Stop·Unbounded, NoRoom as Stop·NoRoom, NotFinite as Stop·NotFinite}
 use Rattle.rules.specs.declared.Checked.{Checked}
 use Rattle.rules.specs.declared.Checked.the-variants.{Passed, Value, Row}
 use Rattle.rules.specs.declared.Answer.{Answer}
@@ -66,7 +66,7 @@ module _ (P : Problem) (goes : dualFeasible (P .plan) ≡ false) where
   halted s e q h Finished r = absurd (step-stops P s e Finished .0 r)
   halted s e q h Stop·Spent r = absurd (step-stops P s e Stop·Spent .0 r)
   halted s e q h Stop·Unbounded r = (e, (goes, q), h, step-stops P s e Stop·Unbounded .0 r)
-  halted s e q h Stop·StoreFull r = (e, (goes, q), h, step-stops P s e Stop·StoreFull .0 r)
+  halted s e q h Stop·NoRoom r = (e, (goes, q), h, step-stops P s e Stop·NoRoom .0 r)
   halted s e q h Stop·NotFinite r = (e, (goes, q), h, step-stops P s e Stop·NotFinite .0 r)
 
   abbrev EndsSo : ℕ → State → Type 0
@@ -109,7 +109,7 @@ module _ (P : Problem) (goes : dualFeasible (P .plan) ≡ false) where
   ends-there zero s Stop·Spent l h = rw (h .1 .1, atBudget) refl
   ends-there (suc k) s Stop·Spent l h = absurd (omega (arith, h .2))
   ends-there k s Stop·Unbounded l h = halts k s Stop·Unbounded l h
-  ends-there k s Stop·StoreFull l h = halts k s Stop·StoreFull l h
+  ends-there k s Stop·NoRoom l h = halts k s Stop·NoRoom l h
   ends-there k s Stop·NotFinite l h = halts k s Stop·NotFinite l h
 
 -- ---- the end, of a dual feasible plan too
@@ -128,7 +128,7 @@ module _ (P : Problem) (m : Memory) where
   dual-only q t Finished h = ⊎-elim (λ d. (refl, omega (arith, d .1))) (λ d. never q (d .0)) h
   dual-only q t Stop·Spent h = never q (h .1 .0)
   dual-only q t Stop·Unbounded h = never q (h .1 .0)
-  dual-only q t Stop·StoreFull h = never q (h .1 .0)
+  dual-only q t Stop·NoRoom h = never q (h .1 .0)
   dual-only q t Stop·NotFinite h = never q (h .1 .0)
 
   end-so : Ends P (endOf P m .state) (endOf P m .why)
@@ -178,7 +178,7 @@ module _ (P : Problem) (s : State) where
     line Finished h = checked-line h (finalCheck P (valuesOf P (s .ws))) refl
     line Stop·Spent h = spent h
     line Stop·Unbounded h = unbounded h
-    line Stop·StoreFull h = store-full h
+    line Stop·NoRoom h = store-full h
     line Stop·NotFinite h = not-finite h
 
   checked-so : (c : Checked) → Checks P (valuesOf P (s .ws)) c
@@ -194,7 +194,7 @@ module _ (P : Problem) (s : State) where
   line-only (row-rejected r x h g) = (Finished, h, checked-so (Row r x) g)
   line-only (spent h) = (Stop·Spent, h, refl)
   line-only (unbounded h) = (Stop·Unbounded, h, refl)
-  line-only (store-full h) = (Stop·StoreFull, h, refl)
+  line-only (store-full h) = (Stop·NoRoom, h, refl)
   line-only (not-finite h) = (Stop·NotFinite, h, refl)
 
 module _ (p : Plan) (m : Memory) where

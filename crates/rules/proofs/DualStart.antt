@@ -139,9 +139,9 @@ none-at-dual-start P w d = nothing-exactly P (startState P w .ws) .1 (λ c l t. 
         let cost = p .costs ! c in
         let lo = p .lowers ! c in
         let hi = p .uppers ! c in
-        let price : startState P w .ws .nbVarObjCoeffs ! c ≡ cost = over-at n (λ j. p .costs ! j) (w .nbVarObjCoeffs) nan c l in
+        let price : startState P w .ws .prices ! c ≡ cost = over-at n (λ j. p .costs ! j) (w .prices) nan c l in
         let value : startVals p ! c ≡ startValAt p c = getD-table n (startValAt p) nan c l in
-        let cell : startState P w .ws .nbVarStates # c ≡ startFlags p (startVals p) c = over-at n (startFlags p (startVals p)) (w .nbVarStates) 0 c l in
+        let cell : startState P w .ws .flags # c ≡ startFlags p (startVals p) c = over-at n (startFlags p (startVals p)) (w .flags) 0 c l in
         let number : isNan cost ≡ false = subst (λ x. isNan x ≡ false) price (price-number _ _ s) in
         let one : mayEnter (flags cost lo hi number (startValAt p c)) cost ≡ false =
         start-never cost lo hi number (all-at (λ j. startDual (p .costs ! j) (p .lowers ! j) (p .uppers ! j)) n d c l) in

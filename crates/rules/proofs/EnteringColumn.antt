@@ -119,22 +119,22 @@ price-number (inf s) norm h = refl
 price-number (fin s m e) norm h = refl
 
 -- so the filter's words hold of the entering column, whatever the prices are
-pub entering-allowed : (P : Problem) (w : Workspace) (e : Entering) → IsEntering P w e → MayEnter (flagsOf (w .nbVarStates # e .col)) (e .price)
+pub entering-allowed : (P : Problem) (w : Workspace) (e : Entering) → IsEntering P w e → MayEnter (flagsOf (w .flags # e .col)) (e .price)
 entering-allowed P w e a =
-    rw (a .price-is) (filter-means (flagsOf (w .nbVarStates # e .col)) (w .nbVarObjCoeffs ! e .col) (price-number _ _ (a .scores)) .0 (a .wins .passes))
+    rw (a .price-is) (filter-means (flagsOf (w .flags # e .col)) (w .prices ! e .col) (price-number _ _ (a .scores)) .0 (a .wins .passes))
 
 -- 02 of 20 and of every step: the entering column has a price of at least EPS in size
 pub entering-priced : (P : Problem) (w : Workspace) (e : Entering) → IsEntering P w e → le eps (size (e .price)) ≡ true
 entering-priced P w e a =
     let p = price-number _ _ (a .scores) in
     rw (a .price-is)
-    (le-total (size (w .nbVarObjCoeffs ! e .col)) eps (size-number _ p) eps-number
-    (false-by (λ h. not-both (a .wins .passes) (under-eps-never (flagsOf (w .nbVarStates # e .col)) (w .nbVarObjCoeffs ! e .col) h))))
+    (le-total (size (w .prices ! e .col)) eps (size-number _ p) eps-number
+    (false-by (λ h. not-both (a .wins .passes) (under-eps-never (flagsOf (w .flags # e .col)) (w .prices ! e .col) h))))
 
 module _ (P : Problem) (w : Workspace) where
   -- its column settles it, and no other column is one
   abbrev standing : ℕ → Entering
-  standing c = record { col = c; price = w .nbVarObjCoeffs ! c; score = scoreAt w c; distance = size (otherVal P w c ⊖ w .nbVarVals ! c) }
+  standing c = record { col = c; price = w .prices ! c; score = scoreAt w c; distance = size (otherVal P w c ⊖ w .nbVarVals ! c) }
 
   settled : (e : Entering) → IsEntering P w e → e ≡ standing (e .col)
   unfolding scoreOf

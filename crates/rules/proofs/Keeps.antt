@@ -59,9 +59,9 @@ module _ (P : Problem) (s : State) (e : Entering) (c : Sv) (value diff : Float) 
         basicVarVals-long = simp stored-long (l .basicVarVals-long);
         nbVars-long = l .nbVars-long;
         nbVarVals-long = simp length-set (l .nbVarVals-long);
-        nbVarObjCoeffs-long = l .nbVarObjCoeffs-long;
-        primalEdgeSqNorms-long = l .primalEdgeSqNorms-long;
-        nbVarStates-long = simp length-set (l .nbVarStates-long);
+        prices-long = l .prices-long;
+        norms-long = l .norms-long;
+        flags-long = simp length-set (l .flags-long);
         varStates-long = l .varStates-long;
         leaving-long = l .leaving-long;
         starts-long = l .starts-long;
@@ -134,9 +134,9 @@ module _ (P : Problem) (s : State) (f : Fits P s) (e : Entering) (c rowSv helper
         basicVarVals-long = simp stored-long (l .basicVarVals-long);
         nbVars-long = simp length-set (l .nbVars-long);
         nbVarVals-long = simp length-set (l .nbVarVals-long);
-        nbVarObjCoeffs-long = simp stored-long (l .nbVarObjCoeffs-long);
-        primalEdgeSqNorms-long = simp stored-long (l .primalEdgeSqNorms-long);
-        nbVarStates-long = simp length-set (l .nbVarStates-long);
+        prices-long = simp stored-long (l .prices-long);
+        norms-long = simp stored-long (l .norms-long);
+        flags-long = simp length-set (l .flags-long);
         varStates-long = simp length-set (l .varStates-long);
         leaving-long = rw etas-after (simp length-set (l .leaving-long));
         starts-long = rw etas-after (simp length-set (l .starts-long));
@@ -186,8 +186,8 @@ module _ (P : Problem) (s : State) (f : Fits P s) (e : Entering) (c rowSv helper
         objective = b1 .0;
         basicVal = λ r h. stored-finite c (newVal w c value diff row) (w .basicVarVals) (b1 .1) r (g .basicVal r h);
         nbVal = λ k h. set-finite (w .nbVarVals) (e .col) leaving k (b2 .1) (g .nbVal k h);
-        price = λ k h. stored-finite rowSv (newPrice w e coeff rowSv) (w .nbVarObjCoeffs) (b3 .1) k (g .price k h);
-        norm = λ k h. stored-finite rowSv (newNorm w e c coeff rowSv helper) (w .primalEdgeSqNorms) (b4 .1) k (g .norm k h);
+        price = λ k h. stored-finite rowSv (newPrice w e coeff rowSv) (w .prices) (b3 .1) k (g .price k h);
+        norm = λ k h. stored-finite rowSv (newNorm w e c coeff rowSv helper) (w .norms) (b4 .1) k (g .norm k h);
         eta = etas-finite (b5 .1) (g .eta);
       }
 

@@ -199,9 +199,9 @@ module _ (p : Plan) where
           basicVarVals-long = leb-true _ _ (w2 .1);
           nbVars-long = leb-true _ _ (w3 .1);
           nbVarVals-long = leb-true _ _ (w4 .1);
-          nbVarObjCoeffs-long = leb-true _ _ (w5 .1);
-          primalEdgeSqNorms-long = leb-true _ _ (w6 .1);
-          nbVarStates-long = leb-true _ _ (w7 .1);
+          prices-long = leb-true _ _ (w5 .1);
+          norms-long = leb-true _ _ (w6 .1);
+          flags-long = leb-true _ _ (w7 .1);
           varStates-long = leb-true _ _ (w8 .1);
           leaving-long = leb-true _ _ (h2 .0);
           starts-long = leb-true _ _ (h2 .1);

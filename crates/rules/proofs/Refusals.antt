@@ -17,13 +17,13 @@ use Rattle.rules.proofs.StartFinite.{start-finite}
 use Rattle.rules.specs.FinalCheck.{valuesOf, finalCheck}
 use Rattle.rules.specs.Step.{ended}
 use Rattle.rules.specs.Answers.{asRow, numberOf}
-use Rattle.rules.specs.Solve.{Solved, solved, unless, close, endOf, checkedAnswer, answerOf, solvePlan}
+use Rattle.rules.specs.Solve.{Solved, solved, orRefuse, close, endOf, checkedAnswer, answerOf, solvePlan}
 use Rattle.rules.specs.declared.Stop.{Stop}
-use Rattle.rules.specs.declared.Stop.the-variants.{Finished, Spent, Unbounded, StoreFull, NotFinite}
+use Rattle.rules.specs.declared.Stop.the-variants.{Finished, Spent, Unbounded, NoRoom, NotFinite}
 use Rattle.rules.specs.declared.Checked.{Checked}
 use Rattle.rules.specs.declared.Checked.the-variants.{Passed, Value, Row}
 use Rattle.rules.specs.declared.Answer.{Answer}
-use Rattle.rules.specs.declared.Answer.the-variants.{BadSize, BadNumber, BadEntry, BadBounds, FalseRow, StartNotFinite, SlackOutside}
+use Rattle.rules.specs.declared.Answer.the-variants.{BadSize, BadNumber, BadEntry, CrossedBounds, FalseEmptyRow, StartNotFinite, SlackOutside}
 use Rattle.rules.specs.Conditions.{Some, FirstBad, Names, Refusal, SizeOver, PlanShort, WorkspaceShort, MemoryShort, StartsBad, Gives1, Gives2, Bad, BadRow, Crossed, EmptyFalse, Gives6, Outside, Gives, NoneBelow}
 
 -- ---- each test fails exactly where its condition holds
@@ -129,7 +129,7 @@ module _ (p : Plan) (m : Memory) where
   none-more : (k : ℕ) → NoneBelow k p m → ¬ Gives k p m → NoneBelow (suc k) p m
   none-more k n g j h x = ⊎-elim (λ q. g (subst (λ i. Gives i p m) q x)) (λ l. n j l x) (eq-or-lt-of-le (le-of-suc-le-suc h))
 
-  rung : (k : ℕ) {r : Solved} (a : Answer) (b : Bool) → 1 ≤ k → k < 8 → (b ≡ false) ↔ Gives k p m → (b ≡ false → Refusal k p m (solved a m)) → (NoneBelow (suc k) p m → Case p m r) → NoneBelow k p m → Case p m (unless b a m r)
+  rung : (k : ℕ) {r : Solved} (a : Answer) (b : Bool) → 1 ≤ k → k < 8 → (b ≡ false) ↔ Gives k p m → (b ≡ false → Refusal k p m (solved a m)) → (NoneBelow (suc k) p m → Case p m r) → NoneBelow k p m → Case p m (orRefuse b a m r)
   rung k a true l h e says next n = next (none-more k n (λ g. never refl (e .1 g)))
   rung k a false l h e says next n = refused k l h (e .0 refl) n (says refl)
 
@@ -139,8 +139,8 @@ module _ (p : Plan) (m : Memory) where
       rung 1 BadSize _ (omega arith) (omega arith) (one p m) (λ _. record { number = refl; objective = refl; steps = refl; excess = refl; place = refl; memory = refl })
       (rung 2 BadNumber _ (omega arith) (omega arith) (two p) (λ _. record { number = refl; objective = refl; steps = refl; excess = refl; place = refl; memory = refl })
       (rung 3 (BadEntry _ _) _ (omega arith) (omega arith) (three p) (λ f. record { number = refl; objective = refl; steps = refl; excess = refl; place = (_, _, refl, first-bad p f); memory = refl })
-      (rung 4 (BadBounds _) _ (omega arith) (omega arith) (four p) (λ f. record { number = refl; objective = refl; steps = refl; excess = refl; place = (_, refl, first-named _ (cross p) f); memory = refl })
-      (rung 5 (FalseRow _) _ (omega arith) (omega arith) (five p) (λ f. record { number = refl; objective = refl; steps = refl; excess = refl; place = (_, refl, first-named _ (empty-false p) f); memory = refl })
+      (rung 4 (CrossedBounds _) _ (omega arith) (omega arith) (four p) (λ f. record { number = refl; objective = refl; steps = refl; excess = refl; place = (_, refl, first-named _ (cross p) f); memory = refl })
+      (rung 5 (FalseEmptyRow _) _ (omega arith) (omega arith) (five p) (λ f. record { number = refl; objective = refl; steps = refl; excess = refl; place = (_, refl, first-named _ (empty-false p) f); memory = refl })
       (rung 6 StartNotFinite _ (omega arith) (omega arith) (six (problemOf p)) (λ _. record { number = refl; objective = refl; steps = refl; excess = refl; place = refl; memory = refl })
       (rung 7 SlackOutside _ (omega arith) (omega arith) (seven (problemOf p)) (λ _. record { number = refl; objective = refl; steps = refl; excess = refl; place = refl; memory = refl })
       accepted))))))
@@ -173,7 +173,7 @@ unfolding answerOf asRow
 late P Finished s = checked-late s (finalCheck P (valuesOf P (s .ws)))
 late P Spent s = inr (omega arith)
 late P Unbounded s = inr (omega arith)
-late P StoreFull s = inr (omega arith)
+late P NoRoom s = inr (omega arith)
 late P NotFinite s = inr (omega arith)
 
 module _ (p : Plan) (m : Memory) (k : ℕ) (low : 1 ≤ k) (high : k < 8) where

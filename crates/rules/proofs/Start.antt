@@ -25,9 +25,9 @@ module _ (P : Problem) (w : Workspace) (l : Lengths P w) where
         basicVarVals-long = over-enough _ _ _ (l .basicVarVals-long);
         nbVars-long = over-enough _ _ _ (l .nbVars-long);
         nbVarVals-long = over-enough _ _ _ (l .nbVarVals-long);
-        nbVarObjCoeffs-long = over-enough _ _ _ (l .nbVarObjCoeffs-long);
-        primalEdgeSqNorms-long = over-enough _ _ _ (l .primalEdgeSqNorms-long);
-        nbVarStates-long = over-enough _ _ _ (l .nbVarStates-long);
+        prices-long = over-enough _ _ _ (l .prices-long);
+        norms-long = over-enough _ _ _ (l .norms-long);
+        flags-long = over-enough _ _ _ (l .flags-long);
         varStates-long = over-enough _ _ _ (l .varStates-long);
         leaving-long = l .leaving-long;
         starts-long = omega (arith, length-set (w .etas .starts) 0 0, l);
@@ -82,8 +82,8 @@ module _ (P : Problem) (w : Workspace) (l : Lengths P w) where
         objective = b .1;
         basicVal = λ r h. rw (over-at m (startSlack P xs) (w .basicVarVals) nan r h) (all-at (λ r. finite (startSlack P xs r)) m (a .1) r h);
         nbVal = λ j h. rw (over-at n (λ j. xs ! j) (w .nbVarVals) nan j h) (all-at (λ j. finite (xs ! j)) n (a .0) j h);
-        price = λ j h. rw (over-at n (λ j. P .plan .costs ! j) (w .nbVarObjCoeffs) nan j h) (costs j h);
-        norm = λ j h. rw (over-at n (startNorm P) (w .primalEdgeSqNorms) nan j h) (all-at (λ j. finite (startNorm P j)) n (c .1) j h);
+        price = λ j h. rw (over-at n (λ j. P .plan .costs ! j) (w .prices) nan j h) (costs j h);
+        norm = λ j h. rw (over-at n (startNorm P) (w .norms) nan j h) (all-at (λ j. finite (startNorm P j)) n (c .1) j h);
         eta = λ i h. absurd (omega (arith, start-store .begins));
       }
 

@@ -12,9 +12,9 @@ use Rattle.rules.specs.Plan.{Problem, State}
 use Rattle.rules.specs.Basis.{etaFits, rowCoeffsOf, helperOf}
 use Rattle.rules.specs.Ratio.{ratio}
 use Rattle.rules.specs.Pivot.{storesFinite, flipFinite, etaFinite, exchangeFinite}
-use Rattle.rules.specs.Step.{Outcome, moved, stopped, unless, exchange, flip, pivot, step}
+use Rattle.rules.specs.Step.{Outcome, moved, stopped, orStop, exchange, flip, pivot, step}
 use Rattle.rules.specs.Choices.{RatioGives}
-use Rattle.rules.specs.Conditions.{EntryBroken, StoreBroken, NoRoom, FlipBroken, ExchangeBroken, StoreFull, StepBroken, stateAfter, Chosen, StopsWith, stepColumn, Stops, Moves}
+use Rattle.rules.specs.Conditions.{EntryBroken, StoreBroken, Crowded, FlipBroken, ExchangeBroken, StoreFull, StepBroken, stateAfter, Chosen, StopsWith, stepColumn, Stops, Moves}
 use Rattle.rules.proofs.Choices.{ratio-exactly}
 use Rattle.rules.specs.declared.Entering.{Entering}
 use Rattle.rules.specs.declared.PivotInfo.{PivotInfo}
@@ -22,7 +22,7 @@ use Rattle.rules.specs.declared.PivotInfo.the-variants.{Flip, Exchange}
 use Rattle.rules.specs.declared.Ratio.{Ratio}
 use Rattle.rules.specs.declared.Ratio.the-variants.{Pivot, Unbounded as Ratio·Unbounded, NotFinite as Ratio·NotFinite}
 use Rattle.rules.specs.declared.Stop.{Stop}
-use Rattle.rules.specs.declared.Stop.the-variants.{Finished, Spent as Stop·Spent, Unbounded as Stop·Unbounded, StoreFull as Stop·StoreFull, NotFinite as Stop·NotFinite}
+use Rattle.rules.specs.declared.Stop.the-variants.{Finished, Spent as Stop·Spent, Unbounded as Stop·Unbounded, NoRoom as Stop·NoRoom, NotFinite as Stop·NotFinite}
 
 clash : {C : Type 0} → _≡_ {A = ℕ} 0 1 → C
 clash z = absurd (omega arith)
@@ -32,8 +32,8 @@ entries : (c : Sv) → (listedFinite c ≡ false) ↔ EntryBroken c
 unfolding listedFinite
 entries c = some-fails _ (λ k. itself)
 
-pub room : (s : State) (k : ℕ) → (etaFits s k ≡ false) ↔ NoRoom s k
-unfolding etaFits NoRoom
+pub room : (s : State) (k : ℕ) → (etaFits s k ≡ false) ↔ Crowded s k
+unfolding etaFits Crowded
 room s k = ltb-fails _ _ or leb-fails _ _
 
 stored-finite : (v : Sv) (f : ℕ → Float) → (storesFinite v f ≡ false) ↔ StoreBroken v f
@@ -42,28 +42,28 @@ stored-finite v f = some-fails _ (λ k. itself)
 
 -- ---- a test with its stop, before what comes next
 module _ {b : Bool} {w : Stop} {o : Outcome} {G : Type 0} (e : (b ≡ false) ↔ G) where
-  only : ¬ (o ≡ stopped w) → (unless b w o ≡ stopped w) ↔ G
+  only : ¬ (o ≡ stopped w) → (orStop b w o ≡ stopped w) ↔ G
   only n = go b refl
     where
-      go : (x : Bool) → b ≡ x → (unless x w o ≡ stopped w) ↔ G
+      go : (x : Bool) → b ≡ x → (orStop x w o ≡ stopped w) ↔ G
       go true q = (λ h. absurd (n h), λ g. never q (e .1 g))
       go false q = (λ _. e .0 q, λ _. refl)
 
-  also : {H : Type 0} → (o ≡ stopped w) ↔ H → (unless b w o ≡ stopped w) ↔ (G ⊎ H)
+  also : {H : Type 0} → (o ≡ stopped w) ↔ H → (orStop b w o ≡ stopped w) ↔ (G ⊎ H)
   also {H} r = go b refl
     where
-      go : (x : Bool) → b ≡ x → (unless x w o ≡ stopped w) ↔ (G ⊎ H)
+      go : (x : Bool) → b ≡ x → (orStop x w o ≡ stopped w) ↔ (G ⊎ H)
       go true q = (λ h. inr (r .0 h), ⊎-elim (λ g. never q (e .1 g)) (λ h. r .1 h))
       go false q = (λ _. inl (e .0 q), λ _. refl)
 
-  past : {y : Outcome} {H : Type 0} → ¬ (stopped w ≡ y) → (o ≡ y) ↔ H → (unless b w o ≡ y) ↔ ((¬ G) × H)
+  past : {y : Outcome} {H : Type 0} → ¬ (stopped w ≡ y) → (o ≡ y) ↔ H → (orStop b w o ≡ y) ↔ ((¬ G) × H)
   past {y} {H} n r = go b refl
     where
-      go : (x : Bool) → b ≡ x → (unless x w o ≡ y) ↔ ((¬ G) × H)
+      go : (x : Bool) → b ≡ x → (orStop x w o ≡ y) ↔ ((¬ G) × H)
       go true q = (λ h. (λ g. never q (e .1 g), r .0 h), λ h. r .1 (h .1))
       go false q = (λ h. absurd (n h), λ h. absurd (h .0 (e .0 q)))
 
-  nor : {y : Outcome} → ¬ (stopped w ≡ y) → ¬ (o ≡ y) → ¬ (unless b w o ≡ y)
+  nor : {y : Outcome} → ¬ (stopped w ≡ y) → ¬ (o ≡ y) → ¬ (orStop b w o ≡ y)
   nor n r h = r (past n Iff·rfl .0 h .1)
 
 taken : {i : PivotInfo} {t : State} {w : Stop} → ¬ (moved i t ≡ stopped w)
@@ -108,12 +108,12 @@ module _ (P : Problem) (s : State) (e : Entering) (c : Sv) where
   -- "eta room; row solve; all new numbers; store"
   in-order : (i : PivotInfo)
       → pivot P s e c i
-      ≡ unless (hasRoom i) Stop·StoreFull (unless (allFinite i) Stop·NotFinite (moved i (stateAfter P s e c i)))
+      ≡ orStop (hasRoom i) Stop·NoRoom (orStop (allFinite i) Stop·NotFinite (moved i (stateAfter P s e c i)))
   unfolding pivot flip exchange hasRoom allFinite stateAfter
   in-order (Flip value diff) = refl
   in-order (Exchange value diff row coeff leaving) = refl
 
-  pivot-full : (i : PivotInfo) → (pivot P s e c i ≡ stopped Stop·StoreFull) ↔ StoreFull P s e c i
+  pivot-full : (i : PivotInfo) → (pivot P s e c i ≡ stopped Stop·NoRoom) ↔ StoreFull P s e c i
   pivot-full i = rw (in-order i) (only (no-room i) (nor (one-broken i) (λ q. clash (cc)) taken))
 
   pivot-broken : (i : PivotInfo)
@@ -121,7 +121,7 @@ module _ (P : Problem) (s : State) (e : Entering) (c : Sv) where
   pivot-broken i = rw (in-order i) (past (no-room i) (λ q. clash (cc)) (only (one-broken i) taken))
 
   pivot-other : {w : Stop} (i : PivotInfo) → ¬ (stopped Stop·NotFinite ≡ stopped w)
-      → ¬ (stopped Stop·StoreFull ≡ stopped w) → ¬ (pivot P s e c i ≡ stopped w)
+      → ¬ (stopped Stop·NoRoom ≡ stopped w) → ¬ (pivot P s e c i ≡ stopped w)
   pivot-other i n f = rw (in-order i) (nor (no-room i) f (nor (one-broken i) n taken))
 
   -- i is taken, and told as j and t
@@ -191,7 +191,7 @@ module _ (P : Problem) (s : State) (e : Entering) where
   step-chosen b u x = past (entries c) b (after-chosen ratio-gives (pivot P s e c) b u x)
 
   never-ends : (w : Stop) → ¬ (stopped Stop·NotFinite ≡ stopped w) → ¬ (stopped Stop·Unbounded ≡ stopped w)
-      → ¬ (stopped Stop·StoreFull ≡ stopped w) → ¬ (step P s e ≡ stopped w)
+      → ¬ (stopped Stop·NoRoom ≡ stopped w) → ¬ (step P s e ≡ stopped w)
   never-ends w b n f q = step-chosen {X = λ _. ⊥} b n (λ i. (pivot-other P s e c i b f, λ h. absurd h)) .0 q .1 .2
 
   -- 01, "One step": 20, 22 and 23 are given exactly when the order of a step comes to them
@@ -202,7 +202,7 @@ module _ (P : Problem) (s : State) (e : Entering) where
   step-stops Stop·Unbounded =
       past (entries c) (λ q. clash (cc))
       (after-unbounded ratio-gives (pivot P s e c) (λ i. pivot-other P s e c i (λ q. clash (cc)) (λ q. clash (cc))))
-  step-stops Stop·StoreFull = step-chosen (λ q. clash (cc)) (λ q. clash (cc)) (pivot-full P s e c)
+  step-stops Stop·NoRoom = step-chosen (λ q. clash (cc)) (λ q. clash (cc)) (pivot-full P s e c)
   step-stops Stop·NotFinite = also (entries c) (after-broken ratio-gives (pivot P s e c) (pivot-broken P s e c))
 
   -- and a step is taken exactly when nothing stops it: the one that the ratio gives, to the state that it stores

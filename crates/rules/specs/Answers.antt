@@ -3,7 +3,7 @@ use Prim.Native.Nat.{ℕ}
 use lib.Ieee.{Float}
 use Rattle.doubles.specs.Num.{f0}
 use Rattle.rules.specs.declared.Answer.{Answer}
-use Rattle.rules.specs.declared.Answer.the-variants.{Optimal, BadSize, BadNumber, BadEntry, BadBounds, FalseRow, StartNotFinite, SlackOutside, Unbounded, Spent, StoreFull, NotFinite, ValueRejected, RowRejected}
+use Rattle.rules.specs.declared.Answer.the-variants.{Optimal, BadSize, BadNumber, BadEntry, CrossedBounds, FalseEmptyRow, StartNotFinite, SlackOutside, Unbounded, Spent, NoRoom, NotFinite, ValueRejected, RowRejected}
 
 -- the place that an answer names
 pub data Place : Type 0 where
@@ -31,13 +31,13 @@ asRow (Optimal o k x) = row 0 o k x nowhere
 asRow BadSize = row 1 f0 0 f0 nowhere
 asRow BadNumber = row 2 f0 0 f0 nowhere
 asRow (BadEntry r p) = row 3 f0 0 f0 (entryAt r p)
-asRow (BadBounds c) = row 4 f0 0 f0 (columnAt c)
-asRow (FalseRow r) = row 5 f0 0 f0 (rowAt r)
+asRow (CrossedBounds c) = row 4 f0 0 f0 (columnAt c)
+asRow (FalseEmptyRow r) = row 5 f0 0 f0 (rowAt r)
 asRow StartNotFinite = row 6 f0 0 f0 nowhere
 asRow SlackOutside = row 7 f0 0 f0 nowhere
 asRow (Unbounded o k) = row 20 o k f0 nowhere
 asRow (Spent o k) = row 21 o k f0 nowhere
-asRow (StoreFull o k) = row 22 o k f0 nowhere
+asRow (NoRoom o k) = row 22 o k f0 nowhere
 asRow (NotFinite o k) = row 23 o k f0 nowhere
 asRow (ValueRejected o k v x) = row 24 o k x (valueAt v)
 asRow (RowRejected o k r x) = row 24 o k x (keptRowAt r)

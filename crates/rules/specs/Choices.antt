@@ -33,8 +33,8 @@ pub record MayEnter (f : NonBasicVarState) (price : Float) : Type 0 where
 pub record IsEntering (P : Problem) (w : Workspace) (e : Entering) : Type 0 where
   pub wins : FirstLargest (passesFilter w) (scoreAt w) (nOf P) (e .col)
   pub scores : lt -inf (scoreAt w (e .col)) ≡ true
-  pub price-is : e .price ≡ w .nbVarObjCoeffs ! e .col
-  pub score-is : e .score ≡ w .nbVarObjCoeffs ! e .col ⊗ w .nbVarObjCoeffs ! e .col ⊘ w .primalEdgeSqNorms ! e .col
+  pub price-is : e .price ≡ w .prices ! e .col
+  pub score-is : e .score ≡ w .prices ! e .col ⊗ w .prices ! e .col ⊘ w .norms ! e .col
   pub distance-is : e .distance ≡ size (otherVal P w (e .col) ⊖ w .nbVarVals ! e .col)
 
 -- no column that passes the filter scores above -inf

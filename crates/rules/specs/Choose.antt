@@ -27,10 +27,10 @@ unfoldable pub scoreOf : Float → Float → Float
 scoreOf price norm = price ⊗ price ⊘ norm
 
 abbrev pub passesFilter : Workspace → ℕ → Bool
-passesFilter w c = mayEnter (flagsOf (w .nbVarStates # c)) (w .nbVarObjCoeffs ! c)
+passesFilter w c = mayEnter (flagsOf (w .flags # c)) (w .prices ! c)
 
 abbrev pub scoreAt : Workspace → ℕ → Float
-scoreAt w c = scoreOf (w .nbVarObjCoeffs ! c) (w .primalEdgeSqNorms ! c)
+scoreAt w c = scoreOf (w .prices ! c) (w .norms ! c)
 
 -- the best column so far and its score; `col` is n where there is none
 pub record Best : Type 0 where
@@ -49,13 +49,13 @@ bestColumn n w = run (betterTurn w) n (bestOf n -inf)
 
 -- the bound that the entering variable moves to: it rises where its price is below 0.0
 unfoldable pub otherVal : Problem → Workspace → ℕ → Float
-otherVal P w c = elim (lt (w .nbVarObjCoeffs ! c) f0) [ true ↦ varMax P (w .nbVars # c) | false ↦ varMin P (w .nbVars # c) ]
+otherVal P w c = elim (lt (w .prices ! c) f0) [ true ↦ varMax P (w .nbVars # c) | false ↦ varMin P (w .nbVars # c) ]
 
 -- "The entering column travels with its price, score and distance"
 unfoldable pub enteringOf : Problem → Workspace → Best → Entering
 enteringOf P w b =
     let c = b .col in
-    record { col = c; price = w .nbVarObjCoeffs ! c; score = b .score; distance = size (otherVal P w c ⊖ w .nbVarVals ! c) }
+    record { col = c; price = w .prices ! c; score = b .score; distance = size (otherVal P w c ⊖ w .nbVarVals ! c) }
 
 unfoldable pub choose : Problem → Workspace → Choice
 choose P w =

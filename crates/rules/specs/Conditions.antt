@@ -27,7 +27,7 @@ use Rattle.rules.specs.declared.PivotInfo.{PivotInfo}
 use Rattle.rules.specs.declared.PivotInfo.the-variants.{Flip, Exchange}
 use Rattle.rules.specs.declared.Ratio.the-variants.{Pivot, Unbounded as Ratio·Unbounded, NotFinite as Ratio·NotFinite}
 use Rattle.rules.specs.declared.Stop.{Stop}
-use Rattle.rules.specs.declared.Stop.the-variants.{Finished, Spent as Stop·Spent, Unbounded as Stop·Unbounded, StoreFull as Stop·StoreFull, NotFinite as Stop·NotFinite}
+use Rattle.rules.specs.declared.Stop.the-variants.{Finished, Spent as Stop·Spent, Unbounded as Stop·Unbounded, NoRoom as Stop·NoRoom, NotFinite as Stop·NotFinite}
 use Rattle.rules.specs.declared.Checked.{Checked}
 use Rattle.rules.specs.declared.Checked.the-variants.{Passed, Value, Row}
 
@@ -69,9 +69,9 @@ WorkspaceShort n m w =
     ⊎ Short (w .basicVarVals) m
     ⊎ Short (w .nbVars) n
     ⊎ Short (w .nbVarVals) n
-    ⊎ Short (w .nbVarObjCoeffs) n
-    ⊎ Short (w .primalEdgeSqNorms) n
-    ⊎ Short (w .nbVarStates) n
+    ⊎ Short (w .prices) n
+    ⊎ Short (w .norms) n
+    ⊎ Short (w .flags) n
     ⊎ Short (w .varStates) (n + m)
     ⊎ Short (w .etas .leaving) etaColumns
     ⊎ Short (w .etas .starts) (etaColumns + 1)
@@ -245,8 +245,8 @@ abbrev pub StoreBroken : Sv → (ℕ → Float) → Type 0
 StoreBroken c f = Some (c .pat .count) (λ k. NotFinite (f (listed c k)))
 
 -- an eta column of k entries doesn't fit
-unfoldable pub NoRoom : State → ℕ → Type 0
-NoRoom s k = (etaColumns ≤ s .etaCount) ⊎ (etaEntries < etaUsed s + k)
+unfoldable pub Crowded : State → ℕ → Type 0
+Crowded s k = (etaColumns ≤ s .etaCount) ⊎ (etaEntries < etaUsed s + k)
 
 module _ (P : Problem) (s : State) (e : Entering) (c : Sv) where
   -- every number that a flip stores
@@ -270,7 +270,7 @@ module _ (P : Problem) (s : State) (e : Entering) (c : Sv) where
   -- "the next eta column doesn't fit the room left": an exchange alone has one
   unfoldable pub StoreFull : PivotInfo → Type 0
   StoreFull (Flip value diff) = ⊥
-  StoreFull (Exchange value diff row pivot leaving) = NoRoom s (c .pat .count)
+  StoreFull (Exchange value diff row pivot leaving) = Crowded s (c .pat .count)
 
   -- not all of "row and helper entries and every number to be stored" are finite
   unfoldable pub StepBroken : PivotInfo → Type 0
@@ -292,7 +292,7 @@ module _ (P : Problem) (s : State) (e : Entering) (c : Sv) where
   StopsWith Finished = ⊥
   StopsWith Stop·Spent = ⊥
   StopsWith Stop·Unbounded = (¬ EntryBroken c) × RatioGives P (s .ws) e c Ratio·Unbounded
-  StopsWith Stop·StoreFull = (¬ EntryBroken c) × Chosen StoreFull
+  StopsWith Stop·NoRoom = (¬ EntryBroken c) × Chosen StoreFull
   StopsWith Stop·NotFinite =
       EntryBroken c ⊎ RatioGives P (s .ws) e c Ratio·NotFinite ⊎ Chosen (λ i. (¬ StoreFull i) × StepBroken i)
 
@@ -345,7 +345,7 @@ Ends P s Finished =
 -- "budget spent and a column would enter"
 Ends P s Stop·Spent = (e : Entering) × Goes P s e × (s .steps ≡ P .plan .budget)
 Ends P s Stop·Unbounded = Halts P s Stop·Unbounded
-Ends P s Stop·StoreFull = Halts P s Stop·StoreFull
+Ends P s Stop·NoRoom = Halts P s Stop·NoRoom
 Ends P s Stop·NotFinite = Halts P s Stop·NotFinite
 
 -- ---- the table's lines for 0 and 20 to 24. "Answers 0 and 20 to 24 carry the objective and step count of that state";
@@ -358,7 +358,7 @@ pub data Line (P : Problem) (s : State) : Told → Type 0 where
   -- "budget spent and a column would enter"
   spent : Ends P s Stop·Spent → Line P s (row 21 (s .objective) (s .steps) f0 nowhere)
   -- "the next eta column doesn't fit the room left"
-  store-full : Ends P s Stop·StoreFull → Line P s (row 22 (s .objective) (s .steps) f0 nowhere)
+  store-full : Ends P s Stop·NoRoom → Line P s (row 22 (s .objective) (s .steps) f0 nowhere)
   -- "a named number of the step isn't finite"
   not-finite : Ends P s Stop·NotFinite → Line P s (row 23 (s .objective) (s .steps) f0 nowhere)
   -- "the final check rejects", with the largest excess and its place

@@ -62,9 +62,9 @@ pub record MemoryFits (p : Plan) (m : Memory) : Type 0 where
   pub basicVarVals-long : p .rows ≤ length (m .ws .basicVarVals)
   pub nbVars-long : p .columns ≤ length (m .ws .nbVars)
   pub nbVarVals-long : p .columns ≤ length (m .ws .nbVarVals)
-  pub nbVarObjCoeffs-long : p .columns ≤ length (m .ws .nbVarObjCoeffs)
-  pub primalEdgeSqNorms-long : p .columns ≤ length (m .ws .primalEdgeSqNorms)
-  pub nbVarStates-long : p .columns ≤ length (m .ws .nbVarStates)
+  pub prices-long : p .columns ≤ length (m .ws .prices)
+  pub norms-long : p .columns ≤ length (m .ws .norms)
+  pub flags-long : p .columns ≤ length (m .ws .flags)
   pub varStates-long : p .columns + p .rows ≤ length (m .ws .varStates)
   pub leaving-long : etaColumns ≤ length (m .ws .etas .leaving)
   pub starts-long : etaColumns + 1 ≤ length (m .ws .etas .starts)
@@ -79,9 +79,9 @@ pub record Lengths (P : Problem) (w : Workspace) : Type 0 where
   pub basicVarVals-long : mOf P ≤ length (w .basicVarVals)
   pub nbVars-long : nOf P ≤ length (w .nbVars)
   pub nbVarVals-long : nOf P ≤ length (w .nbVarVals)
-  pub nbVarObjCoeffs-long : nOf P ≤ length (w .nbVarObjCoeffs)
-  pub primalEdgeSqNorms-long : nOf P ≤ length (w .primalEdgeSqNorms)
-  pub nbVarStates-long : nOf P ≤ length (w .nbVarStates)
+  pub prices-long : nOf P ≤ length (w .prices)
+  pub norms-long : nOf P ≤ length (w .norms)
+  pub flags-long : nOf P ≤ length (w .flags)
   pub varStates-long : nOf P + mOf P ≤ length (w .varStates)
   pub leaving-long : etaColumns ≤ length (w .etas .leaving)
   pub starts-long : etaColumns + 1 ≤ length (w .etas .starts)
@@ -128,8 +128,8 @@ pub record Numbers (P : Problem) (s : State) : Type 0 where
   pub objective : finite (s .objective) ≡ true
   pub basicVal : (r : ℕ) → r < mOf P → finite (s .ws .basicVarVals ! r) ≡ true
   pub nbVal : (c : ℕ) → c < nOf P → finite (s .ws .nbVarVals ! c) ≡ true
-  pub price : (c : ℕ) → c < nOf P → finite (s .ws .nbVarObjCoeffs ! c) ≡ true
-  pub norm : (c : ℕ) → c < nOf P → finite (s .ws .primalEdgeSqNorms ! c) ≡ true
+  pub price : (c : ℕ) → c < nOf P → finite (s .ws .prices ! c) ≡ true
+  pub norm : (c : ℕ) → c < nOf P → finite (s .ws .norms ! c) ≡ true
   pub eta : (i : ℕ) → i < etaUsed s → finite (s .ws .etas .coeffs ! i) ≡ true
 
 -- what the code leans on
@@ -152,9 +152,9 @@ pub record Tails (P : Problem) (w : Workspace) (s : State) : Type 0 where
   pub basicVarVals-tail : Past (mOf P) (s .ws .basicVarVals) (w .basicVarVals)
   pub nbVars-tail : Past (nOf P) (s .ws .nbVars) (w .nbVars)
   pub nbVarVals-tail : Past (nOf P) (s .ws .nbVarVals) (w .nbVarVals)
-  pub nbVarObjCoeffs-tail : Past (nOf P) (s .ws .nbVarObjCoeffs) (w .nbVarObjCoeffs)
-  pub primalEdgeSqNorms-tail : Past (nOf P) (s .ws .primalEdgeSqNorms) (w .primalEdgeSqNorms)
-  pub nbVarStates-tail : Past (nOf P) (s .ws .nbVarStates) (w .nbVarStates)
+  pub prices-tail : Past (nOf P) (s .ws .prices) (w .prices)
+  pub norms-tail : Past (nOf P) (s .ws .norms) (w .norms)
+  pub flags-tail : Past (nOf P) (s .ws .flags) (w .flags)
   pub varStates-tail : Past (nOf P + mOf P) (s .ws .varStates) (w .varStates)
   pub leaving-tail : Past (s .etaCount) (s .ws .etas .leaving) (w .etas .leaving)
   pub starts-tail : Past (s .etaCount + 1) (s .ws .etas .starts) (w .etas .starts)

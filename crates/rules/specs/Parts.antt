@@ -40,9 +40,9 @@ workspaceOf basicVars basicVarVals nbVars nbVarVals prices norms flags places et
       basicVarVals = basicVarVals;
       nbVars = nbVars;
       nbVarVals = nbVarVals;
-      nbVarObjCoeffs = prices;
-      primalEdgeSqNorms = norms;
-      nbVarStates = flags;
+      prices = prices;
+      norms = norms;
+      flags = flags;
       varStates = places;
       etas = etas;
     }

@@ -51,9 +51,9 @@ module _ (P : Problem) (s : State) (e : Entering) (c : Sv) (value diff : Float) 
           basicVarVals = stored c (movedVal w c diff) (w .basicVarVals);
           nbVars = w .nbVars;
           nbVarVals = set (w .nbVarVals) (e .col) value;
-          nbVarObjCoeffs = w .nbVarObjCoeffs;
-          primalEdgeSqNorms = w .primalEdgeSqNorms;
-          nbVarStates = set (w .nbVarStates) (e .col) (flagsAt P (w .nbVars # e .col) value);
+          prices = w .prices;
+          norms = w .norms;
+          flags = set (w .flags) (e .col) (flagsAt P (w .nbVars # e .col) value);
           varStates = w .varStates;
           etas = w .etas;
         };
@@ -69,7 +69,7 @@ newVal w c value diff row r = elim (eqb r row) [ true ↦ value | false ↦ move
 unfoldable pub newPrice : Workspace → Entering → Float → Sv → ℕ → Float
 newPrice w e pivot row j =
     let pivotObj = e .price ⊘ pivot in
-    elim (eqb j (e .col)) [ true ↦ neg pivotObj | false ↦ w .nbVarObjCoeffs ! j ⊖ pivotObj ⊗ row .vals ! j ]
+    elim (eqb j (e .col)) [ true ↦ neg pivotObj | false ↦ w .prices ! j ⊖ pivotObj ⊗ row .vals ! j ]
 
 -- a norm moves by ((-2.0 * r) * h / pivot + (sq * r) * r / pivot_sq)
 unfoldable pub newNorm : Workspace → Entering → Sv → Float → Sv → Sv → ℕ → Float
@@ -79,7 +79,7 @@ newNorm w e c pivot row helper j =
     let r = row .vals ! j in
     elim (eqb j (e .col)) [
       | true ↦ sq ⊘ pivotSq
-      | false ↦ w .primalEdgeSqNorms ! j ⊕ (neg f2 ⊗ r ⊗ helper .vals ! j ⊘ pivot ⊕ sq ⊗ r ⊗ r ⊘ pivotSq)
+      | false ↦ w .norms ! j ⊕ (neg f2 ⊗ r ⊗ helper .vals ! j ⊘ pivot ⊕ sq ⊗ r ⊗ r ⊘ pivotSq)
     ]
 
 unfoldable pub etaFinite : Sv → ℕ → Float → Bool
@@ -110,9 +110,9 @@ module _ (P : Problem) (s : State) (e : Entering) (c rowSv helper : Sv) (value d
           basicVarVals = stored c (newVal w c value diff row) (w .basicVarVals);
           nbVars = set (w .nbVars) col leaves;
           nbVarVals = set (w .nbVarVals) col leaving;
-          nbVarObjCoeffs = stored rowSv (newPrice w e pivot rowSv) (w .nbVarObjCoeffs);
-          primalEdgeSqNorms = stored rowSv (newNorm w e c pivot rowSv helper) (w .primalEdgeSqNorms);
-          nbVarStates = set (w .nbVarStates) col (flagsAt P leaves leaving);
+          prices = stored rowSv (newPrice w e pivot rowSv) (w .prices);
+          norms = stored rowSv (newNorm w e c pivot rowSv helper) (w .norms);
+          flags = set (w .flags) col (flagsAt P leaves leaving);
           varStates = set (set (w .varStates) enters (varCell (nOf P) (Basic row))) leaves (varCell (nOf P) (NonBasic col));
           etas = pushEta c row pivot (s .etaCount) (w .etas);
         };

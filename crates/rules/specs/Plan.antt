@@ -42,9 +42,9 @@ pub record Workspace : Type 0 where
   pub basicVarVals : List Float
   pub nbVars : List ℕ
   pub nbVarVals : List Float
-  pub nbVarObjCoeffs : List Float
-  pub primalEdgeSqNorms : List Float
-  pub nbVarStates : List ℕ
+  pub prices : List Float
+  pub norms : List Float
+  pub flags : List ℕ
   pub varStates : List ℕ
   pub etas : Etas
 

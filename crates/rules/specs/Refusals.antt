@@ -41,9 +41,9 @@ workspaceLong n m w =
     && leb m (length (w .basicVarVals))
     && leb n (length (w .nbVars))
     && leb n (length (w .nbVarVals))
-    && leb n (length (w .nbVarObjCoeffs))
-    && leb n (length (w .primalEdgeSqNorms))
-    && leb n (length (w .nbVarStates))
+    && leb n (length (w .prices))
+    && leb n (length (w .norms))
+    && leb n (length (w .flags))
     && leb (n + m) (length (w .varStates))
     && storeLong (w .etas)
 

@@ -11,11 +11,11 @@ use Rattle.rules.specs.Basis.{etaUsed}
 use Rattle.rules.specs.Step.{Ended, ended, runOf}
 use Rattle.rules.specs.FinalCheck.{valuesOf, finalCheck}
 use Rattle.rules.specs.Answers.{numberOf}
-use Rattle.rules.specs.declared.Stop.the-variants.{Finished, Spent as Stop·Spent, StoreFull as Stop·StoreFull, Unbounded as Stop·Unbounded, NotFinite as Stop·NotFinite}
+use Rattle.rules.specs.declared.Stop.the-variants.{Finished, Spent as Stop·Spent, NoRoom as Stop·NoRoom, Unbounded as Stop·Unbounded, NotFinite as Stop·NotFinite}
 use Rattle.rules.specs.declared.Checked.{Checked}
 use Rattle.rules.specs.declared.Checked.the-variants.{Passed, Value, Row}
 use Rattle.rules.specs.declared.Answer.{Answer}
-use Rattle.rules.specs.declared.Answer.the-variants.{Optimal, BadSize, BadNumber, BadEntry, BadBounds, FalseRow, StartNotFinite, SlackOutside, Unbounded, Spent, StoreFull, NotFinite, ValueRejected, RowRejected}
+use Rattle.rules.specs.declared.Answer.the-variants.{Optimal, BadSize, BadNumber, BadEntry, CrossedBounds, FalseEmptyRow, StartNotFinite, SlackOutside, Unbounded, Spent, NoRoom, NotFinite, ValueRejected, RowRejected}
 
 pub record Solved : Type 0 where
   pub answer : Answer
@@ -40,7 +40,7 @@ answerOf P e =
       | Finished ↦ checkedAnswer s (finalCheck P (valuesOf P (s .ws)))
       | Stop·Spent ↦ Spent (s .objective) (s .steps)
       | Stop·Unbounded ↦ Unbounded (s .objective) (s .steps)
-      | Stop·StoreFull ↦ StoreFull (s .objective) (s .steps)
+      | Stop·NoRoom ↦ NoRoom (s .objective) (s .steps)
       | Stop·NotFinite ↦ NotFinite (s .objective) (s .steps)
     ]
 
@@ -69,17 +69,17 @@ endOf P m =
     elim (dualFeasible (P .plan)) [ true ↦ ended Finished s | false ↦ runOf P (P .plan .budget) s ]
 
 -- ---- "The lowest number that applies is given"; "1 to 7 are refusals: all lent memory stays"
-abbrev pub unless : Bool → Answer → Memory → Solved → Solved
-unless b a m r = elim b [ true ↦ r | false ↦ solved a m ]
+abbrev pub orRefuse : Bool → Answer → Memory → Solved → Solved
+orRefuse b a m r = elim b [ true ↦ r | false ↦ solved a m ]
 
 unfoldable pub solvePlan : Plan → Memory → Solved
 solvePlan p m =
     let P = problemOf p in
-    unless (passes1 p m) BadSize m
-    (unless (passes2 p) BadNumber m
-    (unless (eqb (firstBadRow p) (p .rows)) (BadEntry (firstBadRow p) (firstBadIn p (firstBadRow p))) m
-    (unless (eqb (firstCrossed p) (p .columns)) (BadBounds (firstCrossed p)) m
-    (unless (eqb (firstFalse p) (p .rows)) (FalseRow (firstFalse p)) m
-    (unless (passes6 P) StartNotFinite m
-    (unless (passes7 P) SlackOutside m
+    orRefuse (passes1 p m) BadSize m
+    (orRefuse (passes2 p) BadNumber m
+    (orRefuse (eqb (firstBadRow p) (p .rows)) (BadEntry (firstBadRow p) (firstBadIn p (firstBadRow p))) m
+    (orRefuse (eqb (firstCrossed p) (p .columns)) (CrossedBounds (firstCrossed p)) m
+    (orRefuse (eqb (firstFalse p) (p .rows)) (FalseEmptyRow (firstFalse p)) m
+    (orRefuse (passes6 P) StartNotFinite m
+    (orRefuse (passes7 P) SlackOutside m
     (close P m (endOf P m))))))))

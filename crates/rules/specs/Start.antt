@@ -74,9 +74,9 @@ startWorkspace P xs w =
       basicVarVals = over (table m (startSlack P xs)) (w .basicVarVals);
       nbVars = over (table n (λ c. c)) (w .nbVars);
       nbVarVals = over (table n (λ j. xs ! j)) (w .nbVarVals);
-      nbVarObjCoeffs = over (table n (λ j. P .plan .costs ! j)) (w .nbVarObjCoeffs);
-      primalEdgeSqNorms = over (table n (startNorm P)) (w .primalEdgeSqNorms);
-      nbVarStates = over (table n (startFlags (P .plan) xs)) (w .nbVarStates);
+      prices = over (table n (λ j. P .plan .costs ! j)) (w .prices);
+      norms = over (table n (startNorm P)) (w .norms);
+      flags = over (table n (startFlags (P .plan) xs)) (w .flags);
       varStates = over (table (n + m) (λ v. v)) (w .varStates);
       etas = record { leaving = w .etas .leaving; starts = set (w .etas .starts) 0 0; rows = w .etas .rows; coeffs = w .etas .coeffs };
     }

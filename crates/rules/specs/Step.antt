@@ -16,7 +16,7 @@ use Rattle.rules.specs.declared.PivotInfo.{PivotInfo}
 use Rattle.rules.specs.declared.PivotInfo.the-variants.{Flip, Exchange}
 use Rattle.rules.specs.declared.Ratio.the-variants.{Pivot, Unbounded, NotFinite}
 use Rattle.rules.specs.declared.Stop.{Stop}
-use Rattle.rules.specs.declared.Stop.the-variants.{Finished, Spent, StoreFull, Unbounded as Stop·Unbounded, NotFinite as Stop·NotFinite}
+use Rattle.rules.specs.declared.Stop.the-variants.{Finished, Spent, NoRoom, Unbounded as Stop·Unbounded, NotFinite as Stop·NotFinite}
 
 -- what a step gives: the state after it, with the kind of step, or why there is none
 pub data Outcome : Type 0 where
@@ -24,8 +24,8 @@ pub data Outcome : Type 0 where
   stopped : Stop → Outcome
 
 -- go on where the test passes
-abbrev pub unless : Bool → Stop → Outcome → Outcome
-unless b w o = elim b [ true ↦ o | false ↦ stopped w ]
+abbrev pub orStop : Bool → Stop → Outcome → Outcome
+orStop b w o = elim b [ true ↦ o | false ↦ stopped w ]
 
 -- "eta room; row solve; all new numbers; store". The "row and helper entries" of 23 are those of row_coeffs and
 -- sq_norms_update_helper; the vectors solved on the way, the unit vector's among them, aren't tested.
@@ -33,12 +33,12 @@ unfoldable pub exchange : Problem → State → Entering → Sv → Float → Fl
 exchange P s e c value diff row pivot leaving =
     let r = rowCoeffsOf P s row in
     let h = helperOf P s c in
-    unless (etaFits s (c .pat .count)) StoreFull
-    (unless (listedFinite r && listedFinite h && exchangeFinite P s e c r h value diff row pivot leaving) Stop·NotFinite
+    orStop (etaFits s (c .pat .count)) NoRoom
+    (orStop (listedFinite r && listedFinite h && exchangeFinite P s e c r h value diff row pivot leaving) Stop·NotFinite
     (moved (Exchange value diff row pivot leaving) (exchanged P s e c r h value diff row pivot leaving)))
 
 unfoldable pub flip : Problem → State → Entering → Sv → Float → Float → Outcome
-flip P s e c value diff = unless (flipFinite P s e c value diff) Stop·NotFinite (moved (Flip value diff) (flipped P s e c value diff))
+flip P s e c value diff = orStop (flipFinite P s e c value diff) Stop·NotFinite (moved (Flip value diff) (flipped P s e c value diff))
 
 unfoldable pub pivot : Problem → State → Entering → Sv → PivotInfo → Outcome
 pivot P s e c (Flip value diff) = flip P s e c value diff
@@ -48,7 +48,7 @@ pivot P s e c (Exchange value diff row coeff leaving) = exchange P s e c value d
 unfoldable pub step : Problem → State → Entering → Outcome
 step P s e =
     let c = colCoeffs P s (s .ws .nbVars # e .col) in
-    unless (listedFinite c) Stop·NotFinite
+    orStop (listedFinite c) Stop·NotFinite
     (elim (ratio P (s .ws) e c) [ NotFinite ↦ stopped Stop·NotFinite | Unbounded ↦ stopped Stop·Unbounded | Pivot i ↦ pivot P s e c i ])
 
 -- ---- the run: it ends where no column enters, the budget is spent, or a step gives no state

@@ -51,7 +51,7 @@ pub enum Stop {
     Finished,
     Spent,
     Unbounded,
-    StoreFull,
+    NoRoom,
     NotFinite,
 }
 
@@ -82,10 +82,10 @@ pub enum Answer {
         row: usize,
         place: usize,
     },
-    BadBounds {
+    CrossedBounds {
         column: usize,
     },
-    FalseRow {
+    FalseEmptyRow {
         row: usize,
     },
     StartNotFinite,
@@ -98,7 +98,7 @@ pub enum Answer {
         objective: f64,
         steps: usize,
     },
-    StoreFull {
+    NoRoom {
         objective: f64,
         steps: usize,
     },

@@ -126,8 +126,8 @@ module _ (P : Problem) (s : Numbers) where
       workspace-same
       (over-same (λ r. t .slacks ! r) (startSlack P ys) (mOf P) (w .basicVarVals) (w .basicVarVals) slack refl)
       (over-same (λ j. t .vals ! j) (λ j. ys ! j) (nOf P) (w .nbVarVals) (w .nbVarVals) val refl)
-      (over-same (λ j. t .norms ! j) (startNorm P) (nOf P) (w .primalEdgeSqNorms) (w .primalEdgeSqNorms) norm refl)
-      (over-same (startFlags (costed (nOf P) [] (P .plan .lowers) (P .plan .uppers)) (t .vals)) (startFlags (P .plan) ys) (nOf P) (w .nbVarStates) (w .nbVarStates) (λ j h. rw (val j h)) refl)
+      (over-same (λ j. t .norms ! j) (startNorm P) (nOf P) (w .norms) (w .norms) norm refl)
+      (over-same (startFlags (costed (nOf P) [] (P .plan .lowers) (P .plan .uppers)) (t .vals)) (startFlags (P .plan) ys) (nOf P) (w .flags) (w .flags) (λ j h. rw (val j h)) refl)
 
 -- ---- for a caller: `u` is what `reckon` left, and `e` its promise
 module _ (P : Problem) (s u : Numbers) (e : u ≡ reckoned (unruledOf P) s) where

@@ -46,9 +46,9 @@ written n m costs lowers uppers xs slacks norms w =
       basicVarVals = over (table m (λ r. slacks ! r)) (w .basicVarVals);
       nbVars = over (table n (λ c. c)) (w .nbVars);
       nbVarVals = over (table n (λ j. xs ! j)) (w .nbVarVals);
-      nbVarObjCoeffs = over (table n (λ j. costs ! j)) (w .nbVarObjCoeffs);
-      primalEdgeSqNorms = over (table n (λ j. norms ! j)) (w .primalEdgeSqNorms);
-      nbVarStates = over (table n (startFlags (costed n [] lowers uppers) xs)) (w .nbVarStates);
+      prices = over (table n (λ j. costs ! j)) (w .prices);
+      norms = over (table n (λ j. norms ! j)) (w .norms);
+      flags = over (table n (startFlags (costed n [] lowers uppers) xs)) (w .flags);
       varStates = over (table (n + m) (λ v. v)) (w .varStates);
       etas = record { leaving = w .etas .leaving; starts = set (w .etas .starts) 0 0; rows = w .etas .rows; coeffs = w .etas .coeffs };
     }

@@ -24,12 +24,12 @@ rest {A} {a} {k} {f} {xs} {ys} c b h =
 abbrev numbersOf : Memory → Past → List ℕ
 numbersOf m past =
     let w = m .ws in
-    w .basicVars ++ (w .nbVars ++ (w .varStates ++ (w .nbVarStates ++ (w .etas .leaving ++ (w .etas .starts ++ (w .etas .rows ++ (m .kept ++ (m .counts ++ past .numbers))))))))
+    w .basicVars ++ (w .nbVars ++ (w .varStates ++ (w .flags ++ (w .etas .leaving ++ (w .etas .starts ++ (w .etas .rows ++ (m .kept ++ (m .counts ++ past .numbers))))))))
 
 abbrev doublesOf : Memory → Past → List Float
 doublesOf m past =
     let w = m .ws in
-    w .basicVarVals ++ (w .nbVarVals ++ (w .nbVarObjCoeffs ++ (w .primalEdgeSqNorms ++ (w .etas .coeffs ++ (m .objective ++ past .doubles)))))
+    w .basicVarVals ++ (w .nbVarVals ++ (w .prices ++ (w .norms ++ (w .etas .coeffs ++ (m .objective ++ past .doubles)))))
 
 -- from place a on, a section and then what follows it
 next : {A : Type 0} (a k : ℕ) (xs : List A) {rest : List A} → drop (a + k) xs ≡ rest → drop a xs ≡ section a k xs ++ rest

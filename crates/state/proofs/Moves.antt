@@ -13,40 +13,40 @@ use Rattle.state.proofs.Sections.{Changed, glue}
 
 -- one array anew
 abbrev with-basicVars : List ℕ → Workspace → Workspace
-with-basicVars x w = workspaceOf x (w .basicVarVals) (w .nbVars) (w .nbVarVals) (w .nbVarObjCoeffs) (w .primalEdgeSqNorms) (w .nbVarStates) (w .varStates) (w .etas)
+with-basicVars x w = workspaceOf x (w .basicVarVals) (w .nbVars) (w .nbVarVals) (w .prices) (w .norms) (w .flags) (w .varStates) (w .etas)
 
 abbrev with-nbVars : List ℕ → Workspace → Workspace
-with-nbVars x w = workspaceOf (w .basicVars) (w .basicVarVals) x (w .nbVarVals) (w .nbVarObjCoeffs) (w .primalEdgeSqNorms) (w .nbVarStates) (w .varStates) (w .etas)
+with-nbVars x w = workspaceOf (w .basicVars) (w .basicVarVals) x (w .nbVarVals) (w .prices) (w .norms) (w .flags) (w .varStates) (w .etas)
 
 abbrev with-varStates : List ℕ → Workspace → Workspace
-with-varStates x w = workspaceOf (w .basicVars) (w .basicVarVals) (w .nbVars) (w .nbVarVals) (w .nbVarObjCoeffs) (w .primalEdgeSqNorms) (w .nbVarStates) x (w .etas)
+with-varStates x w = workspaceOf (w .basicVars) (w .basicVarVals) (w .nbVars) (w .nbVarVals) (w .prices) (w .norms) (w .flags) x (w .etas)
 
 abbrev with-flags : List ℕ → Workspace → Workspace
-with-flags x w = workspaceOf (w .basicVars) (w .basicVarVals) (w .nbVars) (w .nbVarVals) (w .nbVarObjCoeffs) (w .primalEdgeSqNorms) x (w .varStates) (w .etas)
+with-flags x w = workspaceOf (w .basicVars) (w .basicVarVals) (w .nbVars) (w .nbVarVals) (w .prices) (w .norms) x (w .varStates) (w .etas)
 
 abbrev with-etaLeaving : List ℕ → Workspace → Workspace
-with-etaLeaving x w = workspaceOf (w .basicVars) (w .basicVarVals) (w .nbVars) (w .nbVarVals) (w .nbVarObjCoeffs) (w .primalEdgeSqNorms) (w .nbVarStates) (w .varStates) (etasOf x (w .etas .starts) (w .etas .rows) (w .etas .coeffs))
+with-etaLeaving x w = workspaceOf (w .basicVars) (w .basicVarVals) (w .nbVars) (w .nbVarVals) (w .prices) (w .norms) (w .flags) (w .varStates) (etasOf x (w .etas .starts) (w .etas .rows) (w .etas .coeffs))
 
 abbrev with-etaStarts : List ℕ → Workspace → Workspace
-with-etaStarts x w = workspaceOf (w .basicVars) (w .basicVarVals) (w .nbVars) (w .nbVarVals) (w .nbVarObjCoeffs) (w .primalEdgeSqNorms) (w .nbVarStates) (w .varStates) (etasOf (w .etas .leaving) x (w .etas .rows) (w .etas .coeffs))
+with-etaStarts x w = workspaceOf (w .basicVars) (w .basicVarVals) (w .nbVars) (w .nbVarVals) (w .prices) (w .norms) (w .flags) (w .varStates) (etasOf (w .etas .leaving) x (w .etas .rows) (w .etas .coeffs))
 
 abbrev with-etaRows : List ℕ → Workspace → Workspace
-with-etaRows x w = workspaceOf (w .basicVars) (w .basicVarVals) (w .nbVars) (w .nbVarVals) (w .nbVarObjCoeffs) (w .primalEdgeSqNorms) (w .nbVarStates) (w .varStates) (etasOf (w .etas .leaving) (w .etas .starts) x (w .etas .coeffs))
+with-etaRows x w = workspaceOf (w .basicVars) (w .basicVarVals) (w .nbVars) (w .nbVarVals) (w .prices) (w .norms) (w .flags) (w .varStates) (etasOf (w .etas .leaving) (w .etas .starts) x (w .etas .coeffs))
 
 abbrev with-basicVarVals : List Float → Workspace → Workspace
-with-basicVarVals x w = workspaceOf (w .basicVars) x (w .nbVars) (w .nbVarVals) (w .nbVarObjCoeffs) (w .primalEdgeSqNorms) (w .nbVarStates) (w .varStates) (w .etas)
+with-basicVarVals x w = workspaceOf (w .basicVars) x (w .nbVars) (w .nbVarVals) (w .prices) (w .norms) (w .flags) (w .varStates) (w .etas)
 
 abbrev with-nbVarVals : List Float → Workspace → Workspace
-with-nbVarVals x w = workspaceOf (w .basicVars) (w .basicVarVals) (w .nbVars) x (w .nbVarObjCoeffs) (w .primalEdgeSqNorms) (w .nbVarStates) (w .varStates) (w .etas)
+with-nbVarVals x w = workspaceOf (w .basicVars) (w .basicVarVals) (w .nbVars) x (w .prices) (w .norms) (w .flags) (w .varStates) (w .etas)
 
 abbrev with-prices : List Float → Workspace → Workspace
-with-prices x w = workspaceOf (w .basicVars) (w .basicVarVals) (w .nbVars) (w .nbVarVals) x (w .primalEdgeSqNorms) (w .nbVarStates) (w .varStates) (w .etas)
+with-prices x w = workspaceOf (w .basicVars) (w .basicVarVals) (w .nbVars) (w .nbVarVals) x (w .norms) (w .flags) (w .varStates) (w .etas)
 
 abbrev with-norms : List Float → Workspace → Workspace
-with-norms x w = workspaceOf (w .basicVars) (w .basicVarVals) (w .nbVars) (w .nbVarVals) (w .nbVarObjCoeffs) x (w .nbVarStates) (w .varStates) (w .etas)
+with-norms x w = workspaceOf (w .basicVars) (w .basicVarVals) (w .nbVars) (w .nbVarVals) (w .prices) x (w .flags) (w .varStates) (w .etas)
 
 abbrev with-etaCoeffs : List Float → Workspace → Workspace
-with-etaCoeffs x w = workspaceOf (w .basicVars) (w .basicVarVals) (w .nbVars) (w .nbVarVals) (w .nbVarObjCoeffs) (w .primalEdgeSqNorms) (w .nbVarStates) (w .varStates) (etasOf (w .etas .leaving) (w .etas .starts) (w .etas .rows) x)
+with-etaCoeffs x w = workspaceOf (w .basicVars) (w .basicVarVals) (w .nbVars) (w .nbVarVals) (w .prices) (w .norms) (w .flags) (w .varStates) (etasOf (w .etas .leaving) (w .etas .starts) (w .etas .rows) x)
 
 -- the arrays hold w: as a record, so that arguments are inferred
 pub record Holds (w : Workspace) (N : List ℕ) (D : List Float) : Type 0 where
@@ -72,10 +72,10 @@ module _ {w : Workspace} {N : List ℕ} {D : List Float} (h : Holds w N D) where
       let same : packed M D ≡ with-varStates (f (packed N D .varStates)) (packed N D) = rw (c .before basicVarsAt maxRows (omega arith), c .before nbVarsAt maxColumns (omega arith), c .here, c .after flagCellsAt maxColumns (omega arith), c .after etaLeavingAt etaColumns (omega arith), c .after etaStartsAt (etaColumns + 1) (omega arith), c .after etaRowsAt etaEntries (omega arith)) in
       record { is = same ∙ ap (λ (v : Workspace). with-varStates (f (v .varStates)) v) (h .is) }
 
-  pub in-flags : {f : List ℕ → List ℕ} {M : List ℕ} → Changed flagCellsAt maxColumns f N M → Holds (with-flags (f (w .nbVarStates)) w) M D
+  pub in-flags : {f : List ℕ → List ℕ} {M : List ℕ} → Changed flagCellsAt maxColumns f N M → Holds (with-flags (f (w .flags)) w) M D
   in-flags {f} {M} c =
-      let same : packed M D ≡ with-flags (f (packed N D .nbVarStates)) (packed N D) = rw (c .before basicVarsAt maxRows (omega arith), c .before nbVarsAt maxColumns (omega arith), c .before varStatesAt vars (omega arith), c .here, c .after etaLeavingAt etaColumns (omega arith), c .after etaStartsAt (etaColumns + 1) (omega arith), c .after etaRowsAt etaEntries (omega arith)) in
-      record { is = same ∙ ap (λ (v : Workspace). with-flags (f (v .nbVarStates)) v) (h .is) }
+      let same : packed M D ≡ with-flags (f (packed N D .flags)) (packed N D) = rw (c .before basicVarsAt maxRows (omega arith), c .before nbVarsAt maxColumns (omega arith), c .before varStatesAt vars (omega arith), c .here, c .after etaLeavingAt etaColumns (omega arith), c .after etaStartsAt (etaColumns + 1) (omega arith), c .after etaRowsAt etaEntries (omega arith)) in
+      record { is = same ∙ ap (λ (v : Workspace). with-flags (f (v .flags)) v) (h .is) }
 
   pub in-etaLeaving : {f : List ℕ → List ℕ} {M : List ℕ} → Changed etaLeavingAt etaColumns f N M → Holds (with-etaLeaving (f (w .etas .leaving)) w) M D
   in-etaLeaving {f} {M} c =
@@ -102,15 +102,15 @@ module _ {w : Workspace} {N : List ℕ} {D : List Float} (h : Holds w N D) where
       let same : packed N M ≡ with-nbVarVals (f (packed N D .nbVarVals)) (packed N D) = rw (c .before basicVarValsAt maxRows (omega arith), c .here, c .after pricesAt maxColumns (omega arith), c .after normsAt maxColumns (omega arith), c .after etaCoeffsAt etaEntries (omega arith)) in
       record { is = same ∙ ap (λ (v : Workspace). with-nbVarVals (f (v .nbVarVals)) v) (h .is) }
 
-  pub in-prices : {f : List Float → List Float} {M : List Float} → Changed pricesAt maxColumns f D M → Holds (with-prices (f (w .nbVarObjCoeffs)) w) N M
+  pub in-prices : {f : List Float → List Float} {M : List Float} → Changed pricesAt maxColumns f D M → Holds (with-prices (f (w .prices)) w) N M
   in-prices {f} {M} c =
-      let same : packed N M ≡ with-prices (f (packed N D .nbVarObjCoeffs)) (packed N D) = rw (c .before basicVarValsAt maxRows (omega arith), c .before nbVarValsAt maxColumns (omega arith), c .here, c .after normsAt maxColumns (omega arith), c .after etaCoeffsAt etaEntries (omega arith)) in
-      record { is = same ∙ ap (λ (v : Workspace). with-prices (f (v .nbVarObjCoeffs)) v) (h .is) }
+      let same : packed N M ≡ with-prices (f (packed N D .prices)) (packed N D) = rw (c .before basicVarValsAt maxRows (omega arith), c .before nbVarValsAt maxColumns (omega arith), c .here, c .after normsAt maxColumns (omega arith), c .after etaCoeffsAt etaEntries (omega arith)) in
+      record { is = same ∙ ap (λ (v : Workspace). with-prices (f (v .prices)) v) (h .is) }
 
-  pub in-norms : {f : List Float → List Float} {M : List Float} → Changed normsAt maxColumns f D M → Holds (with-norms (f (w .primalEdgeSqNorms)) w) N M
+  pub in-norms : {f : List Float → List Float} {M : List Float} → Changed normsAt maxColumns f D M → Holds (with-norms (f (w .norms)) w) N M
   in-norms {f} {M} c =
-      let same : packed N M ≡ with-norms (f (packed N D .primalEdgeSqNorms)) (packed N D) = rw (c .before basicVarValsAt maxRows (omega arith), c .before nbVarValsAt maxColumns (omega arith), c .before pricesAt maxColumns (omega arith), c .here, c .after etaCoeffsAt etaEntries (omega arith)) in
-      record { is = same ∙ ap (λ (v : Workspace). with-norms (f (v .primalEdgeSqNorms)) v) (h .is) }
+      let same : packed N M ≡ with-norms (f (packed N D .norms)) (packed N D) = rw (c .before basicVarValsAt maxRows (omega arith), c .before nbVarValsAt maxColumns (omega arith), c .before pricesAt maxColumns (omega arith), c .here, c .after etaCoeffsAt etaEntries (omega arith)) in
+      record { is = same ∙ ap (λ (v : Workspace). with-norms (f (v .norms)) v) (h .is) }
 
   pub in-etaCoeffs : {f : List Float → List Float} {M : List Float} → Changed etaCoeffsAt etaEntries f D M → Holds (with-etaCoeffs (f (w .etas .coeffs)) w) N M
   in-etaCoeffs {f} {M} c =
@@ -119,10 +119,10 @@ module _ {w : Workspace} {N : List ℕ} {D : List Float} (h : Holds w N D) where
 
 -- the arrays are their sections in turn, so the workspace settles every cell
 abbrev numbersOf : Workspace → List ℕ
-numbersOf w = w .basicVars ++ (w .nbVars ++ (w .varStates ++ (w .nbVarStates ++ (w .etas .leaving ++ (w .etas .starts ++ w .etas .rows)))))
+numbersOf w = w .basicVars ++ (w .nbVars ++ (w .varStates ++ (w .flags ++ (w .etas .leaving ++ (w .etas .starts ++ w .etas .rows)))))
 
 abbrev doublesOf : Workspace → List Float
-doublesOf w = w .basicVarVals ++ (w .nbVarVals ++ (w .nbVarObjCoeffs ++ (w .primalEdgeSqNorms ++ w .etas .coeffs)))
+doublesOf w = w .basicVarVals ++ (w .nbVarVals ++ (w .prices ++ (w .norms ++ w .etas .coeffs)))
 
 module _ {N : List ℕ} {D : List Float} (s : Sized N D) where
   numbers-are : N ≡ numbersOf (packed N D)

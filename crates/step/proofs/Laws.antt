@@ -16,7 +16,7 @@ use Rattle.rules.specs.Basis.{colCoeffs, addRow, combine, rowCoeffsOf, helperOf
 use Rattle.rules.specs.Ratio.{ahead, limit, examined, relaxed, stepTo, soundRatios, passOne, candidate, passTwoTurn, passTwo, flipOf, exchangeOf as ratioExchange, pivotOf, soundDistance, ratio}
 use Rattle.rules.specs.Choices.{RatioGives, exchanges as gives-exchange}
 use Rattle.rules.specs.Pivot.{flagsAt, flipFinite, flipped, exchangeFinite, exchanged}
-use Rattle.rules.specs.Step.{Outcome, moved, stopped, unless, step, pivot, flip, exchange}
+use Rattle.rules.specs.Step.{Outcome, moved, stopped, orStop, step, pivot, flip, exchange}
 use Rattle.rules.specs.Invariant.{ProblemFits, Fits, Vector}
 use Rattle.rules.specs.declared.Entering.{Entering}
 use Rattle.rules.specs.declared.Choice.the-variants.{Enters as Enters·column}
@@ -177,11 +177,11 @@ module _ (Q : Problem) (s : State) (e : Entering) where
   byFound (exchanges c x) = exchange Q s e c (x .value) (x .diff) (x .row) (x .pivot) (x .leaving)
   byFound (ends w) = stopped w
 
-  by-test : (c : Sv) (b : Bool) (u v : Float) → unless b Stop·NotFinite (moved (Flip u v) (flipped Q s e c u v)) ≡ byFound (elim b [ true ↦ flips c u v | false ↦ ends Stop·NotFinite ])
+  by-test : (c : Sv) (b : Bool) (u v : Float) → orStop b Stop·NotFinite (moved (Flip u v) (flipped Q s e c u v)) ≡ byFound (elim b [ true ↦ flips c u v | false ↦ ends Stop·NotFinite ])
   by-test c true u v = refl
   by-test c false u v = refl
 
-  by-tests : (c : Sv) (b : Bool) (y : Ratio) → unless b Stop·NotFinite (elim y [ NotFinite ↦ stopped Stop·NotFinite | Unbounded ↦ stopped Stop·Unbounded | Pivot i ↦ pivot Q s e c i ])
+  by-tests : (c : Sv) (b : Bool) (y : Ratio) → orStop b Stop·NotFinite (elim y [ NotFinite ↦ stopped Stop·NotFinite | Unbounded ↦ stopped Stop·Unbounded | Pivot i ↦ pivot Q s e c i ])
       ≡ byFound (elim b [ true ↦ byRatio Q s e c y | false ↦ ends Stop·NotFinite ])
   unfolding byRatio byPivot pivot flip
   by-tests c false y = refl
@@ -247,7 +247,7 @@ module _ (P : Problem) (s : State) (e : Entering) where
   -- a step reads of the problem what it is lent
   pub step-part : step P s e ≡ step (steppedOf P) s e
   unfolding step colCoeffs column ratio soundDistance pivotOf flipOf ratioExchange otherVal soundRatios passOne passTwo passTwoTurn candidate examined relaxed stepTo limit ahead varMin varMax
-  step-part = let c = colCoeffs P s (s .ws .nbVars # e .col) in ap (unless (listedFinite c) Stop·NotFinite) (by-ratio c (ratio P (s .ws) e c))
+  step-part = let c = colCoeffs P s (s .ws .nbVars # e .col) in ap (orStop (listedFinite c) Stop·NotFinite) (by-ratio c (ratio P (s .ws) e c))
 
 -- what the state that a step leaves tells of its outcome, and what the workspace that it leaves does
 module _ (s : State) where

@@ -9,7 +9,7 @@ use Rattle.doubles.proofs.Bools.{turned, turned-true, itself}
 use Rattle.rules.specs.Plan.{Plan}
 use Rattle.rules.specs.Parts.{planOf}
 use Rattle.rules.specs.Refusals.{startsRise, passes2, firstCrossed}
-use Rattle.rules.specs.declared.Answer.the-variants.{BadBounds, FalseRow}
+use Rattle.rules.specs.declared.Answer.the-variants.{CrossedBounds, FalseEmptyRow}
 use Rattle.plan.specs.declared.Bad.the-variants.{Nothing}
 use Rattle.plan.specs.declared.Refusal.the-variants.{By}
 use Rattle.plan.specs.Refused.{badEntry}
@@ -87,7 +87,7 @@ returns-4 c = let t : tie.After-enum-told = search in
     let e = t .before .before .before in
     let s = at-1 (e .before .before) in
     let w = c .before .first-crossed .ensures ∙ sym (crossed-part (whole s)) in
-    ap (λ j. By (BadBounds j)) w ∙ says-4 (whole s) (one (e .before .before)) (two e) (three t) (ne-eqb _ _ (λ q. c .if3 .taken (w ∙ q)))
+    ap (λ j. By (CrossedBounds j)) w ∙ says-4 (whole s) (one (e .before .before)) (two e) (three t) (ne-eqb _ _ (λ q. c .if3 .taken (w ∙ q)))
 
 first-false-requires : tie.Need-first-false-requires
 first-false-requires c κs = let s : tie.Start = search in
@@ -99,7 +99,7 @@ returns-5 c = let f : tie.Else3 = search in
     let e = t .before .before .before in
     let s = at-1 (e .before .before) in
     let w = c .before .first-false .ensures ∙ sym (false-part (whole s)) in
-    ap (λ j. By (FalseRow j)) w ∙ says-5 (whole s) (one (e .before .before)) (two e) (three t) (four f) (ne-eqb _ _ (λ q. c .if4 .taken (w ∙ q)))
+    ap (λ j. By (FalseEmptyRow j)) w ∙ says-5 (whole s) (one (e .before .before)) (two e) (three t) (four f) (ne-eqb _ _ (λ q. c .if4 .taken (w ∙ q)))
 
 returns-6 : tie.Need-returns-6
 returns-6 c = let f : tie.Else3 = search in
