@@ -17,7 +17,7 @@ use Rattle.doubles.proofs.Loops.{both-true, all-at}
 use Rattle.sparse.specs.Scattered.{Within}
 use Rattle.rules.specs.Parts.{planOf, etasOf}
 use Rattle.rules.specs.Refusals.{startsRise}
-use Rattle.eta.specs.Store.{Readable}
+use Rattle.basis_etas.specs.Store.{Readable}
 
 -- the arrays are long enough
 pub record Long (leaving starts rows : List ℕ) (coeffs : List Float) (n entries : ℕ) (at : List ℕ) (xs : List Float) (listed : ℕ) : Type 0 where

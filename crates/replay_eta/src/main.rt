@@ -10,7 +10,7 @@ ghost use Rattle.doubles.specs.Lists.{_#_};
 ghost use Rattle.doubles.specs.Loop.{all};
 ghost use Rattle.sparse.specs.Scattered.{Within};
 ghost use Rattle.rules.specs.Parts.{etasOf};
-ghost use Rattle.eta.specs.Store.{Readable};
+ghost use Rattle.basis_etas.specs.Store.{Readable};
 
 // Whether every cell is a place of the vector.
 fn all_places(at: &[usize]) -> bool
@@ -61,7 +61,7 @@ fn column_solve(
     let mut marks = [false; doubles::PLACES];
     let mut list = [0usize; doubles::PLACES];
     let count = sparse::load(&mut values, &mut marks, &mut list, 0, at, xs, listed);
-    let c = eta::solve(
+    let c = basis_etas::solve(
         &mut values,
         &mut marks,
         &mut list,
@@ -91,7 +91,7 @@ fn row_solve(
     let mut marks = [false; doubles::PLACES];
     let mut list = [0usize; doubles::PLACES];
     let count = sparse::load(&mut values, &mut marks, &mut list, 0, at, xs, listed);
-    let c = eta::solve_transp(
+    let c = basis_etas::solve_transp(
         &mut values,
         &mut marks,
         &mut list,

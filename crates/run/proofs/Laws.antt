@@ -19,16 +19,16 @@ use Rattle.rules.specs.declared.Choice.the-variants.{Enters, Nothing}
 use Rattle.rules.specs.declared.Stop.{Stop}
 use Rattle.rules.specs.declared.Stop.the-variants.{Finished, Spent}
 use Rattle.rules.proofs.Moved.{enters-below}
-use Rattle.choose.specs.Lent.{Choosing}
+use Rattle.step_choose.specs.Lent.{Choosing}
 use Rattle.cells.proofs.Parts.{boundsOf}
-use Rattle.choose.proofs.Parts.{choose-part}
-use Rattle.choose.proofs.Fits.{choosing}
+use Rattle.step_choose.proofs.Parts.{choose-part}
+use Rattle.step_choose.proofs.Fits.{choosing}
 use Rattle.state.specs.Packed.{packed, stateAt, Sized}
 use Rattle.state.specs.declared.Tally.{Tally}
-use Rattle.exchange.specs.Left.{on, after, leftBy, stepped}
-use Rattle.exchange.specs.Lent.{Ready}
-use Rattle.exchange.specs.declared.Went.{Went}
-use Rattle.exchange.specs.declared.Went.the-variants.{On, Stops}
+use Rattle.step_exchange.specs.Left.{on, after, leftBy, stepped}
+use Rattle.step_exchange.specs.Lent.{Ready}
+use Rattle.step_exchange.specs.declared.Went.{Went}
+use Rattle.step_exchange.specs.declared.Went.the-variants.{On, Stops}
 use Rattle.step.proofs.Laws.{steppedOf, step-part, moves-on, stops-at, moved-fits}
 
 -- ---- a problem may stand for its part

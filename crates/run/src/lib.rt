@@ -6,10 +6,10 @@ ghost use lib.ListN.{length};
 ghost use Rattle.doubles.specs.Limits.{maxBudget};
 ghost use Rattle.rules.specs.Parts.{rowed};
 ghost use Rattle.rules.specs.Step.{runOf};
-ghost use Rattle.columns.specs.Columns.{ByColumns};
+ghost use Rattle.basis_columns.specs.Columns.{ByColumns};
 ghost use Rattle.state.specs.Packed.{stateAt};
-ghost use Rattle.exchange.specs.Left.{stepped};
-ghost use Rattle.exchange.specs.Lent.{Ready};
+ghost use Rattle.step_exchange.specs.Left.{stepped};
+ghost use Rattle.step_exchange.specs.Lent.{Ready};
 ghost use Rattle.run.specs.Ran.{ranBy};
 
 // Why a run ends, and the numbers of its last state that stand in no array. 01: "The step count in the
@@ -77,10 +77,10 @@ pub fn optimize(
             e,
         );
         match went {
-            exchange::Went::On(after) => {
+            step_exchange::Went::On(after) => {
                 tally = after;
             }
-            exchange::Went::Stops(why) => {
+            step_exchange::Went::Stops(why) => {
                 return Ran { why, at: tally };
             }
         }

@@ -9,7 +9,7 @@ use Rattle.sheet_rules.specs.Words.{Today}
 use Rattle.sheet_rules.specs.Promises.{Opens, Edits}
 use Rattle.sheet_rules.specs.declared.Edit.{Edit}
 use Rattle.sheet_rules.proofs.Exact.{edit-so, left-new, left-old}
-use Rattle.sheet_moves.specs.After.{Ready}
+use Rattle.sheet_change_moves.specs.After.{Ready}
 
 module _ (s : Sheet) where
   pub opens-new : (r : ℕ) (k : Kept) → r ≡ opening s → r ≡ 0 → k ≡ overKept (fresh (s .plan)) (s .kept) → Opens s r (sheetOf (s .plan) k)

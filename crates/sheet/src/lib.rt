@@ -107,7 +107,7 @@ pub fn edit(
         column: column,
         number: number,
     };
-    let refusal = sheet_edit::edit_refusal(
+    let refusal = sheet_change_edit::edit_refusal(
         e,
         rows,
         columns,
@@ -128,7 +128,7 @@ pub fn edit(
         counts,
     );
     if refusal == 0 {
-        sheet_apply::apply_edit(
+        sheet_store_apply::apply_edit(
             e,
             rows,
             columns,

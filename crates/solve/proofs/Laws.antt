@@ -28,20 +28,20 @@ use Rattle.plan.proofs.Fits.{front-taken}
 use Rattle.plan.proofs.Ladder.{fromSix, solvedBy}
 use Rattle.start.specs.Lent.{Scratch}
 use Rattle.start.specs.Reckoned.{Numbers, numbers, reckoned}
-use Rattle.final_check.proofs.Parts.{checkedBy}
-use Rattle.gateway.specs.Lent.{Passed}
-use Rattle.gateway.specs.Gate as Gate
-use Rattle.gateway.specs.Gate.{refused, filled, refusalBy, begun, begunBy}
-use Rattle.gateway.specs.declared.Begun.{Begun}
-use Rattle.gateway.specs.declared.Begun.the-variants.{Refused, On}
-use Rattle.gateway.proofs.Gate.{Accepted, accepted, solved-by, begun-part, start-refused, start-filled}
-use Rattle.gateway.proofs.Long.{arrays-long}
+use Rattle.check_final.proofs.Parts.{checkedBy}
+use Rattle.start_gate.specs.Lent.{Passed}
+use Rattle.start_gate.specs.Gate as Gate
+use Rattle.start_gate.specs.Gate.{refused, filled, refusalBy, begun, begunBy}
+use Rattle.start_gate.specs.declared.Begun.{Begun}
+use Rattle.start_gate.specs.declared.Begun.the-variants.{Refused, On}
+use Rattle.start_gate.proofs.Gate.{Accepted, accepted, solved-by, begun-part, start-refused, start-filled}
+use Rattle.start_gate.proofs.Long.{arrays-long}
 use Rattle.run.specs.Ran.{ranBy}
 use Rattle.run.specs.declared.Ran.{Ran}
-use Rattle.launch.specs.Launched.{firstState, launched, Launches}
-use Rattle.launch.proofs.Laws.{launchedBy, launched-end, fits-launch}
-use Rattle.close.specs.Lent.{Closes}
-use Rattle.close.proofs.Laws.{close-whole, fits-close}
+use Rattle.run_launch.specs.Launched.{firstState, launched, Launches}
+use Rattle.run_launch.proofs.Laws.{launchedBy, launched-end, fits-launch}
+use Rattle.check_close.specs.Lent.{Closes}
+use Rattle.check_close.proofs.Laws.{close-whole, fits-close}
 
 -- 1 to 5
 pub refuses : (p : Plan) (v : List Float) (N : List ℕ) (D : List Float) (a : Answer) → By a ≡ refusalBy p (memoryIn v N D)

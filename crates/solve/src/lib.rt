@@ -28,7 +28,7 @@ pub fn solve(
         (now (starts .entry)) (now (cols .entry)) (now (coeffs .entry)) (now (ops .entry)) (now (rhs .entry)))
         (memoryIn (now (values .entry)) (now (numbers .entry)) (now (doubles .entry)))) (pastOf (now (numbers .entry)) (now (doubles .entry))) ⌝ }
 {
-    let refusal = gateway::refusal(
+    let refusal = start_gate::refusal(
         columns,
         rows,
         entries,
@@ -54,7 +54,7 @@ pub fn solve(
     let mut xs = [0.0; doubles::MAX_COLUMNS];
     let mut slacks = [0.0; doubles::MAX_ROWS];
     let mut norms = [0.0; doubles::MAX_COLUMNS];
-    let begun = gateway::begin(
+    let begun = start_gate::begin(
         columns,
         costs,
         lowers,
@@ -70,9 +70,9 @@ pub fn solve(
         &mut norms,
     );
     match begun {
-        gateway::Begun::Refused(answer) => answer,
-        gateway::Begun::On(start) => {
-            let ran = launch::launch(
+        start_gate::Begun::Refused(answer) => answer,
+        start_gate::Begun::On(start) => {
+            let ran = run_launch::launch(
                 &mut numbers[..state::KEPT],
                 &mut doubles[..state::OBJECTIVE],
                 columns,
@@ -91,7 +91,7 @@ pub fn solve(
                 start,
             );
             let why = ran.why;
-            close::close(
+            check_close::close(
                 columns,
                 tolerance,
                 lowers,

@@ -30,24 +30,24 @@ use Rattle.rules.proofs.Vectors.{rows-places, column-vector}
 use Rattle.rules.proofs.Choices.{ratio-exactly}
 use Rattle.rules.proofs.Keeps.{step-fits}
 use Rattle.rules.proofs.Steps.{step-counts}
-use Rattle.eta.specs.Store.{Readable}
-use Rattle.eta.proofs.Laws.{fits-readable}
-use Rattle.rows.proofs.Parts.{vector-listed}
-use Rattle.ratio.specs.Lent.{Stepping}
-use Rattle.ratio.proofs.Parts.{ratio-part}
-use Rattle.ratio.proofs.Fits.{stepping}
-use Rattle.new_numbers.specs.Lent.{Listing}
-use Rattle.new_numbers.proofs.Parts.{vector-listing}
-use Rattle.pivot.specs.Lent.{Flips}
+use Rattle.basis_etas.specs.Store.{Readable}
+use Rattle.basis_etas.proofs.Laws.{fits-readable}
+use Rattle.basis_rows.proofs.Parts.{vector-listed}
+use Rattle.step_ratio.specs.Lent.{Stepping}
+use Rattle.step_ratio.proofs.Parts.{ratio-part}
+use Rattle.step_ratio.proofs.Fits.{stepping}
+use Rattle.step_numbers.specs.Lent.{Listing}
+use Rattle.step_numbers.proofs.Parts.{vector-listing}
+use Rattle.step_store.specs.Lent.{Flips}
 use Rattle.cells.proofs.Parts.{boundsOf}
-use Rattle.pivot.proofs.Parts.{fits-flips, flipped-part}
-use Rattle.columns.specs.Columns.{ByColumns}
-use Rattle.solves.specs.Lent.{ColumnLent}
+use Rattle.step_store.proofs.Parts.{fits-flips, flipped-part}
+use Rattle.basis_columns.specs.Columns.{ByColumns}
+use Rattle.basis_solves.specs.Lent.{ColumnLent}
 use Rattle.state.specs.Packed.{packed, stateAt}
 use Rattle.state.specs.declared.Tally.{Tally}
 use Rattle.state.specs.declared.Exchange.{Exchange}
-use Rattle.exchange.specs.Left.{Left, on, off, after, stepped}
-use Rattle.exchange.specs.Lent.{Ready}
+use Rattle.step_exchange.specs.Left.{Left, on, off, after, stepped}
+use Rattle.step_exchange.specs.Lent.{Ready}
 use Rattle.step.specs.Found.{Found, flips, exchanges, ends, exchangeOf, byPivot, byRatio, found, foundBy}
 use Rattle.step.specs.declared.Decided.{Decided}
 use Rattle.step.specs.declared.Decided.the-variants.{Flips as Flips·found, Exchanges, Stops}

@@ -5,9 +5,9 @@ use lib.ListN.{length}
 use lib.Ieee.{Float}
 use Rattle.rules.specs.Parts.{rowed}
 use Rattle.rules.specs.declared.Entering.{Entering}
-use Rattle.columns.specs.Columns.{ByColumns}
+use Rattle.basis_columns.specs.Columns.{ByColumns}
 use Rattle.state.specs.declared.Tally.{Tally}
-use Rattle.exchange.specs.Lent.{Ready}
+use Rattle.step_exchange.specs.Lent.{Ready}
 
 -- the problem, which is lent by columns, and the state fit, and the entering place is one
 pub record Enters (n : ℕ) (lowers uppers : List Float) (ops kept : List ℕ) (S R : List ℕ) (X : List Float) (N : List ℕ) (D : List Float) (t : Tally) (e : Entering) : Type 0 where

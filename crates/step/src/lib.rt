@@ -9,10 +9,10 @@ ghost use Rattle.sparse.specs.Scattered.{sv, Fresh};
 ghost use Rattle.rules.specs.Plan.{State};
 ghost use Rattle.rules.specs.Parts.{rowed};
 ghost use Rattle.rules.specs.Step as Step;
-ghost use Rattle.columns.specs.Columns.{ByColumns};
+ghost use Rattle.basis_columns.specs.Columns.{ByColumns};
 ghost use Rattle.state.specs.Packed.{stateAt};
-ghost use Rattle.exchange.specs.Left.{afterBy, leftBy, stepped};
-ghost use Rattle.exchange.specs.Lent.{Ready};
+ghost use Rattle.step_exchange.specs.Left.{afterBy, leftBy, stepped};
+ghost use Rattle.step_exchange.specs.Lent.{Ready};
 ghost use Rattle.step.specs.Found.{found, foundBy};
 ghost use Rattle.step.specs.Lent.{Enters};
 
@@ -130,7 +130,7 @@ pub fn step(
     crows: &[usize],
     ccoeffs: &[f64],
     e: rules::Entering,
-) -> exchange::Went
+) -> step_exchange::Went
     requires { ⌜ Ready n (now lowers) (now uppers) (now starts) (now cols) (now coeffs) (now ops) (now kept) (now numbers) (now doubles) at ⌝ }
     requires { ⌜ ByColumns (rowed n (now starts) (now cols) (now coeffs) (now kept)) (now cstarts) (now crows) (now ccoeffs) × (n < length (now cstarts)) × (e .col < n) ⌝ }
     ensures { λ r. ⌜ leftBy r (now (numbers .exit)) (now (doubles .exit))
@@ -159,10 +159,10 @@ pub fn step(
     );
     match decided {
         Decided::Stops(why) => {
-            return exchange::Went::Stops(why);
+            return step_exchange::Went::Stops(why);
         }
         Decided::Flips { count, value, diff } => {
-            return exchange::Went::On(pivot::store_flip(
+            return step_exchange::Went::On(step_store::store_flip(
                 numbers,
                 doubles,
                 at,
@@ -180,7 +180,7 @@ pub fn step(
             ));
         }
         Decided::Exchanges { count, x } => {
-            return exchange::exchange(
+            return step_exchange::exchange(
                 numbers,
                 doubles,
                 at,

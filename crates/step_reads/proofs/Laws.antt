@@ -3,10 +3,10 @@ use mathlib.Core.List.{List}
 use Prim.Native.Nat.{ℕ}
 use Rattle.rules.specs.Plan.{Problem, Workspace}
 use Rattle.rules.specs.declared.Entering.{Entering}
-use Rattle.choose.specs.Lent.{Choosing}
-use Rattle.choose.proofs.Parts.{choosingOf}
-use Rattle.ratio.specs.Lent.{Stepping}
-use Rattle.ratio.proofs.Parts.{steppingOf}
+use Rattle.step_choose.specs.Lent.{Choosing}
+use Rattle.step_choose.proofs.Parts.{choosingOf}
+use Rattle.step_ratio.specs.Lent.{Stepping}
+use Rattle.step_ratio.proofs.Parts.{steppingOf}
 
 pub choosing-part : {P : Problem} {w : Workspace} → Choosing P w → Choosing P (choosingOf w)
 choosing-part c =

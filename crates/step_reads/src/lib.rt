@@ -14,12 +14,12 @@ ghost use Rattle.rules.specs.Choose as Choose;
 ghost use Rattle.rules.specs.Ratio as Ratio;
 ghost use Rattle.rules.specs.Basis.{colCoeffs, rowCoeffsOf, helperOf};
 ghost use Rattle.rules.specs.Pivot.{flipFinite, exchangeFinite};
-ghost use Rattle.columns.specs.Columns.{ByColumns};
-ghost use Rattle.eta.specs.Store.{Readable};
-ghost use Rattle.choose.specs.Lent.{Choosing};
-ghost use Rattle.ratio.specs.Lent.{Stepping};
-ghost use Rattle.solves.specs.Lent.{ColumnLent, RowSolve};
-ghost use Rattle.new_numbers.specs.Lent.{Listing};
+ghost use Rattle.basis_columns.specs.Columns.{ByColumns};
+ghost use Rattle.basis_etas.specs.Store.{Readable};
+ghost use Rattle.step_choose.specs.Lent.{Choosing};
+ghost use Rattle.step_ratio.specs.Lent.{Stepping};
+ghost use Rattle.basis_solves.specs.Lent.{ColumnLent, RowSolve};
+ghost use Rattle.step_numbers.specs.Lent.{Listing};
 ghost use Rattle.state.specs.Packed.{packed, stateAt, Sized, objectiveAt};
 
 // The entering column, or none.
@@ -37,7 +37,7 @@ pub fn choose(
     ensures { λ r. ⌜ r ≡ Choose.choose (bounded n (now (lowers .entry)) (now (uppers .entry)) (now (ops .entry)) (now (kept .entry)))
         (packed (now (numbers .entry)) (now (doubles .entry))) ⌝ }
 {
-    choose::choose(
+    step_choose::choose(
         n,
         lowers,
         uppers,
@@ -74,7 +74,7 @@ pub fn column(
 {
     let var = numbers[state::NB_VARS + col];
     let columns = at.eta_count;
-    solves::col_coeffs(
+    basis_solves::col_coeffs(
         values,
         marks,
         list,
@@ -110,7 +110,7 @@ pub fn ratio(
     ensures { λ r. ⌜ ((m : List Bool) → r ≡ Ratio.ratio (bounded n (now (lowers .entry)) (now (uppers .entry)) (now (ops .entry)) (now (kept .entry)))
         (packed (now (numbers .entry)) (now (doubles .entry))) e (sv (now (values .entry)) m (now (list .entry)) count)) ⌝ }
 {
-    ratio::ratio(
+    step_ratio::ratio(
         e,
         n,
         lowers,
@@ -151,7 +151,7 @@ pub fn row(
         (stateAt (now (numbers .entry)) (now (doubles .entry)) at) row ⌝ }
 {
     let columns = at.eta_count;
-    solves::row_coeffs(
+    basis_solves::row_coeffs(
         values,
         marks,
         list,
@@ -196,7 +196,7 @@ pub fn helper(
         (stateAt (now (numbers .entry)) (now (doubles .entry)) at) (sv (now (from .entry)) m (now («from_list» .entry)) «from_count»)) ⌝ }
 {
     let columns = at.eta_count;
-    solves::helper(
+    basis_solves::helper(
         values,
         marks,
         list,
@@ -232,7 +232,7 @@ pub fn flip_finite(
     ensures { λ r. ⌜ ((P : Problem) (N : List ℕ) (m : List Bool) → r ≡ flipFinite P (stateAt N (now (doubles .entry)) at) e
         (sv (now (values .entry)) m (now (list .entry)) count) value diff) ⌝ }
 {
-    new_numbers::flip_finite(
+    step_numbers::flip_finite(
         &doubles[state::BASIC_VAR_VALS..state::BASIC_VAR_VALS_END],
         values,
         list,
@@ -265,7 +265,7 @@ pub fn exchange_finite(
         (sv (now (values .entry)) m (now (list .entry)) count) (sv (now («row_values» .entry)) rm (now («row_list» .entry)) «row_count»)
         (svOf (now (helper .entry)) p) (x .value) (x .diff) (x .row) (x .pivot) (x .leaving)) ⌝ }
 {
-    new_numbers::exchange_finite(
+    step_numbers::exchange_finite(
         &doubles[state::BASIC_VAR_VALS..state::BASIC_VAR_VALS_END],
         &doubles[state::PRICES..state::PRICES_END],
         &doubles[state::NORMS..state::NORMS_END],

@@ -59,7 +59,7 @@ returns-2 c =
     going-spent (head x .loop .inv) _ (x .before .before .choose .ensures) _ (x .choice .given .1) (omega (arith, c .if1 .taken))
 
 step-requires : tie.Need-step-requires Inv-loop μ-loop
-step-requires c κs = 
+step-requires c κs =
     let b : tie.Else1 Inv-loop μ-loop = search in
     let x : tie.After-choice Inv-loop μ-loop = search in
     let s = entry (head x) in

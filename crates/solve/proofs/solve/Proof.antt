@@ -10,7 +10,7 @@ use Rattle.rules.specs.Parts.{planOf}
 use Rattle.state.specs.Packed.{keptAt, objectiveAt}
 use Rattle.state.specs.Memory.{memoryIn}
 use Rattle.plan.specs.declared.Refusal.the-variants.{Nothing}
-use Rattle.gateway.specs.Gate.{refusalBy}
+use Rattle.start_gate.specs.Gate.{refusalBy}
 use Rattle.solve.proofs.Laws.{was-refused, was-filled, refuses, keeps-asks, fronts-inside, front-inside, front-long, begins-asks, start-refuses, launch-asks, close-asks, solves}
 use Rattle.solve.proofs.solve.Statement.{statement}
 use Rattle.solve.proofs.solve.Tie as tie

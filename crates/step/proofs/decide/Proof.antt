@@ -11,10 +11,10 @@ use Rattle.rules.specs.Plan.{Problem, State}
 use Rattle.rules.specs.Parts.{rowed}
 use Rattle.rules.specs.Basis.{colCoeffs}
 use Rattle.rules.specs.declared.Ratio.the-variants.{Pivot, Unbounded, NotFinite}
-use Rattle.columns.specs.Columns.{ByColumns}
-use Rattle.columns.proofs.Callers.{columns-part}
+use Rattle.basis_columns.specs.Columns.{ByColumns}
+use Rattle.basis_columns.proofs.Callers.{columns-part}
 use Rattle.state.specs.Packed.{stateAt}
-use Rattle.exchange.specs.Left.{stepped}
+use Rattle.step_exchange.specs.Left.{stepped}
 use Rattle.step.specs.Found.{byRatio, byPivot}
 use Rattle.step.proofs.Laws.{column-asks, listed-asks, ratio-asks, column-listing, found-bad, found-ratio, found-flip, found-unsound}
 use Rattle.step.proofs.decide.Statement.{statement}

@@ -2,9 +2,9 @@
 use borrow.Author.Needs.{needs}
 use mathlib.Core.Path.{_≡_}
 use Rattle.rules.specs.Plan.{Problem, State}
-use Rattle.rows.proofs.Parts.{fresh-blank}
+use Rattle.basis_rows.proofs.Parts.{fresh-blank}
 use Rattle.state.specs.Packed.{stateAt}
-use Rattle.exchange.specs.Left.{stepped}
+use Rattle.step_exchange.specs.Left.{stepped}
 use Rattle.step.specs.Found.{found, foundBy}
 use Rattle.step.proofs.Laws.{solved, column-listing, flip-asks, exchange-asks, step-stops, flips-column, step-flips, exchanges-column, step-exchanges}
 use Rattle.step.proofs.step.Statement.{statement}

@@ -2,7 +2,7 @@
 use borrow.Author.Needs.{needs}
 use mathlib.Core.Path.{sym, _∙_}
 use Rattle.rules.specs.Parts.{bounded}
-use Rattle.choose.proofs.Parts.{choose-part}
+use Rattle.step_choose.proofs.Parts.{choose-part}
 use Rattle.state.specs.Packed.{packed}
 use Rattle.step_reads.proofs.Laws.{choosing-part}
 use Rattle.step_reads.proofs.choose.Statement.{statement}

@@ -5,7 +5,7 @@ use Prim.Native.Nat.{ℕ, _+_}
 use Rattle.doubles.specs.Limits.{maxColumns}
 use Rattle.doubles.specs.Lists.{_#_}
 use Rattle.rules.specs.Basis.{colCoeffs}
-use Rattle.solves.specs.Lent.{ColumnLent}
+use Rattle.basis_solves.specs.Lent.{ColumnLent}
 use Rattle.state.specs.Packed.{packed, stateAt, nbVarsAt}
 use Rattle.state.proofs.Sections.{section-at}
 use Rattle.step_reads.proofs.column.Statement.{statement}

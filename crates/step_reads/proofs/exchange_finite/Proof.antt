@@ -4,7 +4,7 @@ use mathlib.Core.Path.{sym, _∙_}
 use native.Mathlib.Omega.{arith}
 use Rattle.doubles.specs.Limits.{maxRows, maxColumns}
 use Rattle.sparse.specs.Scattered.{sv, svOf}
-use Rattle.new_numbers.proofs.Parts.{listing-in, exchange-finite-part}
+use Rattle.step_numbers.proofs.Parts.{listing-in, exchange-finite-part}
 use Rattle.state.specs.Packed.{stateAt, basicVarValsAt, pricesAt, normsAt}
 use Rattle.step_reads.proofs.exchange_finite.Statement.{statement}
 use Rattle.step_reads.proofs.exchange_finite.Tie as tie

@@ -4,7 +4,7 @@ use mathlib.Core.Path.{sym, _∙_}
 use native.Mathlib.Omega.{arith}
 use Rattle.doubles.specs.Limits.{maxRows}
 use Rattle.sparse.specs.Scattered.{sv}
-use Rattle.new_numbers.proofs.Parts.{listing-in, flip-finite-part}
+use Rattle.step_numbers.proofs.Parts.{listing-in, flip-finite-part}
 use Rattle.state.specs.Packed.{stateAt, basicVarValsAt}
 use Rattle.step_reads.proofs.flip_finite.Statement.{statement}
 use Rattle.step_reads.proofs.flip_finite.Tie as tie

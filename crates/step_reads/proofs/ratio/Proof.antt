@@ -3,7 +3,7 @@ use borrow.Author.Needs.{needs}
 use mathlib.Core.Path.{sym, _∙_}
 use Rattle.sparse.specs.Scattered.{sv}
 use Rattle.rules.specs.Parts.{bounded}
-use Rattle.ratio.proofs.Parts.{ratio-part}
+use Rattle.step_ratio.proofs.Parts.{ratio-part}
 use Rattle.state.specs.Packed.{packed}
 use Rattle.step_reads.proofs.Laws.{stepping-part}
 use Rattle.step_reads.proofs.ratio.Statement.{statement}

@@ -1,0 +1,131 @@
+// From the start's numbers, which have passed 6 and 7, to the end of the run; and a run from any state that fits.
+ghost use mathlib.Core.Path.{_≡_};
+ghost use Prim.Native.Nat.{_-_, _≤_};
+ghost use Rattle.doubles.specs.Limits.{maxBudget};
+ghost use Rattle.rules.specs.Step.{runOf};
+ghost use Rattle.state.specs.Packed.{packed, stateAt};
+ghost use Rattle.start.specs.Reckoned as Reckoned;
+ghost use Rattle.step_exchange.specs.Left.{stepped};
+ghost use Rattle.step_exchange.specs.Lent.{Ready};
+ghost use Rattle.run.specs.Ran.{ranBy};
+ghost use Rattle.run_launch.specs.Launched.{launchedOf, firstState, launched, Launches};
+
+// The matrix by columns, which is made here alone, then the run.
+pub fn go_on(
+    numbers: &mut [usize],
+    doubles: &mut [f64],
+    at: state::Tally,
+    n: usize,
+    budget: usize,
+    lowers: &[f64],
+    uppers: &[f64],
+    starts: &[usize],
+    cols: &[usize],
+    coeffs: &[f64],
+    ops: &[u8],
+    kept: &[usize],
+) -> run::Ran
+    requires { ⌜ Ready n (now lowers) (now uppers) (now starts) (now cols) (now coeffs) (now ops) (now kept) (now numbers) (now doubles) at ⌝ }
+    requires { ⌜ budget ≤ maxBudget ⌝ }
+    ensures { λ r. ⌜ ranBy r (now (numbers .exit)) (now (doubles .exit))
+        ≡ runOf (stepped n (now (lowers .entry)) (now (uppers .entry)) (now (starts .entry)) (now (cols .entry)) (now (coeffs .entry)) (now (ops .entry)) (now (kept .entry)))
+        (budget - at .steps) (stateAt (now (numbers .entry)) (now (doubles .entry)) at) ⌝ }
+{
+    let mut cstarts = [0usize; doubles::MAX_COLUMNS + 1];
+    let mut crows = [0usize; doubles::MAX_ENTRIES];
+    let mut ccoeffs = [0.0; doubles::MAX_ENTRIES];
+    basis_columns::by_columns(
+        n,
+        starts,
+        cols,
+        coeffs,
+        kept,
+        &mut cstarts,
+        &mut crows,
+        &mut ccoeffs,
+    );
+    run::optimize(
+        numbers,
+        doubles,
+        at,
+        n,
+        lowers,
+        uppers,
+        starts,
+        cols,
+        coeffs,
+        ops,
+        kept,
+        &cstarts,
+        &crows,
+        &ccoeffs,
+        budget,
+    )
+}
+
+// The first state is written, and the run goes on from it. 01: "If dual feasible, Optimal is reached at once with 0
+// steps (ours), after the final check".
+pub fn launch(
+    numbers: &mut [usize],
+    doubles: &mut [f64],
+    n: usize,
+    budget: usize,
+    costs: &[f64],
+    lowers: &[f64],
+    uppers: &[f64],
+    starts: &[usize],
+    cols: &[usize],
+    coeffs: &[f64],
+    ops: &[u8],
+    kept: &[usize],
+    xs: &[f64; doubles::MAX_COLUMNS],
+    slacks: &[f64; doubles::MAX_ROWS],
+    norms: &[f64; doubles::MAX_COLUMNS],
+    objective: f64,
+) -> run::Ran
+    requires { ⌜ Launches (launchedOf n (now costs) (now lowers) (now uppers) (now starts) (now cols) (now coeffs) (now ops) (now kept)) budget
+        (Reckoned.numbers (now xs) (now slacks) (now norms) objective) (now numbers) (now doubles) ⌝ }
+    ensures { λ r. ⌜ ranBy r (now (numbers .exit)) (now (doubles .exit))
+        ≡ launched (launchedOf n (now (costs .entry)) (now (lowers .entry)) (now (uppers .entry)) (now (starts .entry)) (now (cols .entry)) (now (coeffs .entry)) (now (ops .entry)) (now (kept .entry))) budget
+        (firstState (launchedOf n (now (costs .entry)) (now (lowers .entry)) (now (uppers .entry)) (now (starts .entry)) (now (cols .entry)) (now (coeffs .entry)) (now (ops .entry)) (now (kept .entry)))
+        (Reckoned.numbers (now (xs .entry)) (now (slacks .entry)) (now (norms .entry)) objective)
+        (packed (now (numbers .entry)) (now (doubles .entry)))) ⌝ }
+{
+    start::write_start(
+        n,
+        kept.len(),
+        costs,
+        lowers,
+        uppers,
+        xs,
+        slacks,
+        norms,
+        numbers,
+        doubles,
+    );
+    let at = state::Tally {
+        eta_count: 0,
+        objective,
+        steps: 0,
+    };
+    if start_values::dual_feasible(costs, lowers, uppers, n) {
+        return run::Ran {
+            why: rules::Stop::Finished,
+            at,
+        };
+    }
+    go_on(
+        numbers,
+        doubles,
+        at,
+        n,
+        budget,
+        lowers,
+        uppers,
+        starts,
+        cols,
+        coeffs,
+        ops,
+        kept,
+    )
+}
