@@ -56,8 +56,8 @@ fn place_row(
     ccoeffs: &mut [f64; doubles::MAX_ENTRIES],
 )
     requires { ⌜ Placing r (now cols) (now coeffs) (cells (now next) (now crows) (now ccoeffs)) ⌝ }
-    ensures { λ _. ⌜ cells (now (next .exit)) (now (crows .exit)) (now (ccoeffs .exit))
-        ≡ placedIn r (now (cols .entry)) (now (coeffs .entry)) (cells (now (next .entry)) (now (crows .entry)) (now (ccoeffs .entry))) ⌝ }
+    ensures { λ _. ⌜ cells (now (next .exit)) (now (crows .exit)) (now (ccoeffs .exit)) ≡ placedIn r (now (cols .entry))
+        (now (coeffs .entry)) (cells (now (next .entry)) (now (crows .entry)) (now (ccoeffs .entry))) ⌝ }
 {
     let mut k = 0;
     while k < cols.len() {
@@ -78,7 +78,8 @@ fn count_all(
     counts: &mut [usize; doubles::MAX_COLUMNS],
 )
     requires { ⌜ Matrix (rowed maxColumns (now starts) (now cols) [] (now kept)) × Zeros (now counts) ⌝ }
-    ensures { λ _. ⌜ now (counts .exit) ≡ counted (rowed maxColumns (now (starts .entry)) (now (cols .entry)) [] (now (kept .entry))) (now (counts .entry)) ⌝ }
+    ensures { λ _. ⌜ now (counts .exit) ≡ counted (rowed maxColumns (now (starts .entry)) (now (cols .entry)) []
+        (now (kept .entry))) (now (counts .entry)) ⌝ }
 {
     let mut r = 0;
     while r < kept.len() {
@@ -98,9 +99,11 @@ fn place_all(
     crows: &mut [usize; doubles::MAX_ENTRIES],
     ccoeffs: &mut [f64; doubles::MAX_ENTRIES],
 )
-    requires { ⌜ PlacingAll (rowed 0 (now starts) (now cols) (now coeffs) (now kept)) (cells (now next) (now crows) (now ccoeffs)) ⌝ }
-    ensures { λ _. ⌜ cells (now (next .exit)) (now (crows .exit)) (now (ccoeffs .exit))
-        ≡ placed (rowed 0 (now (starts .entry)) (now (cols .entry)) (now (coeffs .entry)) (now (kept .entry))) (cells (now (next .entry)) (now (crows .entry)) (now (ccoeffs .entry))) ⌝ }
+    requires { ⌜ PlacingAll (rowed 0 (now starts) (now cols) (now coeffs) (now kept))
+        (cells (now next) (now crows) (now ccoeffs)) ⌝ }
+    ensures { λ _. ⌜ cells (now (next .exit)) (now (crows .exit)) (now (ccoeffs .exit)) ≡ placed
+        (rowed 0 (now (starts .entry)) (now (cols .entry)) (now (coeffs .entry)) (now (kept .entry)))
+        (cells (now (next .entry)) (now (crows .entry)) (now (ccoeffs .entry))) ⌝ }
 {
     let mut r = 0;
     while r < kept.len() {
@@ -129,10 +132,13 @@ pub fn by_columns(
     crows: &mut [usize; doubles::MAX_ENTRIES],
     ccoeffs: &mut [f64; doubles::MAX_ENTRIES],
 )
-    requires { ⌜ Matrix (rowed n (now starts) (now cols) (now coeffs) (now kept)) × Valued (rowed n (now starts) (now cols) (now coeffs) (now kept)) ⌝ }
-    requires { ⌜ (length (now cstarts) ≡ maxColumns + 1) × (length (now crows) ≡ maxEntries) × (length (now ccoeffs) ≡ maxEntries) ⌝ }
-    ensures { λ _. ⌜ ByColumns (rowed n (now (starts .entry)) (now (cols .entry)) (now (coeffs .entry)) (now (kept .entry)))
-        (now (cstarts .exit)) (now (crows .exit)) (now (ccoeffs .exit)) × (length (now (cstarts .exit)) ≡ maxColumns + 1) ⌝ }
+    requires { ⌜ Matrix (rowed n (now starts) (now cols) (now coeffs) (now kept)) × Valued
+        (rowed n (now starts) (now cols) (now coeffs) (now kept)) ⌝ }
+    requires { ⌜ (length (now cstarts) ≡ maxColumns + 1) × (length (now crows) ≡ maxEntries) ×
+        (length (now ccoeffs) ≡ maxEntries) ⌝ }
+    ensures { λ _. ⌜ ByColumns (rowed n (now (starts .entry)) (now (cols .entry)) (now (coeffs .entry))
+        (now (kept .entry))) (now (cstarts .exit)) (now (crows .exit)) (now (ccoeffs .exit)) ×
+        (length (now (cstarts .exit)) ≡ maxColumns + 1) ⌝ }
 {
     let mut counts = [0; doubles::MAX_COLUMNS];
     count_all(starts, cols, kept, &mut counts);

@@ -20,9 +20,11 @@ fn eta_turn(
     coeffs: &[f64],
     k: usize,
 ) -> usize
-    requires { ⌜ Good places (sv (now values) (now marks) (now list) count) × ReadableCol (etasOf (now leaving) (now starts) (now rows) (now coeffs)) k ⌝ }
-    ensures { λ r. ⌜ sv (now (values .exit)) (now (marks .exit)) (now (list .exit)) r
-        ≡ etaTurn (etasOf (now (leaving .entry)) (now (starts .entry)) (now (rows .entry)) (now (coeffs .entry))) k (sv (now (values .entry)) (now (marks .entry)) (now (list .entry)) count) ⌝ }
+    requires { ⌜ Good places (sv (now values) (now marks) (now list) count) × ReadableCol
+        (etasOf (now leaving) (now starts) (now rows) (now coeffs)) k ⌝ }
+    ensures { λ r. ⌜ sv (now (values .exit)) (now (marks .exit)) (now (list .exit)) r ≡ etaTurn
+        (etasOf (now (leaving .entry)) (now (starts .entry)) (now (rows .entry)) (now (coeffs .entry))) k
+        (sv (now (values .entry)) (now (marks .entry)) (now (list .entry)) count) ⌝ }
 {
     let r = leaving[k];
     let coeff = values[r];
@@ -52,9 +54,11 @@ fn eta_turn_transp(
     coeffs: &[f64],
     k: usize,
 ) -> usize
-    requires { ⌜ Good places (sv (now values) (now marks) (now list) count) × ReadableCol (etasOf (now leaving) (now starts) (now rows) (now coeffs)) k ⌝ }
-    ensures { λ r. ⌜ sv (now (values .exit)) (now (marks .exit)) (now (list .exit)) r
-        ≡ etaTurnTransp (etasOf (now (leaving .entry)) (now (starts .entry)) (now (rows .entry)) (now (coeffs .entry))) k (sv (now (values .entry)) (now (marks .entry)) (now (list .entry)) count) ⌝ }
+    requires { ⌜ Good places (sv (now values) (now marks) (now list) count) × ReadableCol
+        (etasOf (now leaving) (now starts) (now rows) (now coeffs)) k ⌝ }
+    ensures { λ r. ⌜ sv (now (values .exit)) (now (marks .exit)) (now (list .exit)) r ≡ etaTurnTransp
+        (etasOf (now (leaving .entry)) (now (starts .entry)) (now (rows .entry)) (now (coeffs .entry))) k
+        (sv (now (values .entry)) (now (marks .entry)) (now (list .entry)) count) ⌝ }
 {
     let a = starts[k];
     let e = starts[k + 1];
@@ -75,9 +79,11 @@ fn solve_etas(
     coeffs: &[f64],
     n: usize,
 ) -> usize
-    requires { ⌜ Good places (sv (now values) (now marks) (now list) count) × Readable (etasOf (now leaving) (now starts) (now rows) (now coeffs)) n ⌝ }
-    ensures { λ r. ⌜ sv (now (values .exit)) (now (marks .exit)) (now (list .exit)) r
-        ≡ solveEtas (etasOf (now (leaving .entry)) (now (starts .entry)) (now (rows .entry)) (now (coeffs .entry))) n (sv (now (values .entry)) (now (marks .entry)) (now (list .entry)) count) ⌝ }
+    requires { ⌜ Good places (sv (now values) (now marks) (now list) count) × Readable
+        (etasOf (now leaving) (now starts) (now rows) (now coeffs)) n ⌝ }
+    ensures { λ r. ⌜ sv (now (values .exit)) (now (marks .exit)) (now (list .exit)) r ≡ solveEtas
+        (etasOf (now (leaving .entry)) (now (starts .entry)) (now (rows .entry)) (now (coeffs .entry))) n
+        (sv (now (values .entry)) (now (marks .entry)) (now (list .entry)) count) ⌝ }
 {
     let mut c = count;
     for k in 0..n {
@@ -98,9 +104,11 @@ fn solve_etas_transp(
     coeffs: &[f64],
     n: usize,
 ) -> usize
-    requires { ⌜ Good places (sv (now values) (now marks) (now list) count) × Readable (etasOf (now leaving) (now starts) (now rows) (now coeffs)) n ⌝ }
-    ensures { λ r. ⌜ sv (now (values .exit)) (now (marks .exit)) (now (list .exit)) r
-        ≡ solveEtasTransp (etasOf (now (leaving .entry)) (now (starts .entry)) (now (rows .entry)) (now (coeffs .entry))) n (sv (now (values .entry)) (now (marks .entry)) (now (list .entry)) count) ⌝ }
+    requires { ⌜ Good places (sv (now values) (now marks) (now list) count) × Readable
+        (etasOf (now leaving) (now starts) (now rows) (now coeffs)) n ⌝ }
+    ensures { λ r. ⌜ sv (now (values .exit)) (now (marks .exit)) (now (list .exit)) r ≡ solveEtasTransp
+        (etasOf (now (leaving .entry)) (now (starts .entry)) (now (rows .entry)) (now (coeffs .entry))) n
+        (sv (now (values .entry)) (now (marks .entry)) (now (list .entry)) count) ⌝ }
 {
     let mut c = count;
     let mut k = n;
@@ -148,9 +156,11 @@ pub fn solve(
     coeffs: &[f64],
     n: usize,
 ) -> usize
-    requires { ⌜ Good places (sv (now values) (now marks) (now list) count) × Readable (etasOf (now leaving) (now starts) (now rows) (now coeffs)) n ⌝ }
-    ensures { λ r. ⌜ sv (now (values .exit)) (now (marks .exit)) (now (list .exit)) r
-        ≡ solve (etasOf (now (leaving .entry)) (now (starts .entry)) (now (rows .entry)) (now (coeffs .entry))) n (sv (now (values .entry)) (now (marks .entry)) (now (list .entry)) count) ⌝ }
+    requires { ⌜ Good places (sv (now values) (now marks) (now list) count) × Readable
+        (etasOf (now leaving) (now starts) (now rows) (now coeffs)) n ⌝ }
+    ensures { λ r. ⌜ sv (now (values .exit)) (now (marks .exit)) (now (list .exit)) r ≡ solve
+        (etasOf (now (leaving .entry)) (now (starts .entry)) (now (rows .entry)) (now (coeffs .entry))) n
+        (sv (now (values .entry)) (now (marks .entry)) (now (list .entry)) count) ⌝ }
 {
     let c = factor_solve(values, marks, list, count);
     solve_etas(values, marks, list, c, leaving, starts, rows, coeffs, n)
@@ -168,9 +178,11 @@ pub fn solve_transp(
     coeffs: &[f64],
     n: usize,
 ) -> usize
-    requires { ⌜ Good places (sv (now values) (now marks) (now list) count) × Readable (etasOf (now leaving) (now starts) (now rows) (now coeffs)) n ⌝ }
-    ensures { λ r. ⌜ sv (now (values .exit)) (now (marks .exit)) (now (list .exit)) r
-        ≡ solveTransp (etasOf (now (leaving .entry)) (now (starts .entry)) (now (rows .entry)) (now (coeffs .entry))) n (sv (now (values .entry)) (now (marks .entry)) (now (list .entry)) count) ⌝ }
+    requires { ⌜ Good places (sv (now values) (now marks) (now list) count) × Readable
+        (etasOf (now leaving) (now starts) (now rows) (now coeffs)) n ⌝ }
+    ensures { λ r. ⌜ sv (now (values .exit)) (now (marks .exit)) (now (list .exit)) r ≡ solveTransp
+        (etasOf (now (leaving .entry)) (now (starts .entry)) (now (rows .entry)) (now (coeffs .entry))) n
+        (sv (now (values .entry)) (now (marks .entry)) (now (list .entry)) count) ⌝ }
 {
     let c = solve_etas_transp(values, marks, list, count, leaving, starts, rows, coeffs, n);
     factor_solve_transp(values, marks, list, c)

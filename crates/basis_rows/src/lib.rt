@@ -24,9 +24,10 @@ fn add_entry(
     v: usize,
     x: f64,
 ) -> usize
-    requires { ⌜ Good places (sv (now values) (now marks) (now list) count) × (n ≤ places) × (v < length (now «var_states»)) ⌝ }
-    ensures { λ r. ⌜ sv (now (values .exit)) (now (marks .exit)) (now (list .exit)) r
-        ≡ addEntry n (now («var_states» .entry)) v x (sv (now (values .entry)) (now (marks .entry)) (now (list .entry)) count) ⌝ }
+    requires { ⌜ Good places (sv (now values) (now marks) (now list) count) × (n ≤ places) ×
+        (v < length (now «var_states»)) ⌝ }
+    ensures { λ r. ⌜ sv (now (values .exit)) (now (marks .exit)) (now (list .exit)) r ≡ addEntry n
+        (now («var_states» .entry)) v x (sv (now (values .entry)) (now (marks .entry)) (now (list .entry)) count) ⌝ }
 {
     let state = cells::var_state(n, var_states[v]);
     match state {
@@ -48,9 +49,11 @@ fn add_entries(
     y: f64,
 ) -> usize
     requires { ⌜ Good places (sv (now values) (now marks) (now list) count) × (n ≤ places) ⌝ }
-    requires { ⌜ (length (now cols) ≤ length (now coeffs)) × Within (length (now «var_states»)) (length (now cols)) (now cols) ⌝ }
-    ensures { λ r. ⌜ sv (now (values .exit)) (now (marks .exit)) (now (list .exit)) r
-        ≡ run (addTurn n (now («var_states» .entry)) (now (cols .entry)) (now (coeffs .entry)) y) (length (now (cols .entry))) (sv (now (values .entry)) (now (marks .entry)) (now (list .entry)) count) ⌝ }
+    requires { ⌜ (length (now cols) ≤ length (now coeffs)) × Within (length (now «var_states»)) (length (now cols))
+        (now cols) ⌝ }
+    ensures { λ r. ⌜ sv (now (values .exit)) (now (marks .exit)) (now (list .exit)) r ≡ run
+        (addTurn n (now («var_states» .entry)) (now (cols .entry)) (now (coeffs .entry)) y) (length (now (cols .entry)))
+        (sv (now (values .entry)) (now (marks .entry)) (now (list .entry)) count) ⌝ }
 {
     let mut c = count;
     let mut k = 0;
@@ -79,8 +82,9 @@ fn add_row(
 ) -> usize
     requires { ⌜ Good places (sv (now values) (now marks) (now list) count) × (n ≤ places) ⌝ }
     requires { ⌜ RowLent (rowed n (now starts) (now cols) (now coeffs) (now kept)) (length (now «var_states»)) r ⌝ }
-    ensures { λ c. ⌜ sv (now (values .exit)) (now (marks .exit)) (now (list .exit)) c
-        ≡ addRow (rowed n (now (starts .entry)) (now (cols .entry)) (now (coeffs .entry)) (now (kept .entry))) (now («var_states» .entry)) r y (sv (now (values .entry)) (now (marks .entry)) (now (list .entry)) count) ⌝ }
+    ensures { λ c. ⌜ sv (now (values .exit)) (now (marks .exit)) (now (list .exit)) c ≡ addRow
+        (rowed n (now (starts .entry)) (now (cols .entry)) (now (coeffs .entry)) (now (kept .entry)))
+        (now («var_states» .entry)) r y (sv (now (values .entry)) (now (marks .entry)) (now (list .entry)) count) ⌝ }
 {
     let i = kept[r];
     let row_cols = plan::row_cols(starts, cols, i);
@@ -114,10 +118,12 @@ pub fn combine(
     coeffs: &[f64],
     kept: &[usize],
 ) -> usize
-    requires { ⌜ Fresh (sv (now values) (now marks) (now list) 0) × (length (now kept) ≤ places) × («from_count» ≤ places) × Within (length (now kept)) «from_count» (now «from_list») ⌝ }
+    requires { ⌜ Fresh (sv (now values) (now marks) (now list) 0) × (length (now kept) ≤ places) ×
+        («from_count» ≤ places) × Within (length (now kept)) «from_count» (now «from_list») ⌝ }
     requires { ⌜ RowsLent (rowed n (now starts) (now cols) (now coeffs) (now kept)) (length (now «var_states»)) ⌝ }
-    ensures { λ c. ⌜ ((m : List Bool) → sv (now (values .exit)) (now (marks .exit)) (now (list .exit)) c
-        ≡ combine (rowed n (now (starts .entry)) (now (cols .entry)) (now (coeffs .entry)) (now (kept .entry))) (now («var_states» .entry)) (sv (now (from .entry)) m (now («from_list» .entry)) «from_count»)) ⌝ }
+    ensures { λ c. ⌜ ((m : List Bool) → sv (now (values .exit)) (now (marks .exit)) (now (list .exit)) c ≡ combine
+        (rowed n (now (starts .entry)) (now (cols .entry)) (now (coeffs .entry)) (now (kept .entry)))
+        (now («var_states» .entry)) (sv (now (from .entry)) m (now («from_list» .entry)) «from_count»)) ⌝ }
 {
     let mut c = 0;
     let mut k = 0;

@@ -35,10 +35,12 @@ pub fn row_coeffs(
     row: usize,
 ) -> usize
     requires { ⌜ Fresh (sv (now values) (now marks) (now list) 0) × (row < places) ⌝ }
-    requires { ⌜ RowSolve (rowed n (now starts) (now cols) (now coeffs) (now kept)) (length (now «var_states»)) (etasOf (now leaving) (now «eta_starts») (now «eta_rows») (now «eta_coeffs»)) «eta_count» (putAt blank row f1) ⌝ }
-    ensures { λ c. ⌜ sv (now (values .exit)) (now (marks .exit)) (now (list .exit)) c
-        ≡ rowCoeffsOf (rowed n (now (starts .entry)) (now (cols .entry)) (now (coeffs .entry)) (now (kept .entry)))
-        (mapped (now («var_states» .entry)) (etasOf (now (leaving .entry)) (now («eta_starts» .entry)) (now («eta_rows» .entry)) (now («eta_coeffs» .entry))) «eta_count») row ⌝ }
+    requires { ⌜ RowSolve (rowed n (now starts) (now cols) (now coeffs) (now kept)) (length (now «var_states»))
+        (etasOf (now leaving) (now «eta_starts») (now «eta_rows») (now «eta_coeffs»)) «eta_count» (putAt blank row f1) ⌝ }
+    ensures { λ c. ⌜ sv (now (values .exit)) (now (marks .exit)) (now (list .exit)) c ≡ rowCoeffsOf
+        (rowed n (now (starts .entry)) (now (cols .entry)) (now (coeffs .entry)) (now (kept .entry)))
+        (mapped (now («var_states» .entry)) (etasOf (now (leaving .entry)) (now («eta_starts» .entry))
+        (now («eta_rows» .entry)) (now («eta_coeffs» .entry))) «eta_count») row ⌝ }
 {
     let mut y = [0.0; doubles::PLACES];
     let mut y_marks = [false; doubles::PLACES];
@@ -91,11 +93,16 @@ pub fn helper(
     coeffs: &[f64],
     kept: &[usize],
 ) -> usize
-    requires { ⌜ Fresh (sv (now values) (now marks) (now list) 0) × («from_count» ≤ places) × Within places «from_count» (now «from_list») ⌝ }
-    requires { ⌜ RowSolve (rowed n (now starts) (now cols) (now coeffs) (now kept)) (length (now «var_states»)) (etasOf (now leaving) (now «eta_starts») (now «eta_rows») (now «eta_coeffs»)) «eta_count» (relisted (sv (now from) [] (now «from_list») «from_count»)) ⌝ }
-    ensures { λ c. ⌜ ((m : List Bool) → sv (now (values .exit)) (now (marks .exit)) (now (list .exit)) c
-        ≡ helperOf (rowed n (now (starts .entry)) (now (cols .entry)) (now (coeffs .entry)) (now (kept .entry)))
-        (mapped (now («var_states» .entry)) (etasOf (now (leaving .entry)) (now («eta_starts» .entry)) (now («eta_rows» .entry)) (now («eta_coeffs» .entry))) «eta_count») (sv (now (from .entry)) m (now («from_list» .entry)) «from_count»)) ⌝ }
+    requires { ⌜ Fresh (sv (now values) (now marks) (now list) 0) × («from_count» ≤ places) × Within places «from_count»
+        (now «from_list») ⌝ }
+    requires { ⌜ RowSolve (rowed n (now starts) (now cols) (now coeffs) (now kept)) (length (now «var_states»))
+        (etasOf (now leaving) (now «eta_starts») (now «eta_rows») (now «eta_coeffs»)) «eta_count»
+        (relisted (sv (now from) [] (now «from_list») «from_count»)) ⌝ }
+    ensures { λ c. ⌜ ((m : List Bool) → sv (now (values .exit)) (now (marks .exit)) (now (list .exit)) c ≡ helperOf
+        (rowed n (now (starts .entry)) (now (cols .entry)) (now (coeffs .entry)) (now (kept .entry)))
+        (mapped (now («var_states» .entry)) (etasOf (now (leaving .entry)) (now («eta_starts» .entry))
+        (now («eta_rows» .entry)) (now («eta_coeffs» .entry))) «eta_count»)
+        (sv (now (from .entry)) m (now («from_list» .entry)) «from_count»)) ⌝ }
 {
     let mut y = [0.0; doubles::PLACES];
     let mut y_marks = [false; doubles::PLACES];
@@ -146,8 +153,10 @@ fn load_column(
     n: usize,
     v: usize,
 ) -> usize
-    requires { ⌜ Fresh (sv (now values) (now marks) (now list) 0) × ColumnLent (now «col_starts») (now «col_rows») (now «col_coeffs») n v ⌝ }
-    ensures { λ c. ⌜ sv (now (values .exit)) (now (marks .exit)) (now (list .exit)) c ≡ columnOn (now («col_starts» .entry)) (now («col_rows» .entry)) (now («col_coeffs» .entry)) n v ⌝ }
+    requires { ⌜ Fresh (sv (now values) (now marks) (now list) 0) × ColumnLent (now «col_starts») (now «col_rows»)
+        (now «col_coeffs») n v ⌝ }
+    ensures { λ c. ⌜ sv (now (values .exit)) (now (marks .exit)) (now (list .exit)) c ≡ columnOn
+        (now («col_starts» .entry)) (now («col_rows» .entry)) (now («col_coeffs» .entry)) n v ⌝ }
 {
     if v < n {
         let a = col_starts[v];
@@ -181,10 +190,13 @@ pub fn col_coeffs(
     n: usize,
     v: usize,
 ) -> usize
-    requires { ⌜ Fresh (sv (now values) (now marks) (now list) 0) × ColumnLent (now «col_starts») (now «col_rows») (now «col_coeffs») n v ⌝ }
+    requires { ⌜ Fresh (sv (now values) (now marks) (now list) 0) × ColumnLent (now «col_starts») (now «col_rows»)
+        (now «col_coeffs») n v ⌝ }
     requires { ⌜ Readable (etasOf (now leaving) (now «eta_starts») (now «eta_rows») (now «eta_coeffs»)) «eta_count» ⌝ }
-    ensures { λ c. ⌜ ((P : Problem) → nOf P ≡ n → ByColumns P (now («col_starts» .entry)) (now («col_rows» .entry)) (now («col_coeffs» .entry)) → sv (now (values .exit)) (now (marks .exit)) (now (list .exit)) c
-        ≡ colCoeffs P (mapped [] (etasOf (now (leaving .entry)) (now («eta_starts» .entry)) (now («eta_rows» .entry)) (now («eta_coeffs» .entry))) «eta_count») v) ⌝ }
+    ensures { λ c. ⌜ ((P : Problem) → nOf P ≡ n → ByColumns P (now («col_starts» .entry)) (now («col_rows» .entry))
+        (now («col_coeffs» .entry)) → sv (now (values .exit)) (now (marks .exit)) (now (list .exit)) c ≡ colCoeffs P
+        (mapped [] (etasOf (now (leaving .entry)) (now («eta_starts» .entry)) (now («eta_rows» .entry))
+        (now («eta_coeffs» .entry))) «eta_count») v) ⌝ }
 {
     let c = load_column(values, marks, list, col_starts, col_rows, col_coeffs, n, v);
     basis_etas::solve(

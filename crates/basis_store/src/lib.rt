@@ -1,5 +1,5 @@
-// The store's room, and a new eta column, written into its unused tail.
-// From minilp 0.2.2, src/solver.rs, push_eta_matrix and EtaMatrices, Apache-2.0, changed: the store is sections of the lent arrays.
+// The store's room, and a new eta column, written into its unused tail. From minilp 0.2.2, src/solver.rs,
+// push_eta_matrix and EtaMatrices, Apache-2.0, changed: the store is sections of the lent arrays.
 ghost use mathlib.Core.Path.{_≡_};
 ghost use mathlib.Core.Bool.{Bool};
 ghost use mathlib.Core.List.{List, []};
@@ -36,8 +36,9 @@ fn write_column(
 )
     requires { ⌜ (count ≤ length (now «out_rows»)) × (count ≤ length (now «out_coeffs»)) ⌝ }
     requires { ⌜ (count ≤ places) × Within places count (now list) ⌝ }
-    ensures { λ _. ⌜ ((m : List Bool) → tail (now («out_rows» .exit)) (now («out_coeffs» .exit))
-        ≡ writeColumn (sv (now (values .entry)) m (now (list .entry)) count) row pivot (tail (now («out_rows» .entry)) (now («out_coeffs» .entry)))) ⌝ }
+    ensures { λ _. ⌜ ((m : List Bool) → tail (now («out_rows» .exit)) (now («out_coeffs» .exit)) ≡ writeColumn
+        (sv (now (values .entry)) m (now (list .entry)) count) row pivot
+        (tail (now («out_rows» .entry)) (now («out_coeffs» .entry)))) ⌝ }
 {
     for k in 0..count {
         let r = list[k];
@@ -60,8 +61,9 @@ pub fn push_eta(
 )
     requires { ⌜ Sized (now numbers) (now doubles) × Room (packed (now numbers) (now doubles) .etas) n count ⌝ }
     requires { ⌜ (count ≤ places) × Within places count (now list) ⌝ }
-    ensures { λ _. ⌜ ((m : List Bool) → packed (now (numbers .exit)) (now (doubles .exit))
-        ≡ columnPushed (sv (now (values .entry)) m (now (list .entry)) count) row pivot n (packed (now (numbers .entry)) (now (doubles .entry)))) ⌝ }
+    ensures { λ _. ⌜ ((m : List Bool) → packed (now (numbers .exit)) (now (doubles .exit)) ≡ columnPushed
+        (sv (now (values .entry)) m (now (list .entry)) count) row pivot n
+        (packed (now (numbers .entry)) (now (doubles .entry)))) ⌝ }
 {
     let used = numbers[state::ETA_STARTS + n];
     write_column(

@@ -111,13 +111,14 @@ fn answer_of(
     steps: usize,
     xs: &mut [f64; doubles::VARS],
 ) -> rules::Answer
-    requires { ⌜ Answers (checkedOf n tolerance (now lowers) (now uppers) (now starts) (now cols) (now coeffs) (now ops) (now rhs) (now kept))
-        (packed (now numbers) (now doubles)) ⌝ }
+    requires { ⌜ Answers (checkedOf n tolerance (now lowers) (now uppers) (now starts) (now cols) (now coeffs) (now ops)
+        (now rhs) (now kept)) (packed (now numbers) (now doubles)) ⌝ }
     requires { ⌜ (keptAt ≤ length (now numbers)) × (objectiveAt ≤ length (now doubles)) × (length (now xs) ≡ vars) ⌝ }
-    ensures { λ r. ⌜ (r ≡ Solve.answerOf (checkedOf n tolerance (now (lowers .entry)) (now (uppers .entry)) (now (starts .entry)) (now (cols .entry))
-        (now (coeffs .entry)) (now (ops .entry)) (now (rhs .entry)) (now (kept .entry)))
-        (ended why (stateOf (packed (now (numbers .entry)) (now (doubles .entry))) 0 objective steps)))
-        × (now (xs .exit) ≡ over (valuesOf (sizesOf n (now (kept .entry))) (packed (now (numbers .entry)) (now (doubles .entry)))) (now (xs .entry))) ⌝ }
+    ensures { λ r. ⌜ (r ≡ Solve.answerOf (checkedOf n tolerance (now (lowers .entry)) (now (uppers .entry))
+        (now (starts .entry)) (now (cols .entry)) (now (coeffs .entry)) (now (ops .entry)) (now (rhs .entry))
+        (now (kept .entry))) (ended why (stateOf (packed (now (numbers .entry)) (now (doubles .entry))) 0 objective
+        steps))) × (now (xs .exit) ≡ over (valuesOf (sizesOf n (now (kept .entry)))
+        (packed (now (numbers .entry)) (now (doubles .entry)))) (now (xs .entry))) ⌝ }
 {
     check_final::values_into(
         n,
@@ -155,7 +156,8 @@ fn answer_of(
 // 01: "Status 0 is Optimal and writes values, slacks last. 20 to 24 leave the values array alone".
 fn values_after(status: usize, count: usize, xs: &[f64; doubles::VARS], values: &mut [f64])
     requires { ⌜ (count ≤ vars) × (count ≤ length (now values)) ⌝ }
-    ensures { λ _. ⌜ now (values .exit) ≡ elim (eqb status 0) [ true ↦ over (table count (λ v. now (xs .entry) ! v)) (now (values .entry)) | false ↦ now (values .entry) ] ⌝ }
+    ensures { λ _. ⌜ now (values .exit) ≡ elim (eqb status 0)
+        [ true ↦ over (table count (λ v. now (xs .entry) ! v)) (now (values .entry)) | false ↦ now (values .entry) ] ⌝ }
 {
     if status != 0 {
         return;
@@ -185,7 +187,8 @@ fn write_counts(
     counts: &mut [usize],
 )
     requires { ⌜ countCells ≤ length (now counts) ⌝ }
-    ensures { λ _. ⌜ now (counts .exit) ≡ over (rows ∷ «eta_columns» ∷ «eta_entries» ∷ steps ∷ status ∷ []) (now (counts .entry)) ⌝ }
+    ensures { λ _. ⌜ now (counts .exit) ≡ over (rows ∷ «eta_columns» ∷ «eta_entries» ∷ steps ∷ status ∷ [])
+        (now (counts .entry)) ⌝ }
 {
     counts[0] = rows;
     counts[1] = eta_columns;
@@ -212,13 +215,14 @@ pub fn close(
     numbers: &mut [usize],
     doubles: &mut [f64],
 ) -> rules::Answer
-    requires { ⌜ Closes (checkedOf n tolerance (now lowers) (now uppers) (now starts) (now cols) (now coeffs) (now ops) (now rhs) (now kept))
-        (now values) (now numbers) (now doubles) at ⌝ }
-    ensures { λ r. ⌜ answered r (now (values .exit)) (now (numbers .exit)) (now (doubles .exit))
-        ≡ handed (Solve.close (checkedOf n tolerance (now (lowers .entry)) (now (uppers .entry)) (now (starts .entry)) (now (cols .entry))
-        (now (coeffs .entry)) (now (ops .entry)) (now (rhs .entry)) (now (kept .entry)))
+    requires { ⌜ Closes (checkedOf n tolerance (now lowers) (now uppers) (now starts) (now cols) (now coeffs) (now ops)
+        (now rhs) (now kept)) (now values) (now numbers) (now doubles) at ⌝ }
+    ensures { λ r. ⌜ answered r (now (values .exit)) (now (numbers .exit)) (now (doubles .exit)) ≡ handed
+        (Solve.close (checkedOf n tolerance (now (lowers .entry)) (now (uppers .entry)) (now (starts .entry))
+        (now (cols .entry)) (now (coeffs .entry)) (now (ops .entry)) (now (rhs .entry)) (now (kept .entry)))
         (memoryIn (now (values .entry)) (now (numbers .entry)) (now (doubles .entry)))
-        (ended why (stateAt (now (numbers .entry)) (now (doubles .entry)) at))) (pastOf (now (numbers .entry)) (now (doubles .entry))) ⌝ }
+        (ended why (stateAt (now (numbers .entry)) (now (doubles .entry)) at)))
+        (pastOf (now (numbers .entry)) (now (doubles .entry))) ⌝ }
 {
     let used = numbers[state::ETA_STARTS + at.eta_count];
     let mut xs = [0.0; doubles::VARS];

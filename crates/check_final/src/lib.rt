@@ -1,5 +1,5 @@
-// The values of a state, and the final check, which reads them alone.
-// From minilp 0.2.2, src/solver.rs, get_value, Apache-2.0, changed: "get_value's reference a value". The final check is ours.
+// The values of a state, and the final check, which reads them alone. From minilp 0.2.2, src/solver.rs, get_value,
+// Apache-2.0, changed: "get_value's reference a value". The final check is ours.
 ghost use mathlib.Core.Path.{_≡_};
 ghost use Prim.Native.Nat.{_<_, _≤_, _+_};
 ghost use lib.ListN.{length};
@@ -20,7 +20,8 @@ pub fn get_value(
     v: usize,
 ) -> f64
     requires { ⌜ Placed n (valuedOf (now «var_states») (now «basic_var_vals») (now «nb_var_vals»)) v ⌝ }
-    ensures { λ r. ⌜ r ≡ valueOf n (valuedOf (now («var_states» .entry)) (now («basic_var_vals» .entry)) (now («nb_var_vals» .entry))) v ⌝ }
+    ensures { λ r. ⌜ r ≡ valueOf n (valuedOf (now («var_states» .entry)) (now («basic_var_vals» .entry))
+        (now («nb_var_vals» .entry))) v ⌝ }
 {
     let state = cells::var_state(n, var_states[v]);
     match state {
@@ -38,10 +39,12 @@ pub fn values_into(
     nb_var_vals: &[f64],
     xs: &mut [f64; doubles::VARS],
 )
-    requires { ⌜ Valued (sizesOf n (now kept)) (valuedOf (now «var_states») (now «basic_var_vals») (now «nb_var_vals»)) ⌝ }
+    requires { ⌜ Valued (sizesOf n (now kept)) (valuedOf (now «var_states») (now «basic_var_vals») (now «nb_var_vals»))
+        ⌝ }
     requires { ⌜ length (now xs) ≡ vars ⌝ }
     ensures { λ _. ⌜ now (xs .exit) ≡ over (valuesOf (sizesOf n (now (kept .entry)))
-        (valuedOf (now («var_states» .entry)) (now («basic_var_vals» .entry)) (now («nb_var_vals» .entry)))) (now (xs .entry)) ⌝ }
+        (valuedOf (now («var_states» .entry)) (now («basic_var_vals» .entry)) (now («nb_var_vals» .entry))))
+        (now (xs .entry)) ⌝ }
 {
     let count = n + kept.len();
     let mut v = 0;
@@ -90,8 +93,10 @@ fn value_excess(
     xs: &[f64; doubles::VARS],
     v: usize,
 ) -> f64
-    requires { ⌜ Sides (bounded n (now lowers) (now uppers) (now ops) (now kept)) × (v < n + length (now kept)) × (v < vars) ⌝ }
-    ensures { λ r. ⌜ r ≡ valueExcess (bounded n (now (lowers .entry)) (now (uppers .entry)) (now (ops .entry)) (now (kept .entry))) (now (xs .entry)) v ⌝ }
+    requires { ⌜ Sides (bounded n (now lowers) (now uppers) (now ops) (now kept)) × (v < n + length (now kept)) ×
+        (v < vars) ⌝ }
+    ensures { λ r. ⌜ r ≡ valueExcess (bounded n (now (lowers .entry)) (now (uppers .entry)) (now (ops .entry))
+        (now (kept .entry))) (now (xs .entry)) v ⌝ }
 {
     let x = xs[v];
     if doubles::is_finite(x) {
@@ -115,7 +120,8 @@ fn row_excess(
 ) -> f64
     requires { ⌜ RowReads (rowsOf n (now starts) (now cols) (now coeffs) (now rhs) (now kept)) r ⌝ }
     requires { ⌜ (n + length (now kept) ≤ vars) × (r < length (now kept)) ⌝ }
-    ensures { λ x. ⌜ x ≡ rowExcess (rowsOf n (now (starts .entry)) (now (cols .entry)) (now (coeffs .entry)) (now (rhs .entry)) (now (kept .entry))) (now (xs .entry)) r ⌝ }
+    ensures { λ x. ⌜ x ≡ rowExcess (rowsOf n (now (starts .entry)) (now (cols .entry)) (now (coeffs .entry))
+        (now (rhs .entry)) (now (kept .entry))) (now (xs .entry)) r ⌝ }
 {
     let i = kept[r];
     let at = plan::row_cols(starts, cols, i);
@@ -137,10 +143,11 @@ fn excess_at(
     xs: &[f64; doubles::VARS],
     k: usize,
 ) -> f64
-    requires { ⌜ Checkable (measuredOf n (now lowers) (now uppers) (now starts) (now cols) (now coeffs) (now ops) (now rhs) (now kept))
-        × (k < n + length (now kept) + length (now kept)) ⌝ }
-    ensures { λ r. ⌜ r ≡ excessAt (measuredOf n (now (lowers .entry)) (now (uppers .entry)) (now (starts .entry)) (now (cols .entry))
-        (now (coeffs .entry)) (now (ops .entry)) (now (rhs .entry)) (now (kept .entry))) (now (xs .entry)) k ⌝ }
+    requires { ⌜ Checkable (measuredOf n (now lowers) (now uppers) (now starts) (now cols) (now coeffs) (now ops)
+        (now rhs) (now kept)) × (k < n + length (now kept) + length (now kept)) ⌝ }
+    ensures { λ r. ⌜ r ≡ excessAt (measuredOf n (now (lowers .entry)) (now (uppers .entry)) (now (starts .entry))
+        (now (cols .entry)) (now (coeffs .entry)) (now (ops .entry)) (now (rhs .entry)) (now (kept .entry)))
+        (now (xs .entry)) k ⌝ }
 {
     let count = n + kept.len();
     if k < count {
@@ -172,9 +179,11 @@ pub fn worst(
     kept: &[usize],
     xs: &[f64; doubles::VARS],
 ) -> rules::Worst
-    requires { ⌜ Checkable (measuredOf n (now lowers) (now uppers) (now starts) (now cols) (now coeffs) (now ops) (now rhs) (now kept)) ⌝ }
-    ensures { λ r. ⌜ r ≡ worst (measuredOf n (now (lowers .entry)) (now (uppers .entry)) (now (starts .entry)) (now (cols .entry))
-        (now (coeffs .entry)) (now (ops .entry)) (now (rhs .entry)) (now (kept .entry))) (now (xs .entry)) ⌝ }
+    requires { ⌜ Checkable (measuredOf n (now lowers) (now uppers) (now starts) (now cols) (now coeffs) (now ops)
+        (now rhs) (now kept)) ⌝ }
+    ensures { λ r. ⌜ r ≡ worst (measuredOf n (now (lowers .entry)) (now (uppers .entry)) (now (starts .entry))
+        (now (cols .entry)) (now (coeffs .entry)) (now (ops .entry)) (now (rhs .entry)) (now (kept .entry)))
+        (now (xs .entry)) ⌝ }
 {
     let places = n + kept.len() + kept.len();
     let mut w = rules::Worst {
@@ -219,9 +228,11 @@ pub fn final_check(
     kept: &[usize],
     xs: &[f64; doubles::VARS],
 ) -> rules::Checked
-    requires { ⌜ Checkable (checkedOf n tolerance (now lowers) (now uppers) (now starts) (now cols) (now coeffs) (now ops) (now rhs) (now kept)) ⌝ }
-    ensures { λ r. ⌜ r ≡ finalCheck (checkedOf n tolerance (now (lowers .entry)) (now (uppers .entry)) (now (starts .entry)) (now (cols .entry))
-        (now (coeffs .entry)) (now (ops .entry)) (now (rhs .entry)) (now (kept .entry))) (now (xs .entry)) ⌝ }
+    requires { ⌜ Checkable (checkedOf n tolerance (now lowers) (now uppers) (now starts) (now cols) (now coeffs)
+        (now ops) (now rhs) (now kept)) ⌝ }
+    ensures { λ r. ⌜ r ≡ finalCheck (checkedOf n tolerance (now (lowers .entry)) (now (uppers .entry))
+        (now (starts .entry)) (now (cols .entry)) (now (coeffs .entry)) (now (ops .entry)) (now (rhs .entry))
+        (now (kept .entry))) (now (xs .entry)) ⌝ }
 {
     let w = worst(n, lowers, uppers, starts, cols, coeffs, ops, rhs, kept, xs);
     let at = w.at;

@@ -30,7 +30,9 @@ fn plan_sized(
     amounts: &[i64],
     mults: &[i64],
 ) -> bool
-    ensures { λ z. ⌜ z ≡ planSized (planOf rows columns (now (coefs .entry)) (now (costs .entry)) (now (lowers .entry)) (now (uppers .entry)) (now («lower_marks» .entry)) (now («upper_marks» .entry)) (now (rights .entry)) (now (ops .entry)) (now (amounts .entry)) (now (mults .entry))) ⌝ }
+    ensures { λ z. ⌜ z ≡ planSized (planOf rows columns (now (coefs .entry)) (now (costs .entry)) (now (lowers .entry))
+        (now (uppers .entry)) (now («lower_marks» .entry)) (now («upper_marks» .entry)) (now (rights .entry))
+        (now (ops .entry)) (now (amounts .entry)) (now (mults .entry))) ⌝ }
 {
     if (rows <= doubles::MAX_ROWS) & (columns <= doubles::MAX_COLUMNS) {
         let cells = rows * columns;
@@ -64,7 +66,9 @@ fn write_refusal(
     mults: &[i64],
     file: &[u8],
 ) -> usize
-    ensures { λ r. ⌜ r ≡ writeRefusal (planOf rows columns (now (coefs .entry)) (now (costs .entry)) (now (lowers .entry)) (now (uppers .entry)) (now («lower_marks» .entry)) (now («upper_marks» .entry)) (now (rights .entry)) (now (ops .entry)) (now (amounts .entry)) (now (mults .entry))) (now (file .entry)) ⌝ }
+    ensures { λ r. ⌜ r ≡ writeRefusal (planOf rows columns (now (coefs .entry)) (now (costs .entry))
+        (now (lowers .entry)) (now (uppers .entry)) (now («lower_marks» .entry)) (now («upper_marks» .entry))
+        (now (rights .entry)) (now (ops .entry)) (now (amounts .entry)) (now (mults .entry))) (now (file .entry)) ⌝ }
 {
     if !plan_sized(
         rows,
@@ -136,7 +140,9 @@ pub fn write_plan(
     mults: &[i64],
     file: &mut [u8],
 ) -> Writing
-    ensures { λ r. ⌜ Writes (planOf rows columns (now (coefs .entry)) (now (costs .entry)) (now (lowers .entry)) (now (uppers .entry)) (now («lower_marks» .entry)) (now («upper_marks» .entry)) (now (rights .entry)) (now (ops .entry)) (now (amounts .entry)) (now (mults .entry))) (now (file .entry)) r (now (file .exit)) ⌝ }
+    ensures { λ r. ⌜ Writes (planOf rows columns (now (coefs .entry)) (now (costs .entry)) (now (lowers .entry))
+        (now (uppers .entry)) (now («lower_marks» .entry)) (now («upper_marks» .entry)) (now (rights .entry))
+        (now (ops .entry)) (now (amounts .entry)) (now (mults .entry))) (now (file .entry)) r (now (file .exit)) ⌝ }
 {
     let refusal = write_refusal(
         rows,
@@ -187,7 +193,8 @@ fn first_refusal(file: &[u8]) -> usize
 // What is said of a file of these sizes, from block 1 on: of its blocks, then of its numbers.
 fn judge_blocks(file: &[u8], rows: usize, columns: usize) -> Reading
     requires { ⌜ (rows ≤ maxRows) × (columns ≤ maxColumns) × (blockSize ≤ length (now file)) ⌝ }
-    ensures { λ r. ⌜ r ≡ readingOf (opensAs rows columns (walk planKind (shape rows columns) 1 (drop blockSize (now (file .entry))))) ⌝ }
+    ensures { λ r. ⌜ r ≡ readingOf (opensAs rows columns
+        (walk planKind (shape rows columns) 1 (drop blockSize (now (file .entry))))) ⌝ }
 {
     let s = walk_blocks(file, rows, columns);
     if s.number != 0 {
@@ -228,7 +235,9 @@ fn judge(
     amounts: &[i64],
     mults: &[i64],
 ) -> Reading
-    ensures { λ r. ⌜ r ≡ readingOf (readFile (planOf 0 0 (now (coefs .entry)) (now (costs .entry)) (now (lowers .entry)) (now (uppers .entry)) (now («lower_marks» .entry)) (now («upper_marks» .entry)) (now (rights .entry)) (now (ops .entry)) (now (amounts .entry)) (now (mults .entry))) (now (file .entry))) ⌝ }
+    ensures { λ r. ⌜ r ≡ readingOf (readFile (planOf 0 0 (now (coefs .entry)) (now (costs .entry)) (now (lowers .entry))
+        (now (uppers .entry)) (now («lower_marks» .entry)) (now («upper_marks» .entry)) (now (rights .entry))
+        (now (ops .entry)) (now (amounts .entry)) (now (mults .entry))) (now (file .entry))) ⌝ }
 {
     let first = first_refusal(file);
     if first != 0 {
@@ -261,8 +270,8 @@ fn judge(
     judge_blocks(file, rows, columns)
 }
 
-// Reads a plan: a number and the block where reading stood, and nothing changed, or the plan's sizes, and its arrays over
-// the front of the lent ones.
+// Reads a plan: a number and the block where reading stood, and nothing changed, or the plan's sizes, and its arrays
+// over the front of the lent ones.
 pub fn read_plan(
     file: &[u8],
     coefs: &mut [i64],
@@ -276,7 +285,12 @@ pub fn read_plan(
     amounts: &mut [i64],
     mults: &mut [i64],
 ) -> Reading
-    ensures { λ r. ⌜ Reads (now (file .entry)) (planOf 0 0 (now (coefs .entry)) (now (costs .entry)) (now (lowers .entry)) (now (uppers .entry)) (now («lower_marks» .entry)) (now («upper_marks» .entry)) (now (rights .entry)) (now (ops .entry)) (now (amounts .entry)) (now (mults .entry))) r (planOf 0 0 (now (coefs .exit)) (now (costs .exit)) (now (lowers .exit)) (now (uppers .exit)) (now («lower_marks» .exit)) (now («upper_marks» .exit)) (now (rights .exit)) (now (ops .exit)) (now (amounts .exit)) (now (mults .exit))) ⌝ }
+    ensures { λ r. ⌜ Reads (now (file .entry)) (planOf 0 0 (now (coefs .entry)) (now (costs .entry))
+        (now (lowers .entry)) (now (uppers .entry)) (now («lower_marks» .entry)) (now («upper_marks» .entry))
+        (now (rights .entry)) (now (ops .entry)) (now (amounts .entry)) (now (mults .entry))) r
+        (planOf 0 0 (now (coefs .exit)) (now (costs .exit)) (now (lowers .exit)) (now (uppers .exit))
+        (now («lower_marks» .exit)) (now («upper_marks» .exit)) (now (rights .exit)) (now (ops .exit))
+        (now (amounts .exit)) (now (mults .exit))) ⌝ }
 {
     let answer = judge(
         file,

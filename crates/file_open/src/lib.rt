@@ -116,8 +116,15 @@ pub fn take_plan(
     amounts: &mut [i64],
     mults: &mut [i64],
 )
-    requires { ⌜ Whole rows columns (now file) × PlanSized (planOf rows columns (now coefs) (now costs) (now lowers) (now uppers) (now «lower_marks») (now «upper_marks») (now rights) (now ops) (now amounts) (now mults)) ⌝ }
-    ensures { λ _. ⌜ planOf 0 0 (now (coefs .exit)) (now (costs .exit)) (now (lowers .exit)) (now (uppers .exit)) (now («lower_marks» .exit)) (now («upper_marks» .exit)) (now (rights .exit)) (now (ops .exit)) (now (amounts .exit)) (now (mults .exit)) ≡ overPlan (planAt (now (file .entry)) rows columns) (planOf 0 0 (now (coefs .entry)) (now (costs .entry)) (now (lowers .entry)) (now (uppers .entry)) (now («lower_marks» .entry)) (now («upper_marks» .entry)) (now (rights .entry)) (now (ops .entry)) (now (amounts .entry)) (now (mults .entry))) ⌝ }
+    requires { ⌜ Whole rows columns (now file) × PlanSized
+        (planOf rows columns (now coefs) (now costs) (now lowers) (now uppers) (now «lower_marks») (now «upper_marks»)
+        (now rights) (now ops) (now amounts) (now mults)) ⌝ }
+    ensures { λ _. ⌜ planOf 0 0 (now (coefs .exit)) (now (costs .exit)) (now (lowers .exit)) (now (uppers .exit))
+        (now («lower_marks» .exit)) (now («upper_marks» .exit)) (now (rights .exit)) (now (ops .exit))
+        (now (amounts .exit)) (now (mults .exit)) ≡ overPlan (planAt (now (file .entry)) rows columns)
+        (planOf 0 0 (now (coefs .entry)) (now (costs .entry)) (now (lowers .entry)) (now (uppers .entry))
+        (now («lower_marks» .entry)) (now («upper_marks» .entry)) (now (rights .entry)) (now (ops .entry))
+        (now (amounts .entry)) (now (mults .entry))) ⌝ }
 {
     let p = layout(rows, columns);
     take_numbers(file, 1, rows * columns, coefs);

@@ -20,7 +20,8 @@ pub struct Stop {
 // What is said of the bytes at a place of the file, where a block of this kind belongs, and where none does.
 fn block_at(file: &[u8], kind: u8, place: usize, used: usize) -> usize
     requires { ⌜ (place ≤ 65536) × (used ≤ room) ⌝ }
-    ensures { λ r. ⌜ r ≡ blockRefusal planKind (slot kind used) place (take blockSize (drop (blockSize * place) (now (file .entry)))) ⌝ }
+    ensures { λ r. ⌜ r ≡ blockRefusal planKind (slot kind used) place
+        (take blockSize (drop (blockSize * place) (now (file .entry)))) ⌝ }
 {
     let start = 512 * place;
     let end = start + 512;
@@ -120,7 +121,8 @@ fn pass_end(file: &[u8], s: Stop) -> Stop
 // All of them: the number and the block that is refused, or 0 and the place behind the last.
 pub fn walk_blocks(file: &[u8], rows: usize, columns: usize) -> Stop
     requires { ⌜ (rows ≤ maxRows) × (columns ≤ maxColumns) ⌝ }
-    ensures { λ r. ⌜ r ≡ stoodAt (1 + length (shape rows columns)) (walk planKind (shape rows columns) 1 (drop blockSize (now (file .entry)))) ⌝ }
+    ensures { λ r. ⌜ r ≡ stoodAt (1 + length (shape rows columns))
+        (walk planKind (shape rows columns) 1 (drop blockSize (now (file .entry)))) ⌝ }
 {
     let s = pass_blocks(file, rows, columns);
     pass_end(file, s)

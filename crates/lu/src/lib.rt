@@ -30,8 +30,8 @@ pub fn tri_solve_sparse(
     listed: usize,
     values: &mut [f64],
 ) -> Answer
-    ensures { λ r. ⌜ result r (now (values .exit)) (now (list .exit))
-        ≡ triSolveSparse (tri lower size (now (starts .entry)) (now (rows .entry)) (now (vals .entry)) «has_diag» (now (diag .entry)))
+    ensures { λ r. ⌜ result r (now (values .exit)) (now (list .exit)) ≡ triSolveSparse
+        (tri lower size (now (starts .entry)) (now (rows .entry)) (now (vals .entry)) «has_diag» (now (diag .entry)))
         entries (now (list .entry)) listed (now (values .entry)) ⌝ }
 {
     if !lu_gate::triangle_ok(
@@ -89,8 +89,9 @@ pub fn tri_solve_dense(
     diag: &[f64],
     values: &mut [f64],
 ) -> Answer
-    ensures { λ r. ⌜ result r (now (values .exit)) []
-        ≡ triSolveDense (tri lower size (now (starts .entry)) (now (rows .entry)) (now (vals .entry)) «has_diag» (now (diag .entry))) entries (now (values .entry)) ⌝ }
+    ensures { λ r. ⌜ result r (now (values .exit)) [] ≡ triSolveDense
+        (tri lower size (now (starts .entry)) (now (rows .entry)) (now (vals .entry)) «has_diag» (now (diag .entry)))
+        entries (now (values .entry)) ⌝ }
 {
     if !lu_gate::triangle_ok(
         lower,
@@ -133,9 +134,11 @@ pub fn solve_dense(
     upper_diag: &[f64],
     values: &mut [f64],
 ) -> Answer
-    ensures { λ r. ⌜ result r (now (values .exit)) []
-        ≡ solveDense (tri true size (now («lower_starts» .entry)) (now («lower_rows» .entry)) (now («lower_vals» .entry)) «lower_has_diag» (now («lower_diag» .entry))) «lower_entries»
-        (tri false size (now («upper_starts» .entry)) (now («upper_rows» .entry)) (now («upper_vals» .entry)) «upper_has_diag» (now («upper_diag» .entry))) «upper_entries» (now (values .entry)) ⌝ }
+    ensures { λ r. ⌜ result r (now (values .exit)) [] ≡ solveDense
+        (tri true size (now («lower_starts» .entry)) (now («lower_rows» .entry)) (now («lower_vals» .entry))
+        «lower_has_diag» (now («lower_diag» .entry))) «lower_entries»
+        (tri false size (now («upper_starts» .entry)) (now («upper_rows» .entry)) (now («upper_vals» .entry))
+        «upper_has_diag» (now («upper_diag» .entry))) «upper_entries» (now (values .entry)) ⌝ }
 {
     if !lu_gate::triangle_ok(
         true,

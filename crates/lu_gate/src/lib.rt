@@ -128,7 +128,8 @@ pub fn triangle_ok(
     diag: &[f64],
     values: usize,
 ) -> bool
-    ensures { λ r. ⌜ r ≡ okTriangle (tri lower size (now (starts .entry)) (now (rows .entry)) (now (vals .entry)) «has_diag» (now (diag .entry))) entries values ⌝ }
+    ensures { λ r. ⌜ r ≡ okTriangle (tri lower size (now (starts .entry)) (now (rows .entry)) (now (vals .entry))
+        «has_diag» (now (diag .entry))) entries values ⌝ }
 {
     if !sizes_ok(
         size,

@@ -36,9 +36,11 @@ fn process_col(
     col: usize,
     values: &mut [f64],
 )
-    requires { ⌜ (col < size) × Numbers (tri lower size (now starts) (now rows) (now vals) «has_diag» (now diag)) (now values) ⌝ }
-    ensures { λ _. ⌜ now (values .exit)
-        ≡ processCol (tri lower size (now (starts .entry)) (now (rows .entry)) (now (vals .entry)) «has_diag» (now (diag .entry))) col (now (values .entry)) ⌝ }
+    requires { ⌜ (col < size) × Numbers (tri lower size (now starts) (now rows) (now vals) «has_diag» (now diag))
+        (now values) ⌝ }
+    ensures { λ _. ⌜ now (values .exit) ≡ processCol
+        (tri lower size (now (starts .entry)) (now (rows .entry)) (now (vals .entry)) «has_diag» (now (diag .entry)))
+        col (now (values .entry)) ⌝ }
 {
     let x = own(values, has_diag, diag, col);
     values[col] = x;
@@ -65,8 +67,8 @@ pub fn dense(
     values: &mut [f64],
 )
     requires { ⌜ Numbers (tri lower size (now starts) (now rows) (now vals) «has_diag» (now diag)) (now values) ⌝ }
-    ensures { λ _. ⌜ now (values .exit)
-        ≡ denseOf (tri lower size (now (starts .entry)) (now (rows .entry)) (now (vals .entry)) «has_diag» (now (diag .entry))) (now (values .entry)) ⌝ }
+    ensures { λ _. ⌜ now (values .exit) ≡ denseOf (tri lower size (now (starts .entry)) (now (rows .entry))
+        (now (vals .entry)) «has_diag» (now (diag .entry))) (now (values .entry)) ⌝ }
 {
     if lower {
         dense_lower(size, starts, rows, vals, has_diag, diag, values);
@@ -85,8 +87,9 @@ fn dense_lower(
     values: &mut [f64],
 )
     requires { ⌜ Numbers (tri true size (now starts) (now rows) (now vals) «has_diag» (now diag)) (now values) ⌝ }
-    ensures { λ _. ⌜ now (values .exit)
-        ≡ run (processCol (tri true size (now (starts .entry)) (now (rows .entry)) (now (vals .entry)) «has_diag» (now (diag .entry)))) size (now (values .entry)) ⌝ }
+    ensures { λ _. ⌜ now (values .exit) ≡ run (processCol
+        (tri true size (now (starts .entry)) (now (rows .entry)) (now (vals .entry)) «has_diag» (now (diag .entry))))
+        size (now (values .entry)) ⌝ }
 {
     let mut col = 0;
     while col < size {
@@ -105,8 +108,9 @@ fn dense_upper(
     values: &mut [f64],
 )
     requires { ⌜ Numbers (tri false size (now starts) (now rows) (now vals) «has_diag» (now diag)) (now values) ⌝ }
-    ensures { λ _. ⌜ now (values .exit)
-        ≡ down (processCol (tri false size (now (starts .entry)) (now (rows .entry)) (now (vals .entry)) «has_diag» (now (diag .entry)))) size (now (values .entry)) ⌝ }
+    ensures { λ _. ⌜ now (values .exit) ≡ down (processCol
+        (tri false size (now (starts .entry)) (now (rows .entry)) (now (vals .entry)) «has_diag» (now (diag .entry))))
+        size (now (values .entry)) ⌝ }
 {
     let mut col = size;
     while 0 < col {
@@ -165,8 +169,9 @@ fn process_all(
 )
     requires { ⌜ Numbers (tri lower size (now starts) (now rows) (now vals) «has_diag» (now diag)) (now values) ⌝ }
     requires { ⌜ Places size count (now done) ⌝ }
-    ensures { λ _. ⌜ now (values .exit)
-        ≡ processed (tri lower size (now (starts .entry)) (now (rows .entry)) (now (vals .entry)) «has_diag» (now (diag .entry))) (now (done .entry)) count (now (values .entry)) ⌝ }
+    ensures { λ _. ⌜ now (values .exit) ≡ processed
+        (tri lower size (now (starts .entry)) (now (rows .entry)) (now (vals .entry)) «has_diag» (now (diag .entry)))
+        (now (done .entry)) count (now (values .entry)) ⌝ }
 {
     let mut k = count;
     while 0 < k {
@@ -179,7 +184,8 @@ fn process_all(
 // A first touch appends the place to the lent list.
 fn touch(marks: &mut [bool; doubles::MAX_ROWS], list: &mut [usize], count: usize, i: usize) -> usize
     requires { ⌜ Touchable (pat (now marks) (now list) count) i ⌝ }
-    ensures { λ r. ⌜ pat (now (marks .exit)) (now (list .exit)) r ≡ touched (pat (now (marks .entry)) (now (list .entry)) count) i ⌝ }
+    ensures { λ r. ⌜ pat (now (marks .exit)) (now (list .exit)) r ≡ touched
+        (pat (now (marks .entry)) (now (list .entry)) count) i ⌝ }
 {
     if marks[i] {
         return count;
@@ -226,8 +232,9 @@ pub fn sparse(
 ) -> usize
     requires { ⌜ Numbers (tri lower size (now starts) (now rows) (now vals) «has_diag» (now diag)) (now values) ⌝ }
     requires { ⌜ Distinct (shape lower size (now starts) (now rows)) (now list) listed ⌝ }
-    ensures { λ r. ⌜ out (now (values .exit)) (now (list .exit)) r
-        ≡ sparseOf (tri lower size (now (starts .entry)) (now (rows .entry)) (now (vals .entry)) «has_diag» (now (diag .entry))) (now (list .entry)) listed (now (values .entry)) ⌝ }
+    ensures { λ r. ⌜ out (now (values .exit)) (now (list .exit)) r ≡ sparseOf
+        (tri lower size (now (starts .entry)) (now (rows .entry)) (now (vals .entry)) «has_diag» (now (diag .entry)))
+        (now (list .entry)) listed (now (values .entry)) ⌝ }
 {
     let mut visited = [false; doubles::MAX_ROWS];
     let mut done = [0; doubles::MAX_ROWS];

@@ -19,8 +19,9 @@ pub fn visit(
     count: usize,
 ) -> usize
     requires { ⌜ Walkable (shape lower size (now starts) (now rows)) place (state (now marks) (now done) count) ⌝ }
-    ensures { λ r. ⌜ state (now (marks .exit)) (now (done .exit)) r
-        ≡ walk size (shape lower size (now (starts .entry)) (now (rows .entry))) place (state (now (marks .entry)) (now (done .entry)) count) ⌝ }
+    ensures { λ r. ⌜ state (now (marks .exit)) (now (done .exit)) r ≡ walk size
+        (shape lower size (now (starts .entry)) (now (rows .entry))) place
+        (state (now (marks .entry)) (now (done .entry)) count) ⌝ }
 {
     if marks[place] {
         return count;
@@ -53,8 +54,9 @@ pub fn reach(
     requires { ⌜ Columns (shape lower size (now starts) (now rows)) ⌝ }
     requires { ⌜ Listed (shape lower size (now starts) (now rows)) (now list) listed ⌝ }
     requires { ⌜ Fits (state (now marks) (now done) 0) ⌝ }
-    ensures { λ r. ⌜ state (now (marks .exit)) (now (done .exit)) r
-        ≡ reached (shape lower size (now (starts .entry)) (now (rows .entry))) (now (list .entry)) listed (state (now (marks .entry)) (now (done .entry)) 0) ⌝ }
+    ensures { λ r. ⌜ state (now (marks .exit)) (now (done .exit)) r ≡ reached
+        (shape lower size (now (starts .entry)) (now (rows .entry))) (now (list .entry)) listed
+        (state (now (marks .entry)) (now (done .entry)) 0) ⌝ }
 {
     let mut n = 0;
     let mut i = 0;

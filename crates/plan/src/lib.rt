@@ -51,8 +51,9 @@ pub fn plan_long(
     ops: &[u8],
     rhs: &[f64],
 ) -> bool
-    ensures { λ r. ⌜ r ≡ planLong (planOf columns rows entries 0 f0 (now (costs .entry)) (now (lowers .entry)) (now (uppers .entry))
-        (now (starts .entry)) (now (cols .entry)) (now (coeffs .entry)) (now (ops .entry)) (now (rhs .entry))) ⌝ }
+    ensures { λ r. ⌜ r ≡ planLong (planOf columns rows entries 0 f0 (now (costs .entry)) (now (lowers .entry))
+        (now (uppers .entry)) (now (starts .entry)) (now (cols .entry)) (now (coeffs .entry)) (now (ops .entry))
+        (now (rhs .entry))) ⌝ }
 {
     (columns <= costs.len())
         & (columns <= lowers.len())
@@ -98,7 +99,8 @@ pub fn row_cols<'a>(starts: &[usize], cols: &'a [usize], i: usize) -> &'a [usize
 
 pub fn row_coeffs<'a>(starts: &[usize], coeffs: &'a [f64], i: usize) -> &'a [f64]
     requires { ⌜ RowIn (now starts) (length (now coeffs)) i ⌝ }
-    ensures { λ r. ⌜ now r ≡ rowCoeffs (planOf 0 0 0 0 f0 [] [] [] (now (starts .entry)) [] (now (coeffs .entry)) [] []) i ⌝ }
+    ensures { λ r. ⌜ now r ≡ rowCoeffs (planOf 0 0 0 0 f0 [] [] [] (now (starts .entry)) [] (now (coeffs .entry)) [] [])
+        i ⌝ }
 {
     let start = starts[i];
     let end = starts[i + 1];
@@ -208,8 +210,9 @@ pub fn first_refusal(
 ) -> Refusal
     requires { ⌜ planLong (planOf columns rows entries 0 tolerance (now costs) (now lowers) (now uppers)
         (now starts) (now cols) (now coeffs) (now ops) (now rhs)) ≡ true ⌝ }
-    ensures { λ r. ⌜ r ≡ refusalOf (planOf columns rows entries 0 tolerance (now (costs .entry)) (now (lowers .entry)) (now (uppers .entry))
-        (now (starts .entry)) (now (cols .entry)) (now (coeffs .entry)) (now (ops .entry)) (now (rhs .entry))) ⌝ }
+    ensures { λ r. ⌜ r ≡ refusalOf (planOf columns rows entries 0 tolerance (now (costs .entry)) (now (lowers .entry))
+        (now (uppers .entry)) (now (starts .entry)) (now (cols .entry)) (now (coeffs .entry)) (now (ops .entry))
+        (now (rhs .entry))) ⌝ }
 {
     if !starts_rise(rows, entries, starts) {
         return Refusal::By(rules::Answer::BadSize);
@@ -245,7 +248,8 @@ pub fn first_refusal(
 // 01: "Empty true rows are dropped". The numbers of the others are written over the front of `kept`.
 pub fn keep_rows(rows: usize, starts: &[usize], kept: &mut [usize]) -> usize
     requires { ⌜ (rows < length (now starts)) × (rows ≤ length (now kept)) ⌝ }
-    ensures { λ r. ⌜ Front (keptRows (rowsOf 0 rows (now (starts .entry)) [])) (now (kept .entry)) r (now (kept .exit)) ⌝ }
+    ensures { λ r. ⌜ Front (keptRows (rowsOf 0 rows (now (starts .entry)) [])) (now (kept .entry)) r (now (kept .exit))
+        ⌝ }
 {
     let mut m = 0;
     let mut i = 0;

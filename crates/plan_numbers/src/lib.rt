@@ -128,9 +128,10 @@ pub fn passes_2(
     ops: &[u8],
     rhs: &[f64],
 ) -> bool
-    requires { ⌜ Numbers (numbersOf columns rows entries tolerance (now costs) (now lowers) (now uppers) (now coeffs) (now ops) (now rhs)) ⌝ }
-    ensures { λ r. ⌜ r ≡ passes2 (numbersOf columns rows entries tolerance (now (costs .entry)) (now (lowers .entry)) (now (uppers .entry))
-        (now (coeffs .entry)) (now (ops .entry)) (now (rhs .entry))) ⌝ }
+    requires { ⌜ Numbers (numbersOf columns rows entries tolerance (now costs) (now lowers) (now uppers) (now coeffs)
+        (now ops) (now rhs)) ⌝ }
+    ensures { λ r. ⌜ r ≡ passes2 (numbersOf columns rows entries tolerance (now (costs .entry)) (now (lowers .entry))
+        (now (uppers .entry)) (now (coeffs .entry)) (now (ops .entry)) (now (rhs .entry))) ⌝ }
 {
     all_numbers(columns, costs)
         & all_lowers(columns, lowers)

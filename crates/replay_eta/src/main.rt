@@ -1,6 +1,7 @@
-// Reads eta stores and vectors from standard input, solves them, and writes the vectors, for comparison with the oracle's BasisSolver.
-// The input is words of eight bytes, the lowest byte first: how many stores; then for each its columns, entries and listed places, the
-// leaving rows, the starts, the row numbers and the bits of the coefficients, the listed places and the bits of their values.
+// Reads eta stores and vectors from standard input, solves them, and writes the vectors, for comparison with the
+// oracle's BasisSolver. The input is words of eight bytes, the lowest byte first: how many stores; then for each its
+// columns, entries and listed places, the leaving rows, the starts, the row numbers and the bits of the coefficients,
+// the listed places and the bits of their values.
 ghost use mathlib.Core.Path.{_≡_};
 ghost use Prim.Native.Nat.{_≤_};
 ghost use lib.Dec.{ltb};
@@ -55,7 +56,8 @@ fn column_solve(
     xs: &[f64],
     listed: usize,
 )
-    requires { ⌜ Readable (etasOf (now leaving) (now starts) (now rows) (now coeffs)) n × (listed ≤ length (now at)) × (listed ≤ length (now xs)) × Within places listed (now at) ⌝ }
+    requires { ⌜ Readable (etasOf (now leaving) (now starts) (now rows) (now coeffs)) n × (listed ≤ length (now at)) ×
+        (listed ≤ length (now xs)) × Within places listed (now at) ⌝ }
 {
     let mut values = [0.0; doubles::PLACES];
     let mut marks = [false; doubles::PLACES];
@@ -85,7 +87,8 @@ fn row_solve(
     xs: &[f64],
     listed: usize,
 )
-    requires { ⌜ Readable (etasOf (now leaving) (now starts) (now rows) (now coeffs)) n × (listed ≤ length (now at)) × (listed ≤ length (now xs)) × Within places listed (now at) ⌝ }
+    requires { ⌜ Readable (etasOf (now leaving) (now starts) (now rows) (now coeffs)) n × (listed ≤ length (now at)) ×
+        (listed ≤ length (now xs)) × Within places listed (now at) ⌝ }
 {
     let mut values = [0.0; doubles::PLACES];
     let mut marks = [false; doubles::PLACES];

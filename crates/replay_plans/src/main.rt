@@ -1,7 +1,7 @@
-// Reads plans from standard input, solves each, and writes docs/EXCHANGE.md's answer line with the state, without its name. The oracle's
-// answers are the file `stdout` beside this folder.
-// The input is words (crate words): how many plans; then for each its columns, rows, entries, budget and tolerance, and the eight arrays of
-// the plan in their order, each with its length. What the solve writes is lent longer than needed.
+// Reads plans from standard input, solves each, and writes docs/EXCHANGE.md's answer line with the state, without its
+// name. The oracle's answers are the file `stdout` beside this folder. The input is words (crate words): how many
+// plans; then for each its columns, rows, entries, budget and tolerance, and the eight arrays of the plan in their
+// order, each with its length. What the solve writes is lent longer than needed.
 use rules::Answer;
 
 // Room past the limits: a plan may say that it is too large.

@@ -1,10 +1,9 @@
-// Reads sheets with their edits from standard input, plays them, and writes docs/EXCHANGE.md's answer lines without their names. The
-// reference's answers are the file `stdout` beside this folder.
-// The input is words (crate words): how many sheets; then for each its rows, columns and steps, the ten arrays of the plan in their order, each with
-// its length; then the steps, each of five words: the number of the array that it writes, or 15 for an edit; the index or the
-// kind; the row; the column; the number.
-// Opening is lent arrays of the lengths that the input says. An edit and a verdict are lent longer ones: what stands past a sheet's size is
-// no part of it.
+// Reads sheets with their edits from standard input, plays them, and writes docs/EXCHANGE.md's answer lines without
+// their names. The reference's answers are the file `stdout` beside this folder. The input is words (crate words): how
+// many sheets; then for each its rows, columns and steps, the ten arrays of the plan in their order, each with its
+// length; then the steps, each of five words: the number of the array that it writes, or 15 for an edit; the index or
+// the kind; the row; the column; the number. Opening is lent arrays of the lengths that the input says. An edit and a
+// verdict are lent longer ones: what stands past a sheet's size is no part of it.
 ghost use Rattle.words.specs.Counts.{Counts};
 use sheet_rules::Verdict;
 

@@ -1,8 +1,8 @@
-// Reads triangles from standard input, solves each, sparse and dense, and writes docs/EXCHANGE.md's answer line without its name. The
-// oracle's answers are the file `stdout` beside this folder.
-// The input is words (crate words): how many triangles; then for each whether it is lower, its size, its entries, whether it has a
-// diagonal, how many places are listed, and the lent arrays, each with its length: starts, rows, numbers, diagonal, list, values, and the
-// values for the dense solve.
+// Reads triangles from standard input, solves each, sparse and dense, and writes docs/EXCHANGE.md's answer line without
+// its name. The oracle's answers are the file `stdout` beside this folder. The input is words (crate words): how many
+// triangles; then for each whether it is lower, its size, its entries, whether it has a diagonal, how many places are
+// listed, and the lent arrays, each with its length: starts, rows, numbers, diagonal, list, values, and the values for
+// the dense solve.
 
 // Room past the limits: a triangle may say that it is too large.
 const PLACES: usize = doubles::MAX_ROWS + 16;

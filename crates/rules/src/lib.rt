@@ -55,8 +55,8 @@ pub enum Stop {
     NotFinite,
 }
 
-// The largest excess so far and its place: a value's number, or the number of values and then a kept row's. `at` is the number of all places
-// where nothing exceeds 0.0.
+// The largest excess so far and its place: a value's number, or the number of values and then a kept row's. `at` is the
+// number of all places where nothing exceeds 0.0.
 pub struct Worst {
     pub at: usize,
     pub excess: f64,
@@ -69,7 +69,8 @@ pub enum Checked {
     Row { row: usize, excess: f64 },
 }
 
-// The answer of a solve. Those that a run gives carry the objective and the steps, those that the final check gives its excess too.
+// The answer of a solve. Those that a run gives carry the objective and the steps, those that the final check gives its
+// excess too.
 pub enum Answer {
     Optimal {
         objective: f64,

@@ -38,11 +38,14 @@ pub fn optimize(
     ccoeffs: &[f64],
     budget: usize,
 ) -> Ran
-    requires { ⌜ Ready n (now lowers) (now uppers) (now starts) (now cols) (now coeffs) (now ops) (now kept) (now numbers) (now doubles) at ⌝ }
-    requires { ⌜ ByColumns (rowed n (now starts) (now cols) (now coeffs) (now kept)) (now cstarts) (now crows) (now ccoeffs) × (n < length (now cstarts)) × (budget ≤ maxBudget) ⌝ }
-    ensures { λ r. ⌜ ranBy r (now (numbers .exit)) (now (doubles .exit))
-        ≡ runOf (stepped n (now (lowers .entry)) (now (uppers .entry)) (now (starts .entry)) (now (cols .entry)) (now (coeffs .entry)) (now (ops .entry)) (now (kept .entry)))
-        (budget - at .steps) (stateAt (now (numbers .entry)) (now (doubles .entry)) at) ⌝ }
+    requires { ⌜ Ready n (now lowers) (now uppers) (now starts) (now cols) (now coeffs) (now ops) (now kept)
+        (now numbers) (now doubles) at ⌝ }
+    requires { ⌜ ByColumns (rowed n (now starts) (now cols) (now coeffs) (now kept)) (now cstarts) (now crows)
+        (now ccoeffs) × (n < length (now cstarts)) × (budget ≤ maxBudget) ⌝ }
+    ensures { λ r. ⌜ ranBy r (now (numbers .exit)) (now (doubles .exit)) ≡ runOf
+        (stepped n (now (lowers .entry)) (now (uppers .entry)) (now (starts .entry)) (now (cols .entry))
+        (now (coeffs .entry)) (now (ops .entry)) (now (kept .entry))) (budget - at .steps)
+        (stateAt (now (numbers .entry)) (now (doubles .entry)) at) ⌝ }
 {
     let mut tally = at;
     loop {

@@ -25,11 +25,13 @@ pub fn go_on(
     ops: &[u8],
     kept: &[usize],
 ) -> run::Ran
-    requires { ⌜ Ready n (now lowers) (now uppers) (now starts) (now cols) (now coeffs) (now ops) (now kept) (now numbers) (now doubles) at ⌝ }
+    requires { ⌜ Ready n (now lowers) (now uppers) (now starts) (now cols) (now coeffs) (now ops) (now kept)
+        (now numbers) (now doubles) at ⌝ }
     requires { ⌜ budget ≤ maxBudget ⌝ }
-    ensures { λ r. ⌜ ranBy r (now (numbers .exit)) (now (doubles .exit))
-        ≡ runOf (stepped n (now (lowers .entry)) (now (uppers .entry)) (now (starts .entry)) (now (cols .entry)) (now (coeffs .entry)) (now (ops .entry)) (now (kept .entry)))
-        (budget - at .steps) (stateAt (now (numbers .entry)) (now (doubles .entry)) at) ⌝ }
+    ensures { λ r. ⌜ ranBy r (now (numbers .exit)) (now (doubles .exit)) ≡ runOf
+        (stepped n (now (lowers .entry)) (now (uppers .entry)) (now (starts .entry)) (now (cols .entry))
+        (now (coeffs .entry)) (now (ops .entry)) (now (kept .entry))) (budget - at .steps)
+        (stateAt (now (numbers .entry)) (now (doubles .entry)) at) ⌝ }
 {
     let mut cstarts = [0usize; doubles::MAX_COLUMNS + 1];
     let mut crows = [0usize; doubles::MAX_ENTRIES];
@@ -83,11 +85,14 @@ pub fn launch(
     norms: &[f64; doubles::MAX_COLUMNS],
     objective: f64,
 ) -> run::Ran
-    requires { ⌜ Launches (launchedOf n (now costs) (now lowers) (now uppers) (now starts) (now cols) (now coeffs) (now ops) (now kept)) budget
-        (Reckoned.numbers (now xs) (now slacks) (now norms) objective) (now numbers) (now doubles) ⌝ }
-    ensures { λ r. ⌜ ranBy r (now (numbers .exit)) (now (doubles .exit))
-        ≡ launched (launchedOf n (now (costs .entry)) (now (lowers .entry)) (now (uppers .entry)) (now (starts .entry)) (now (cols .entry)) (now (coeffs .entry)) (now (ops .entry)) (now (kept .entry))) budget
-        (firstState (launchedOf n (now (costs .entry)) (now (lowers .entry)) (now (uppers .entry)) (now (starts .entry)) (now (cols .entry)) (now (coeffs .entry)) (now (ops .entry)) (now (kept .entry)))
+    requires { ⌜ Launches (launchedOf n (now costs) (now lowers) (now uppers) (now starts) (now cols) (now coeffs)
+        (now ops) (now kept)) budget (Reckoned.numbers (now xs) (now slacks) (now norms) objective) (now numbers)
+        (now doubles) ⌝ }
+    ensures { λ r. ⌜ ranBy r (now (numbers .exit)) (now (doubles .exit)) ≡ launched
+        (launchedOf n (now (costs .entry)) (now (lowers .entry)) (now (uppers .entry)) (now (starts .entry))
+        (now (cols .entry)) (now (coeffs .entry)) (now (ops .entry)) (now (kept .entry))) budget
+        (firstState (launchedOf n (now (costs .entry)) (now (lowers .entry)) (now (uppers .entry)) (now (starts .entry))
+        (now (cols .entry)) (now (coeffs .entry)) (now (ops .entry)) (now (kept .entry)))
         (Reckoned.numbers (now (xs .entry)) (now (slacks .entry)) (now (norms .entry)) objective)
         (packed (now (numbers .entry)) (now (doubles .entry)))) ⌝ }
 {

@@ -1,4 +1,5 @@
-// The audit sheet's public calls. They ask nothing: whatever is lent, the answer and every lent cell afterwards are settled.
+// The audit sheet's public calls. They ask nothing: whatever is lent, the answer and every lent cell afterwards are
+// settled.
 ghost use mathlib.Core.Path.{_≡_};
 ghost use mathlib.Core.List.{[]};
 ghost use Prim.Native.Nat.{_≤_};
@@ -30,7 +31,14 @@ pub fn open(
     b: &mut [i64],
     counts: &mut [i64],
 ) -> usize
-    ensures { λ z. ⌜ Opens (sheetOf (planOf rows columns (now (coefs .entry)) (now (costs .entry)) (now (lowers .entry)) (now (uppers .entry)) (now («lower_marks» .entry)) (now («upper_marks» .entry)) (now (rights .entry)) (now (ops .entry)) (now (amounts .entry)) (now (mults .entry))) (keptOf (now (r .entry)) (now (d .entry)) (now (c .entry)) (now (b .entry)) (now (counts .entry)))) z (sheetOf (planOf rows columns (now (coefs .entry)) (now (costs .entry)) (now (lowers .entry)) (now (uppers .entry)) (now («lower_marks» .entry)) (now («upper_marks» .entry)) (now (rights .entry)) (now (ops .entry)) (now (amounts .entry)) (now (mults .entry))) (keptOf (now (r .exit)) (now (d .exit)) (now (c .exit)) (now (b .exit)) (now (counts .exit)))) ⌝ }
+    ensures { λ z. ⌜ Opens (sheetOf (planOf rows columns (now (coefs .entry)) (now (costs .entry)) (now (lowers .entry))
+        (now (uppers .entry)) (now («lower_marks» .entry)) (now («upper_marks» .entry)) (now (rights .entry))
+        (now (ops .entry)) (now (amounts .entry)) (now (mults .entry)))
+        (keptOf (now (r .entry)) (now (d .entry)) (now (c .entry)) (now (b .entry)) (now (counts .entry)))) z
+        (sheetOf (planOf rows columns (now (coefs .entry)) (now (costs .entry)) (now (lowers .entry))
+        (now (uppers .entry)) (now («lower_marks» .entry)) (now («upper_marks» .entry)) (now (rights .entry))
+        (now (ops .entry)) (now (amounts .entry)) (now (mults .entry)))
+        (keptOf (now (r .exit)) (now (d .exit)) (now (c .exit)) (now (b .exit)) (now (counts .exit)))) ⌝ }
 {
     let refusal = sheet_open::opening(
         rows,
@@ -99,7 +107,15 @@ pub fn edit(
     b: &mut [i64],
     counts: &mut [i64],
 ) -> usize
-    ensures { λ z. ⌜ Edits (sheetOf (planOf rows columns (now (coefs .entry)) (now (costs .entry)) (now (lowers .entry)) (now (uppers .entry)) (now («lower_marks» .entry)) (now («upper_marks» .entry)) (now (rights .entry)) (now (ops .entry)) (now (amounts .entry)) (now (mults .entry))) (keptOf (now (r .entry)) (now (d .entry)) (now (c .entry)) (now (b .entry)) (now (counts .entry)))) (record { kind = kind; row = row; column = column; number = number }) z (sheetOf (planOf rows columns (now (coefs .exit)) (now (costs .exit)) (now (lowers .exit)) (now (uppers .exit)) (now («lower_marks» .exit)) (now («upper_marks» .exit)) (now (rights .exit)) (now (ops .entry)) (now (amounts .exit)) (now (mults .exit))) (keptOf (now (r .exit)) (now (d .exit)) (now (c .exit)) (now (b .exit)) (now (counts .exit)))) ⌝ }
+    ensures { λ z. ⌜ Edits (sheetOf (planOf rows columns (now (coefs .entry)) (now (costs .entry)) (now (lowers .entry))
+        (now (uppers .entry)) (now («lower_marks» .entry)) (now («upper_marks» .entry)) (now (rights .entry))
+        (now (ops .entry)) (now (amounts .entry)) (now (mults .entry)))
+        (keptOf (now (r .entry)) (now (d .entry)) (now (c .entry)) (now (b .entry)) (now (counts .entry))))
+        (record { kind = kind; row = row; column = column; number = number }) z
+        (sheetOf (planOf rows columns (now (coefs .exit)) (now (costs .exit)) (now (lowers .exit)) (now (uppers .exit))
+        (now («lower_marks» .exit)) (now («upper_marks» .exit)) (now (rights .exit)) (now (ops .entry))
+        (now (amounts .exit)) (now (mults .exit)))
+        (keptOf (now (r .exit)) (now (d .exit)) (now (c .exit)) (now (b .exit)) (now (counts .exit)))) ⌝ }
 {
     let e = Edit {
         kind: kind,
@@ -155,7 +171,8 @@ pub fn edit(
 // 02: "with all costs 0, right signs, no absent bound needed and B above 0".
 fn none_exists(columns: usize, costs: &[i64], b: &[i64], counts: &[i64]) -> bool
     requires { ⌜ (columns ≤ length (now costs)) × (1 ≤ length (now b)) × (4 ≤ length (now counts)) ⌝ }
-    ensures { λ r. ⌜ r ≡ noneExists columns (now (costs .entry)) (keptOf [] [] [] (now (b .entry)) (now (counts .entry))) ⌝ }
+    ensures { λ r. ⌜ r ≡ noneExists columns (now (costs .entry))
+        (keptOf [] [] [] (now (b .entry)) (now (counts .entry))) ⌝ }
 {
     sheet_tests::all_within(0, columns, costs)
         & (is_zero(counts[2]) & is_zero(counts[3]))
@@ -182,7 +199,10 @@ pub fn verdict(
     b: &[i64],
     counts: &[i64],
 ) -> Verdict
-    ensures { λ z. ⌜ Judges (sheetOf (planOf rows columns (now (coefs .entry)) (now (costs .entry)) (now (lowers .entry)) (now (uppers .entry)) (now («lower_marks» .entry)) (now («upper_marks» .entry)) (now (rights .entry)) (now (ops .entry)) (now (amounts .entry)) (now (mults .entry))) (keptOf (now (r .entry)) (now (d .entry)) (now (c .entry)) (now (b .entry)) (now (counts .entry)))) z ⌝ }
+    ensures { λ z. ⌜ Judges (sheetOf (planOf rows columns (now (coefs .entry)) (now (costs .entry))
+        (now (lowers .entry)) (now (uppers .entry)) (now («lower_marks» .entry)) (now («upper_marks» .entry))
+        (now (rights .entry)) (now (ops .entry)) (now (amounts .entry)) (now (mults .entry)))
+        (keptOf (now (r .entry)) (now (d .entry)) (now (c .entry)) (now (b .entry)) (now (counts .entry)))) z ⌝ }
 {
     if !sheet_tests::sizes_fine(
         rows,

@@ -35,8 +35,13 @@ pub fn totals_after(
     b: &[i64],
     counts: &[i64],
 ) -> Totals
-    requires { ⌜ Ready (sheetOf (planOf rows columns (now coefs) (now costs) (now lowers) (now uppers) (now «lower_marks») (now «upper_marks») (now rights) (now ops) (now amounts) (now mults)) (keptOf (now r) (now d) (now c) (now b) (now counts))) e × Today e ⌝ }
-    ensures { λ z. ⌜ z ≡ totalsAfter (sheetOf (planOf rows columns (now (coefs .entry)) (now (costs .entry)) (now (lowers .entry)) (now (uppers .entry)) (now («lower_marks» .entry)) (now («upper_marks» .entry)) (now (rights .entry)) (now (ops .entry)) (now (amounts .entry)) (now (mults .entry))) (keptOf (now (r .entry)) (now (d .entry)) (now (c .entry)) (now (b .entry)) (now (counts .entry)))) e ⌝ }
+    requires { ⌜ Ready (sheetOf (planOf rows columns (now coefs) (now costs) (now lowers) (now uppers)
+        (now «lower_marks») (now «upper_marks») (now rights) (now ops) (now amounts) (now mults))
+        (keptOf (now r) (now d) (now c) (now b) (now counts))) e × Today e ⌝ }
+    ensures { λ z. ⌜ z ≡ totalsAfter (sheetOf (planOf rows columns (now (coefs .entry)) (now (costs .entry))
+        (now (lowers .entry)) (now (uppers .entry)) (now («lower_marks» .entry)) (now («upper_marks» .entry))
+        (now (rights .entry)) (now (ops .entry)) (now (amounts .entry)) (now (mults .entry)))
+        (keptOf (now (r .entry)) (now (d .entry)) (now (c .entry)) (now (b .entry)) (now (counts .entry)))) e ⌝ }
 {
     let t = sheet_change_totals::totals_now(c, b, counts);
     let x = sheet_change_totals::column_at(
@@ -91,8 +96,11 @@ pub fn activity_after(
     amounts: &[i64],
     mults: &[i64],
 ) -> i64
-    requires { ⌜ PlanReady (planOf rows columns (now coefs) (now costs) (now lowers) (now uppers) (now «lower_marks») (now «upper_marks») (now rights) (now ops) (now amounts) (now mults)) e × (i < rows) × (natAbs old ≤ maxR) ⌝ }
-    ensures { λ z. ⌜ z ≡ old +ℤ rowChange (planOf rows columns (now (coefs .entry)) (now (costs .entry)) (now (lowers .entry)) (now (uppers .entry)) (now («lower_marks» .entry)) (now («upper_marks» .entry)) (now (rights .entry)) (now (ops .entry)) (now (amounts .entry)) (now (mults .entry))) e i ⌝ }
+    requires { ⌜ PlanReady (planOf rows columns (now coefs) (now costs) (now lowers) (now uppers) (now «lower_marks»)
+        (now «upper_marks») (now rights) (now ops) (now amounts) (now mults)) e × (i < rows) × (natAbs old ≤ maxR) ⌝ }
+    ensures { λ z. ⌜ z ≡ old +ℤ rowChange (planOf rows columns (now (coefs .entry)) (now (costs .entry))
+        (now (lowers .entry)) (now (uppers .entry)) (now («lower_marks» .entry)) (now («upper_marks» .entry))
+        (now (rights .entry)) (now (ops .entry)) (now (amounts .entry)) (now (mults .entry))) e i ⌝ }
 {
     let kind = e.kind;
     let j = e.column;
@@ -127,8 +135,11 @@ pub fn price_after(
     amounts: &[i64],
     mults: &[i64],
 ) -> i64
-    requires { ⌜ PlanReady (planOf rows columns (now coefs) (now costs) (now lowers) (now uppers) (now «lower_marks») (now «upper_marks») (now rights) (now ops) (now amounts) (now mults)) e × (j < columns) × (natAbs old ≤ maxD) ⌝ }
-    ensures { λ z. ⌜ z ≡ old +ℤ priceChange (planOf rows columns (now (coefs .entry)) (now (costs .entry)) (now (lowers .entry)) (now (uppers .entry)) (now («lower_marks» .entry)) (now («upper_marks» .entry)) (now (rights .entry)) (now (ops .entry)) (now (amounts .entry)) (now (mults .entry))) e j ⌝ }
+    requires { ⌜ PlanReady (planOf rows columns (now coefs) (now costs) (now lowers) (now uppers) (now «lower_marks»)
+        (now «upper_marks») (now rights) (now ops) (now amounts) (now mults)) e × (j < columns) × (natAbs old ≤ maxD) ⌝ }
+    ensures { λ z. ⌜ z ≡ old +ℤ priceChange (planOf rows columns (now (coefs .entry)) (now (costs .entry))
+        (now (lowers .entry)) (now (uppers .entry)) (now («lower_marks» .entry)) (now («upper_marks» .entry))
+        (now (rights .entry)) (now (ops .entry)) (now (amounts .entry)) (now (mults .entry))) e j ⌝ }
 {
     let kind = e.kind;
     let i = e.row;
@@ -173,8 +184,14 @@ fn activities_stay(
     b: &[i64],
     counts: &[i64],
 ) -> bool
-    requires { ⌜ Ready (sheetOf (planOf rows columns (now coefs) (now costs) (now lowers) (now uppers) (now «lower_marks») (now «upper_marks») (now rights) (now ops) (now amounts) (now mults)) (keptOf (now r) (now d) (now c) (now b) (now counts))) e ⌝ }
-    ensures { λ z. ⌜ z ≡ all rows (λ i. within maxR (movedR (sheetOf (planOf rows columns (now (coefs .entry)) (now (costs .entry)) (now (lowers .entry)) (now (uppers .entry)) (now («lower_marks» .entry)) (now («upper_marks» .entry)) (now (rights .entry)) (now (ops .entry)) (now (amounts .entry)) (now (mults .entry))) (keptOf (now (r .entry)) (now (d .entry)) (now (c .entry)) (now (b .entry)) (now (counts .entry)))) e i)) ⌝ }
+    requires { ⌜ Ready (sheetOf (planOf rows columns (now coefs) (now costs) (now lowers) (now uppers)
+        (now «lower_marks») (now «upper_marks») (now rights) (now ops) (now amounts) (now mults))
+        (keptOf (now r) (now d) (now c) (now b) (now counts))) e ⌝ }
+    ensures { λ z. ⌜ z ≡ all rows (λ i. within maxR
+        (movedR (sheetOf (planOf rows columns (now (coefs .entry)) (now (costs .entry)) (now (lowers .entry))
+        (now (uppers .entry)) (now («lower_marks» .entry)) (now («upper_marks» .entry)) (now (rights .entry))
+        (now (ops .entry)) (now (amounts .entry)) (now (mults .entry)))
+        (keptOf (now (r .entry)) (now (d .entry)) (now (c .entry)) (now (b .entry)) (now (counts .entry)))) e i)) ⌝ }
 {
     let mut i = 0;
     while i < rows {
@@ -225,8 +242,14 @@ fn prices_stay(
     b: &[i64],
     counts: &[i64],
 ) -> bool
-    requires { ⌜ Ready (sheetOf (planOf rows columns (now coefs) (now costs) (now lowers) (now uppers) (now «lower_marks») (now «upper_marks») (now rights) (now ops) (now amounts) (now mults)) (keptOf (now r) (now d) (now c) (now b) (now counts))) e ⌝ }
-    ensures { λ z. ⌜ z ≡ all columns (λ j. within maxD (movedD (sheetOf (planOf rows columns (now (coefs .entry)) (now (costs .entry)) (now (lowers .entry)) (now (uppers .entry)) (now («lower_marks» .entry)) (now («upper_marks» .entry)) (now (rights .entry)) (now (ops .entry)) (now (amounts .entry)) (now (mults .entry))) (keptOf (now (r .entry)) (now (d .entry)) (now (c .entry)) (now (b .entry)) (now (counts .entry)))) e j)) ⌝ }
+    requires { ⌜ Ready (sheetOf (planOf rows columns (now coefs) (now costs) (now lowers) (now uppers)
+        (now «lower_marks») (now «upper_marks») (now rights) (now ops) (now amounts) (now mults))
+        (keptOf (now r) (now d) (now c) (now b) (now counts))) e ⌝ }
+    ensures { λ z. ⌜ z ≡ all columns (λ j. within maxD
+        (movedD (sheetOf (planOf rows columns (now (coefs .entry)) (now (costs .entry)) (now (lowers .entry))
+        (now (uppers .entry)) (now («lower_marks» .entry)) (now («upper_marks» .entry)) (now (rights .entry))
+        (now (ops .entry)) (now (amounts .entry)) (now (mults .entry)))
+        (keptOf (now (r .entry)) (now (d .entry)) (now (c .entry)) (now (b .entry)) (now (counts .entry)))) e j)) ⌝ }
 {
     let mut j = 0;
     while j < columns {
@@ -277,8 +300,13 @@ pub fn moved_fine(
     b: &[i64],
     counts: &[i64],
 ) -> bool
-    requires { ⌜ Ready (sheetOf (planOf rows columns (now coefs) (now costs) (now lowers) (now uppers) (now «lower_marks») (now «upper_marks») (now rights) (now ops) (now amounts) (now mults)) (keptOf (now r) (now d) (now c) (now b) (now counts))) e × Today e ⌝ }
-    ensures { λ z. ⌜ z ≡ movedFine (sheetOf (planOf rows columns (now (coefs .entry)) (now (costs .entry)) (now (lowers .entry)) (now (uppers .entry)) (now («lower_marks» .entry)) (now («upper_marks» .entry)) (now (rights .entry)) (now (ops .entry)) (now (amounts .entry)) (now (mults .entry))) (keptOf (now (r .entry)) (now (d .entry)) (now (c .entry)) (now (b .entry)) (now (counts .entry)))) e ⌝ }
+    requires { ⌜ Ready (sheetOf (planOf rows columns (now coefs) (now costs) (now lowers) (now uppers)
+        (now «lower_marks») (now «upper_marks») (now rights) (now ops) (now amounts) (now mults))
+        (keptOf (now r) (now d) (now c) (now b) (now counts))) e × Today e ⌝ }
+    ensures { λ z. ⌜ z ≡ movedFine (sheetOf (planOf rows columns (now (coefs .entry)) (now (costs .entry))
+        (now (lowers .entry)) (now (uppers .entry)) (now («lower_marks» .entry)) (now («upper_marks» .entry))
+        (now (rights .entry)) (now (ops .entry)) (now (amounts .entry)) (now (mults .entry)))
+        (keptOf (now (r .entry)) (now (d .entry)) (now (c .entry)) (now (b .entry)) (now (counts .entry)))) e ⌝ }
 {
     let t = totals_after(
         e,

@@ -107,7 +107,9 @@ fn index_fine(
     amounts: &[i64],
     mults: &[i64],
 ) -> bool
-    ensures { λ z. ⌜ z ≡ indexFine (planOf rows columns (now (coefs .entry)) (now (costs .entry)) (now (lowers .entry)) (now (uppers .entry)) (now («lower_marks» .entry)) (now («upper_marks» .entry)) (now (rights .entry)) (now (ops .entry)) (now (amounts .entry)) (now (mults .entry))) e ⌝ }
+    ensures { λ z. ⌜ z ≡ indexFine (planOf rows columns (now (coefs .entry)) (now (costs .entry)) (now (lowers .entry))
+        (now (uppers .entry)) (now («lower_marks» .entry)) (now («upper_marks» .entry)) (now (rights .entry))
+        (now (ops .entry)) (now (amounts .entry)) (now (mults .entry))) e ⌝ }
 {
     (!uses_column(e.kind) | (e.column < columns)) & (!uses_row(e.kind) | (e.row < rows))
 }
@@ -133,8 +135,14 @@ fn both_fine(
     b: &[i64],
     counts: &[i64],
 ) -> bool
-    requires { ⌜ Sized (sheetOf (planOf rows columns (now coefs) (now costs) (now lowers) (now uppers) (now «lower_marks») (now «upper_marks») (now rights) (now ops) (now amounts) (now mults)) (keptOf (now r) (now d) (now c) (now b) (now counts))) × Index (planOf rows columns (now coefs) (now costs) (now lowers) (now uppers) (now «lower_marks») (now «upper_marks») (now rights) (now ops) (now amounts) (now mults)) e × NumberIn e ⌝ }
-    ensures { λ z. ⌜ z ≡ bothFine (planOf rows columns (now (coefs .entry)) (now (costs .entry)) (now (lowers .entry)) (now (uppers .entry)) (now («lower_marks» .entry)) (now («upper_marks» .entry)) (now (rights .entry)) (now (ops .entry)) (now (amounts .entry)) (now (mults .entry))) e ⌝ }
+    requires { ⌜ Sized (sheetOf (planOf rows columns (now coefs) (now costs) (now lowers) (now uppers)
+        (now «lower_marks») (now «upper_marks») (now rights) (now ops) (now amounts) (now mults))
+        (keptOf (now r) (now d) (now c) (now b) (now counts))) × Index
+        (planOf rows columns (now coefs) (now costs) (now lowers) (now uppers) (now «lower_marks») (now «upper_marks»)
+        (now rights) (now ops) (now amounts) (now mults)) e × NumberIn e ⌝ }
+    ensures { λ z. ⌜ z ≡ bothFine (planOf rows columns (now (coefs .entry)) (now (costs .entry)) (now (lowers .entry))
+        (now (uppers .entry)) (now («lower_marks» .entry)) (now («upper_marks» .entry)) (now (rights .entry))
+        (now (ops .entry)) (now (amounts .entry)) (now (mults .entry))) e ⌝ }
 {
     let kind = e.kind;
     let j = e.column;
@@ -163,8 +171,11 @@ fn column_fine(
     amounts: &[i64],
     mults: &[i64],
 ) -> bool
-    requires { ⌜ PlanSized (planOf rows columns (now coefs) (now costs) (now lowers) (now uppers) (now «lower_marks») (now «upper_marks») (now rights) (now ops) (now amounts) (now mults)) × (column < columns) ⌝ }
-    ensures { λ z. ⌜ z ≡ columnFine (planOf rows columns (now (coefs .entry)) (now (costs .entry)) (now (lowers .entry)) (now (uppers .entry)) (now («lower_marks» .entry)) (now («upper_marks» .entry)) (now (rights .entry)) (now (ops .entry)) (now (amounts .entry)) (now (mults .entry))) column ⌝ }
+    requires { ⌜ PlanSized (planOf rows columns (now coefs) (now costs) (now lowers) (now uppers) (now «lower_marks»)
+        (now «upper_marks») (now rights) (now ops) (now amounts) (now mults)) × (column < columns) ⌝ }
+    ensures { λ z. ⌜ z ≡ columnFine (planOf rows columns (now (coefs .entry)) (now (costs .entry)) (now (lowers .entry))
+        (now (uppers .entry)) (now («lower_marks» .entry)) (now («upper_marks» .entry)) (now (rights .entry))
+        (now (ops .entry)) (now (amounts .entry)) (now (mults .entry))) column ⌝ }
 {
     let mut i = 0;
     while i < rows {
@@ -192,8 +203,11 @@ fn row_fine(
     amounts: &[i64],
     mults: &[i64],
 ) -> bool
-    requires { ⌜ PlanSized (planOf rows columns (now coefs) (now costs) (now lowers) (now uppers) (now «lower_marks») (now «upper_marks») (now rights) (now ops) (now amounts) (now mults)) × (row < rows) ⌝ }
-    ensures { λ z. ⌜ z ≡ rowFine (planOf rows columns (now (coefs .entry)) (now (costs .entry)) (now (lowers .entry)) (now (uppers .entry)) (now («lower_marks» .entry)) (now («upper_marks» .entry)) (now (rights .entry)) (now (ops .entry)) (now (amounts .entry)) (now (mults .entry))) row ⌝ }
+    requires { ⌜ PlanSized (planOf rows columns (now coefs) (now costs) (now lowers) (now uppers) (now «lower_marks»)
+        (now «upper_marks») (now rights) (now ops) (now amounts) (now mults)) × (row < rows) ⌝ }
+    ensures { λ z. ⌜ z ≡ rowFine (planOf rows columns (now (coefs .entry)) (now (costs .entry)) (now (lowers .entry))
+        (now (uppers .entry)) (now («lower_marks» .entry)) (now («upper_marks» .entry)) (now (rights .entry))
+        (now (ops .entry)) (now (amounts .entry)) (now (mults .entry))) row ⌝ }
 {
     let mut j = 0;
     while j < columns {
@@ -221,8 +235,14 @@ fn column_sound(
     amounts: &[i64],
     mults: &[i64],
 ) -> bool
-    requires { ⌜ PlanSized (planOf rows columns (now coefs) (now costs) (now lowers) (now uppers) (now «lower_marks») (now «upper_marks») (now rights) (now ops) (now amounts) (now mults)) × Index (planOf rows columns (now coefs) (now costs) (now lowers) (now uppers) (now «lower_marks») (now «upper_marks») (now rights) (now ops) (now amounts) (now mults)) e ⌝ }
-    ensures { λ z. ⌜ z ≡ (not (usesColumn (e .kind)) || columnFine (planOf rows columns (now (coefs .entry)) (now (costs .entry)) (now (lowers .entry)) (now (uppers .entry)) (now («lower_marks» .entry)) (now («upper_marks» .entry)) (now (rights .entry)) (now (ops .entry)) (now (amounts .entry)) (now (mults .entry))) (e .column)) ⌝ }
+    requires { ⌜ PlanSized (planOf rows columns (now coefs) (now costs) (now lowers) (now uppers) (now «lower_marks»)
+        (now «upper_marks») (now rights) (now ops) (now amounts) (now mults)) × Index
+        (planOf rows columns (now coefs) (now costs) (now lowers) (now uppers) (now «lower_marks») (now «upper_marks»)
+        (now rights) (now ops) (now amounts) (now mults)) e ⌝ }
+    ensures { λ z. ⌜ z ≡ (not (usesColumn (e .kind)) || columnFine
+        (planOf rows columns (now (coefs .entry)) (now (costs .entry)) (now (lowers .entry)) (now (uppers .entry))
+        (now («lower_marks» .entry)) (now («upper_marks» .entry)) (now (rights .entry)) (now (ops .entry))
+        (now (amounts .entry)) (now (mults .entry))) (e .column)) ⌝ }
 {
     if uses_column(e.kind) {
         return column_fine(
@@ -259,8 +279,14 @@ fn row_sound(
     amounts: &[i64],
     mults: &[i64],
 ) -> bool
-    requires { ⌜ PlanSized (planOf rows columns (now coefs) (now costs) (now lowers) (now uppers) (now «lower_marks») (now «upper_marks») (now rights) (now ops) (now amounts) (now mults)) × Index (planOf rows columns (now coefs) (now costs) (now lowers) (now uppers) (now «lower_marks») (now «upper_marks») (now rights) (now ops) (now amounts) (now mults)) e ⌝ }
-    ensures { λ z. ⌜ z ≡ (not (usesRow (e .kind)) || rowFine (planOf rows columns (now (coefs .entry)) (now (costs .entry)) (now (lowers .entry)) (now (uppers .entry)) (now («lower_marks» .entry)) (now («upper_marks» .entry)) (now (rights .entry)) (now (ops .entry)) (now (amounts .entry)) (now (mults .entry))) (e .row)) ⌝ }
+    requires { ⌜ PlanSized (planOf rows columns (now coefs) (now costs) (now lowers) (now uppers) (now «lower_marks»)
+        (now «upper_marks») (now rights) (now ops) (now amounts) (now mults)) × Index
+        (planOf rows columns (now coefs) (now costs) (now lowers) (now uppers) (now «lower_marks») (now «upper_marks»)
+        (now rights) (now ops) (now amounts) (now mults)) e ⌝ }
+    ensures { λ z. ⌜ z ≡ (not (usesRow (e .kind)) || rowFine
+        (planOf rows columns (now (coefs .entry)) (now (costs .entry)) (now (lowers .entry)) (now (uppers .entry))
+        (now («lower_marks» .entry)) (now («upper_marks» .entry)) (now (rights .entry)) (now (ops .entry))
+        (now (amounts .entry)) (now (mults .entry))) (e .row)) ⌝ }
 {
     if uses_row(e.kind) {
         return row_fine(
@@ -303,8 +329,15 @@ fn sound(
     b: &[i64],
     counts: &[i64],
 ) -> bool
-    requires { ⌜ Sized (sheetOf (planOf rows columns (now coefs) (now costs) (now lowers) (now uppers) (now «lower_marks») (now «upper_marks») (now rights) (now ops) (now amounts) (now mults)) (keptOf (now r) (now d) (now c) (now b) (now counts))) × Index (planOf rows columns (now coefs) (now costs) (now lowers) (now uppers) (now «lower_marks») (now «upper_marks») (now rights) (now ops) (now amounts) (now mults)) e ⌝ }
-    ensures { λ z. ⌜ z ≡ soundAt e (sheetOf (planOf rows columns (now (coefs .entry)) (now (costs .entry)) (now (lowers .entry)) (now (uppers .entry)) (now («lower_marks» .entry)) (now («upper_marks» .entry)) (now (rights .entry)) (now (ops .entry)) (now (amounts .entry)) (now (mults .entry))) (keptOf (now (r .entry)) (now (d .entry)) (now (c .entry)) (now (b .entry)) (now (counts .entry)))) ⌝ }
+    requires { ⌜ Sized (sheetOf (planOf rows columns (now coefs) (now costs) (now lowers) (now uppers)
+        (now «lower_marks») (now «upper_marks») (now rights) (now ops) (now amounts) (now mults))
+        (keptOf (now r) (now d) (now c) (now b) (now counts))) × Index
+        (planOf rows columns (now coefs) (now costs) (now lowers) (now uppers) (now «lower_marks») (now «upper_marks»)
+        (now rights) (now ops) (now amounts) (now mults)) e ⌝ }
+    ensures { λ z. ⌜ z ≡ soundAt e (sheetOf (planOf rows columns (now (coefs .entry)) (now (costs .entry))
+        (now (lowers .entry)) (now (uppers .entry)) (now («lower_marks» .entry)) (now («upper_marks» .entry))
+        (now (rights .entry)) (now (ops .entry)) (now (amounts .entry)) (now (mults .entry)))
+        (keptOf (now (r .entry)) (now (d .entry)) (now (c .entry)) (now (b .entry)) (now (counts .entry)))) ⌝ }
 {
     sheet_tests::arrays_fine(
         rows,
@@ -370,8 +403,13 @@ pub fn old_cell(
     amounts: &[i64],
     mults: &[i64],
 ) -> Cell
-    requires { ⌜ PlanSized (planOf rows columns (now coefs) (now costs) (now lowers) (now uppers) (now «lower_marks») (now «upper_marks») (now rights) (now ops) (now amounts) (now mults)) × Index (planOf rows columns (now coefs) (now costs) (now lowers) (now uppers) (now «lower_marks») (now «upper_marks») (now rights) (now ops) (now amounts) (now mults)) e ⌝ }
-    ensures { λ z. ⌜ z ≡ cellAt (planOf rows columns (now (coefs .entry)) (now (costs .entry)) (now (lowers .entry)) (now (uppers .entry)) (now («lower_marks» .entry)) (now («upper_marks» .entry)) (now (rights .entry)) (now (ops .entry)) (now (amounts .entry)) (now (mults .entry))) e ⌝ }
+    requires { ⌜ PlanSized (planOf rows columns (now coefs) (now costs) (now lowers) (now uppers) (now «lower_marks»)
+        (now «upper_marks») (now rights) (now ops) (now amounts) (now mults)) × Index
+        (planOf rows columns (now coefs) (now costs) (now lowers) (now uppers) (now «lower_marks») (now «upper_marks»)
+        (now rights) (now ops) (now amounts) (now mults)) e ⌝ }
+    ensures { λ z. ⌜ z ≡ cellAt (planOf rows columns (now (coefs .entry)) (now (costs .entry)) (now (lowers .entry))
+        (now (uppers .entry)) (now («lower_marks» .entry)) (now («upper_marks» .entry)) (now (rights .entry))
+        (now (ops .entry)) (now (amounts .entry)) (now (mults .entry))) e ⌝ }
 {
     let kind = e.kind;
     let i = e.row;
@@ -438,7 +476,10 @@ pub fn edit_refusal(
     b: &[i64],
     counts: &[i64],
 ) -> usize
-    ensures { λ z. ⌜ z ≡ editRefusal (sheetOf (planOf rows columns (now (coefs .entry)) (now (costs .entry)) (now (lowers .entry)) (now (uppers .entry)) (now («lower_marks» .entry)) (now («upper_marks» .entry)) (now (rights .entry)) (now (ops .entry)) (now (amounts .entry)) (now (mults .entry))) (keptOf (now (r .entry)) (now (d .entry)) (now (c .entry)) (now (b .entry)) (now (counts .entry)))) e ⌝ }
+    ensures { λ z. ⌜ z ≡ editRefusal (sheetOf (planOf rows columns (now (coefs .entry)) (now (costs .entry))
+        (now (lowers .entry)) (now (uppers .entry)) (now («lower_marks» .entry)) (now («upper_marks» .entry))
+        (now (rights .entry)) (now (ops .entry)) (now (amounts .entry)) (now (mults .entry)))
+        (keptOf (now (r .entry)) (now (d .entry)) (now (c .entry)) (now (b .entry)) (now (counts .entry)))) e ⌝ }
 {
     let rule = kind_rule(e.kind);
     if rule.refusal != 0 {

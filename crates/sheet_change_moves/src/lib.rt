@@ -54,8 +54,10 @@ pub fn broken_change(
     ops: &[u8],
     r: &[i64],
 ) -> i64
-    requires { ⌜ (rows ≤ maxRows) × ColumnSmall rows columns column (now coefs) × (rows ≤ length (now rights)) × (rows ≤ length (now ops)) × Small maxR rows (now r) × (natAbs by ≤ 2 * maxAmount) ⌝ }
-    ensures { λ z. ⌜ z ≡ brokenChange rows columns column by (now (coefs .entry)) (now (rights .entry)) (now (ops .entry)) (now (r .entry)) ⌝ }
+    requires { ⌜ (rows ≤ maxRows) × ColumnSmall rows columns column (now coefs) × (rows ≤ length (now rights)) ×
+        (rows ≤ length (now ops)) × Small maxR rows (now r) × (natAbs by ≤ 2 * maxAmount) ⌝ }
+    ensures { λ z. ⌜ z ≡ brokenChange rows columns column by (now (coefs .entry)) (now (rights .entry))
+        (now (ops .entry)) (now (r .entry)) ⌝ }
 {
     let mut total: i64 = 0;
     let mut i = 0;
@@ -80,8 +82,11 @@ pub fn terms_change(
     upper_marks: &[u8],
     d: &[i64],
 ) -> i64
-    requires { ⌜ (columns ≤ maxColumns) × RowSmall rows columns row (now coefs) × Small maxBound columns (now lowers) × Small maxBound columns (now uppers) × (columns ≤ length (now «lower_marks»)) × (columns ≤ length (now «upper_marks»)) × Small maxD columns (now d) × (natAbs by ≤ 2 * maxMultiplier) ⌝ }
-    ensures { λ z. ⌜ z ≡ termsChange columns row by (now (coefs .entry)) (now (lowers .entry)) (now (uppers .entry)) (now («lower_marks» .entry)) (now («upper_marks» .entry)) (now (d .entry)) ⌝ }
+    requires { ⌜ (columns ≤ maxColumns) × RowSmall rows columns row (now coefs) × Small maxBound columns (now lowers) ×
+        Small maxBound columns (now uppers) × (columns ≤ length (now «lower_marks»)) ×
+        (columns ≤ length (now «upper_marks»)) × Small maxD columns (now d) × (natAbs by ≤ 2 * maxMultiplier) ⌝ }
+    ensures { λ z. ⌜ z ≡ termsChange columns row by (now (coefs .entry)) (now (lowers .entry)) (now (uppers .entry))
+        (now («lower_marks» .entry)) (now («upper_marks» .entry)) (now (d .entry)) ⌝ }
 {
     let mut total: i64 = 0;
     let mut j = 0;
@@ -105,8 +110,10 @@ pub fn absent_change(
     upper_marks: &[u8],
     d: &[i64],
 ) -> i64
-    requires { ⌜ (columns ≤ maxColumns) × RowSmall rows columns row (now coefs) × (columns ≤ length (now «lower_marks»)) × (columns ≤ length (now «upper_marks»)) × Small maxD columns (now d) × (natAbs by ≤ 2 * maxMultiplier) ⌝ }
-    ensures { λ z. ⌜ z ≡ absentChange columns row by (now (coefs .entry)) (now («lower_marks» .entry)) (now («upper_marks» .entry)) (now (d .entry)) ⌝ }
+    requires { ⌜ (columns ≤ maxColumns) × RowSmall rows columns row (now coefs) × (columns ≤ length (now «lower_marks»))
+        × (columns ≤ length (now «upper_marks»)) × Small maxD columns (now d) × (natAbs by ≤ 2 * maxMultiplier) ⌝ }
+    ensures { λ z. ⌜ z ≡ absentChange columns row by (now (coefs .entry)) (now («lower_marks» .entry))
+        (now («upper_marks» .entry)) (now (d .entry)) ⌝ }
 {
     let mut total: i64 = 0;
     let mut j = 0;

@@ -1,5 +1,5 @@
-// What an edit makes of C, B and the counts. A touched column or row is read once; all else here is over numbers, but for kinds 1 and 7, which run down a
-// column and along a row. All functions read only.
+// What an edit makes of C, B and the counts. A touched column or row is read once; all else here is over numbers, but
+// for kinds 1 and 7, which run down a column and along a row. All functions read only.
 ghost use mathlib.Core.Path.{_≡_};
 ghost use Prim.Native.Nat.{_≤_};
 ghost use lib.ListN.{length};
@@ -65,8 +65,11 @@ pub fn column_at(
     amounts: &[i64],
     d: &[i64],
 ) -> Column
-    requires { ⌜ (columns ≤ length (now costs)) × (columns ≤ length (now lowers)) × (columns ≤ length (now uppers)) × (columns ≤ length (now «lower_marks»)) × (columns ≤ length (now «upper_marks»)) × (columns ≤ length (now amounts)) × (columns ≤ length (now d)) ⌝ }
-    ensures { λ z. ⌜ z ≡ columnAt columns j (now (costs .entry)) (now (lowers .entry)) (now (uppers .entry)) (now («lower_marks» .entry)) (now («upper_marks» .entry)) (now (amounts .entry)) (now (d .entry)) ⌝ }
+    requires { ⌜ (columns ≤ length (now costs)) × (columns ≤ length (now lowers)) × (columns ≤ length (now uppers)) ×
+        (columns ≤ length (now «lower_marks»)) × (columns ≤ length (now «upper_marks»)) ×
+        (columns ≤ length (now amounts)) × (columns ≤ length (now d)) ⌝ }
+    ensures { λ z. ⌜ z ≡ columnAt columns j (now (costs .entry)) (now (lowers .entry)) (now (uppers .entry))
+        (now («lower_marks» .entry)) (now («upper_marks» .entry)) (now (amounts .entry)) (now (d .entry)) ⌝ }
 {
     if j < columns {
         return Column {
@@ -92,7 +95,8 @@ pub fn column_at(
 
 // Nor do kinds 1 to 4, 8 and 9 read a row.
 pub fn row_at(rows: usize, i: usize, rights: &[i64], ops: &[u8], r: &[i64], mults: &[i64]) -> Row
-    requires { ⌜ (rows ≤ length (now rights)) × (rows ≤ length (now ops)) × (rows ≤ length (now r)) × (rows ≤ length (now mults)) ⌝ }
+    requires { ⌜ (rows ≤ length (now rights)) × (rows ≤ length (now ops)) × (rows ≤ length (now r)) ×
+        (rows ≤ length (now mults)) ⌝ }
     ensures { λ z. ⌜ z ≡ rowAt rows i (now (rights .entry)) (now (ops .entry)) (now (r .entry)) (now (mults .entry)) ⌝ }
 {
     if i < rows {
@@ -233,7 +237,8 @@ pub fn row_totals(e: Edit, t: Totals, y: Row) -> Totals
 
 // Kind 6.
 pub fn coef_totals(e: Edit, t: Totals, x: Column, y: Row, coef: i64) -> Totals
-    requires { ⌜ (natAbs (e .number) ≤ maxCoefficient) × Whole t × SmallColumn maxD x × SmallRow y × (natAbs (y .activity) ≤ maxR) × (natAbs coef ≤ maxCoefficient) ⌝ }
+    requires { ⌜ (natAbs (e .number) ≤ maxCoefficient) × Whole t × SmallColumn maxD x × SmallRow y ×
+        (natAbs (y .activity) ≤ maxR) × (natAbs coef ≤ maxCoefficient) ⌝ }
     ensures { λ z. ⌜ z ≡ coefTotals t x y (e .number -ℤ coef) ⌝ }
 {
     let by = e.number - coef;
@@ -261,8 +266,11 @@ pub fn amount_totals(
     ops: &[u8],
     r: &[i64],
 ) -> Totals
-    requires { ⌜ (e .kind ≡ 1) × NumberIn e × Whole t × SmallColumn maxD x × (rows ≤ maxRows) × ColumnSmall rows columns (e .column) (now coefs) × (rows ≤ length (now rights)) × (rows ≤ length (now ops)) × Small maxR rows (now r) ⌝ }
-    ensures { λ z. ⌜ z ≡ withBroken (columnTotals e t x) (brokenChange rows columns (e .column) (e .number -ℤ x .amount) (now (coefs .entry)) (now (rights .entry)) (now (ops .entry)) (now (r .entry))) ⌝ }
+    requires { ⌜ (e .kind ≡ 1) × NumberIn e × Whole t × SmallColumn maxD x × (rows ≤ maxRows) × ColumnSmall rows columns
+        (e .column) (now coefs) × (rows ≤ length (now rights)) × (rows ≤ length (now ops)) × Small maxR rows (now r) ⌝ }
+    ensures { λ z. ⌜ z ≡ withBroken (columnTotals e t x)
+        (brokenChange rows columns (e .column) (e .number -ℤ x .amount) (now (coefs .entry)) (now (rights .entry))
+        (now (ops .entry)) (now (r .entry))) ⌝ }
 {
     let by = e.number - x.amount;
     let n = broken_change(rows, columns, e.column, by, coefs, rights, ops, r);
@@ -287,8 +295,14 @@ pub fn mult_totals(
     upper_marks: &[u8],
     d: &[i64],
 ) -> Totals
-    requires { ⌜ (e .kind ≡ 7) × NumberIn e × Whole t × SmallRow y × (columns ≤ maxColumns) × RowSmall rows columns (e .row) (now coefs) × Small maxBound columns (now lowers) × Small maxBound columns (now uppers) × (columns ≤ length (now «lower_marks»)) × (columns ≤ length (now «upper_marks»)) × Small maxD columns (now d) ⌝ }
-    ensures { λ z. ⌜ z ≡ withTerms (rowTotals e t y) (termsChange columns (e .row) (e .number -ℤ y .mult) (now (coefs .entry)) (now (lowers .entry)) (now (uppers .entry)) (now («lower_marks» .entry)) (now («upper_marks» .entry)) (now (d .entry))) (absentChange columns (e .row) (e .number -ℤ y .mult) (now (coefs .entry)) (now («lower_marks» .entry)) (now («upper_marks» .entry)) (now (d .entry))) ⌝ }
+    requires { ⌜ (e .kind ≡ 7) × NumberIn e × Whole t × SmallRow y × (columns ≤ maxColumns) × RowSmall rows columns
+        (e .row) (now coefs) × Small maxBound columns (now lowers) × Small maxBound columns (now uppers) ×
+        (columns ≤ length (now «lower_marks»)) × (columns ≤ length (now «upper_marks»)) × Small maxD columns (now d) ⌝ }
+    ensures { λ z. ⌜ z ≡ withTerms (rowTotals e t y)
+        (termsChange columns (e .row) (e .number -ℤ y .mult) (now (coefs .entry)) (now (lowers .entry))
+        (now (uppers .entry)) (now («lower_marks» .entry)) (now («upper_marks» .entry)) (now (d .entry)))
+        (absentChange columns (e .row) (e .number -ℤ y .mult) (now (coefs .entry)) (now («lower_marks» .entry))
+        (now («upper_marks» .entry)) (now (d .entry))) ⌝ }
 {
     let by = e.number - y.mult;
     let b = terms_change(

@@ -17,8 +17,11 @@ ghost use Rattle.sheet_rules.specs.Words.{Sized, Limits};
 
 // R of every row.
 fn write_activities(rows: usize, columns: usize, coefs: &[i64], amounts: &[i64], r: &mut [i64])
-    requires { ⌜ (columns ≤ maxColumns) × Small maxCoefficient (rows * columns) (now coefs) × Small maxAmount columns (now amounts) × (rows ≤ length (now r)) ⌝ }
-    ensures { λ _. ⌜ now (r .exit) ≡ over (table rows (λ i. dot columns (λ j. now (coefs .entry) ‼ (i * columns + j)) (λ j. now (amounts .entry) ‼ j))) (now (r .entry)) ⌝ }
+    requires { ⌜ (columns ≤ maxColumns) × Small maxCoefficient (rows * columns) (now coefs) × Small maxAmount columns
+        (now amounts) × (rows ≤ length (now r)) ⌝ }
+    ensures { λ _. ⌜ now (r .exit) ≡ over (table rows
+        (λ i. dot columns (λ j. now (coefs .entry) ‼ (i * columns + j)) (λ j. now (amounts .entry) ‼ j)))
+        (now (r .entry)) ⌝ }
 {
     let mut i = 0;
     while i < rows {
@@ -38,8 +41,11 @@ fn write_prices(
     mults: &[i64],
     d: &mut [i64],
 )
-    requires { ⌜ (rows ≤ maxRows) × Small maxCoefficient (rows * columns) (now coefs) × Small maxCost columns (now costs) × Small maxMultiplier rows (now mults) × (columns ≤ length (now d)) ⌝ }
-    ensures { λ _. ⌜ now (d .exit) ≡ over (table columns (λ j. pos unit *ℤ now (costs .entry) ‼ j -ℤ dot rows (λ i. now (coefs .entry) ‼ (i * columns + j)) (λ i. now (mults .entry) ‼ i))) (now (d .entry)) ⌝ }
+    requires { ⌜ (rows ≤ maxRows) × Small maxCoefficient (rows * columns) (now coefs) × Small maxCost columns
+        (now costs) × Small maxMultiplier rows (now mults) × (columns ≤ length (now d)) ⌝ }
+    ensures { λ _. ⌜ now (d .exit) ≡ over (table columns
+        (λ j. pos unit *ℤ now (costs .entry) ‼ j -ℤ dot rows (λ i. now (coefs .entry) ‼ (i * columns + j))
+        (λ i. now (mults .entry) ‼ i))) (now (d .entry)) ⌝ }
 {
     let mut j = 0;
     while j < columns {
@@ -67,8 +73,21 @@ fn write_totals(
     c: &mut [i64],
     b: &mut [i64],
 )
-    requires { ⌜ PlanSized (planOf rows columns (now coefs) (now costs) (now lowers) (now uppers) (now «lower_marks») (now «upper_marks») (now rights) (now ops) (now amounts) (now mults)) × Fine (planOf rows columns (now coefs) (now costs) (now lowers) (now uppers) (now «lower_marks») (now «upper_marks») (now rights) (now ops) (now amounts) (now mults)) × Small maxD columns (now d) × (1 ≤ length (now c)) × (1 ≤ length (now b)) ⌝ }
-    ensures { λ _. ⌜ (now (c .exit) ≡ over (cost (planOf rows columns (now (coefs .entry)) (now (costs .entry)) (now (lowers .entry)) (now (uppers .entry)) (now («lower_marks» .entry)) (now («upper_marks» .entry)) (now (rights .entry)) (now (ops .entry)) (now (amounts .entry)) (now (mults .entry))) (x (planOf rows columns (now (coefs .entry)) (now (costs .entry)) (now (lowers .entry)) (now (uppers .entry)) (now («lower_marks» .entry)) (now («upper_marks» .entry)) (now (rights .entry)) (now (ops .entry)) (now (amounts .entry)) (now (mults .entry)))) ∷ []) (now (c .entry))) × (now (b .exit) ≡ over (floorAt (planOf rows columns (now (coefs .entry)) (now (costs .entry)) (now (lowers .entry)) (now (uppers .entry)) (now («lower_marks» .entry)) (now («upper_marks» .entry)) (now (rights .entry)) (now (ops .entry)) (now (amounts .entry)) (now (mults .entry))) (now (d .entry)) ∷ []) (now (b .entry))) ⌝ }
+    requires { ⌜ PlanSized (planOf rows columns (now coefs) (now costs) (now lowers) (now uppers) (now «lower_marks»)
+        (now «upper_marks») (now rights) (now ops) (now amounts) (now mults)) × Fine
+        (planOf rows columns (now coefs) (now costs) (now lowers) (now uppers) (now «lower_marks») (now «upper_marks»)
+        (now rights) (now ops) (now amounts) (now mults)) × Small maxD columns (now d) × (1 ≤ length (now c)) ×
+        (1 ≤ length (now b)) ⌝ }
+    ensures { λ _. ⌜ (now (c .exit) ≡ over (cost (planOf rows columns (now (coefs .entry)) (now (costs .entry))
+        (now (lowers .entry)) (now (uppers .entry)) (now («lower_marks» .entry)) (now («upper_marks» .entry))
+        (now (rights .entry)) (now (ops .entry)) (now (amounts .entry)) (now (mults .entry)))
+        (x (planOf rows columns (now (coefs .entry)) (now (costs .entry)) (now (lowers .entry)) (now (uppers .entry))
+        (now («lower_marks» .entry)) (now («upper_marks» .entry)) (now (rights .entry)) (now (ops .entry))
+        (now (amounts .entry)) (now (mults .entry)))) ∷ []) (now (c .entry))) ×
+        (now (b .exit) ≡ over (floorAt (planOf rows columns (now (coefs .entry)) (now (costs .entry))
+        (now (lowers .entry)) (now (uppers .entry)) (now («lower_marks» .entry)) (now («upper_marks» .entry))
+        (now (rights .entry)) (now (ops .entry)) (now (amounts .entry)) (now (mults .entry))) (now (d .entry)) ∷ [])
+        (now (b .entry))) ⌝ }
 {
     c[0] = sheet_sums::dot(columns, costs, amounts);
     let sides = sheet_sums::dot(rows, mults, rights);
@@ -93,8 +112,13 @@ fn write_counts(
     d: &[i64],
     counts: &mut [i64],
 )
-    requires { ⌜ PlanSized (planOf rows columns (now coefs) (now costs) (now lowers) (now uppers) (now «lower_marks») (now «upper_marks») (now rights) (now ops) (now amounts) (now mults)) × (rows ≤ length (now r)) × (columns ≤ length (now d)) × (4 ≤ length (now counts)) ⌝ }
-    ensures { λ _. ⌜ now (counts .exit) ≡ over (countsAt (planOf rows columns (now (coefs .entry)) (now (costs .entry)) (now (lowers .entry)) (now (uppers .entry)) (now («lower_marks» .entry)) (now («upper_marks» .entry)) (now (rights .entry)) (now (ops .entry)) (now (amounts .entry)) (now (mults .entry))) (now (r .entry)) (now (d .entry))) (now (counts .entry)) ⌝ }
+    requires { ⌜ PlanSized (planOf rows columns (now coefs) (now costs) (now lowers) (now uppers) (now «lower_marks»)
+        (now «upper_marks») (now rights) (now ops) (now amounts) (now mults)) × (rows ≤ length (now r)) ×
+        (columns ≤ length (now d)) × (4 ≤ length (now counts)) ⌝ }
+    ensures { λ _. ⌜ now (counts .exit) ≡ over (countsAt
+        (planOf rows columns (now (coefs .entry)) (now (costs .entry)) (now (lowers .entry)) (now (uppers .entry))
+        (now («lower_marks» .entry)) (now («upper_marks» .entry)) (now (rights .entry)) (now (ops .entry))
+        (now (amounts .entry)) (now (mults .entry))) (now (r .entry)) (now (d .entry))) (now (counts .entry)) ⌝ }
 {
     counts[0] = sheet_sums::broken_rows(rows, rights, ops, r);
     counts[1] = sheet_sums::outside_amounts(
@@ -129,8 +153,16 @@ pub fn write_kept(
     b: &mut [i64],
     counts: &mut [i64],
 )
-    requires { ⌜ Sized (sheetOf (planOf rows columns (now coefs) (now costs) (now lowers) (now uppers) (now «lower_marks») (now «upper_marks») (now rights) (now ops) (now amounts) (now mults)) (keptOf (now r) (now d) (now c) (now b) (now counts))) × Limits (planOf rows columns (now coefs) (now costs) (now lowers) (now uppers) (now «lower_marks») (now «upper_marks») (now rights) (now ops) (now amounts) (now mults)) ⌝ }
-    ensures { λ _. ⌜ keptOf (now (r .exit)) (now (d .exit)) (now (c .exit)) (now (b .exit)) (now (counts .exit)) ≡ overKept (fresh (planOf rows columns (now (coefs .entry)) (now (costs .entry)) (now (lowers .entry)) (now (uppers .entry)) (now («lower_marks» .entry)) (now («upper_marks» .entry)) (now (rights .entry)) (now (ops .entry)) (now (amounts .entry)) (now (mults .entry)))) (keptOf (now (r .entry)) (now (d .entry)) (now (c .entry)) (now (b .entry)) (now (counts .entry))) ⌝ }
+    requires { ⌜ Sized (sheetOf (planOf rows columns (now coefs) (now costs) (now lowers) (now uppers)
+        (now «lower_marks») (now «upper_marks») (now rights) (now ops) (now amounts) (now mults))
+        (keptOf (now r) (now d) (now c) (now b) (now counts))) × Limits
+        (planOf rows columns (now coefs) (now costs) (now lowers) (now uppers) (now «lower_marks») (now «upper_marks»)
+        (now rights) (now ops) (now amounts) (now mults)) ⌝ }
+    ensures { λ _. ⌜ keptOf (now (r .exit)) (now (d .exit)) (now (c .exit)) (now (b .exit)) (now (counts .exit)) ≡
+        overKept (fresh (planOf rows columns (now (coefs .entry)) (now (costs .entry)) (now (lowers .entry))
+        (now (uppers .entry)) (now («lower_marks» .entry)) (now («upper_marks» .entry)) (now (rights .entry))
+        (now (ops .entry)) (now (amounts .entry)) (now (mults .entry))))
+        (keptOf (now (r .entry)) (now (d .entry)) (now (c .entry)) (now (b .entry)) (now (counts .entry))) ⌝ }
 {
     write_activities(rows, columns, coefs, amounts, r);
     write_prices(rows, columns, coefs, costs, mults, d);
@@ -190,7 +222,10 @@ pub fn opening(
     b: &[i64],
     counts: &[i64],
 ) -> usize
-    ensures { λ z. ⌜ z ≡ opening (sheetOf (planOf rows columns (now (coefs .entry)) (now (costs .entry)) (now (lowers .entry)) (now (uppers .entry)) (now («lower_marks» .entry)) (now («upper_marks» .entry)) (now (rights .entry)) (now (ops .entry)) (now (amounts .entry)) (now (mults .entry))) (keptOf (now (r .entry)) (now (d .entry)) (now (c .entry)) (now (b .entry)) (now (counts .entry)))) ⌝ }
+    ensures { λ z. ⌜ z ≡ opening (sheetOf (planOf rows columns (now (coefs .entry)) (now (costs .entry))
+        (now (lowers .entry)) (now (uppers .entry)) (now («lower_marks» .entry)) (now («upper_marks» .entry))
+        (now (rights .entry)) (now (ops .entry)) (now (amounts .entry)) (now (mults .entry)))
+        (keptOf (now (r .entry)) (now (d .entry)) (now (c .entry)) (now (b .entry)) (now (counts .entry)))) ⌝ }
 {
     if !sheet_tests::sizes_fine(
         rows,

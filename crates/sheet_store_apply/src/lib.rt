@@ -1,4 +1,5 @@
-// An accepted edit: every kept number moves by the change in its terms, then the edited cell takes its number and mark. Nothing is refused here.
+// An accepted edit: every kept number moves by the change in its terms, then the edited cell takes its number and mark.
+// Nothing is refused here.
 ghost use mathlib.Core.Path.{_≡_};
 ghost use Rattle.sheet_rules.specs.Sheet.{planOf, keptOf, sheetOf, overKept};
 ghost use Rattle.sheet_rules.specs.Edit.{moved, applied};
@@ -27,8 +28,15 @@ fn move_kept(
     b: &mut [i64],
     counts: &mut [i64],
 )
-    requires { ⌜ Ready (sheetOf (planOf rows columns (now coefs) (now costs) (now lowers) (now uppers) (now «lower_marks») (now «upper_marks») (now rights) (now ops) (now amounts) (now mults)) (keptOf (now r) (now d) (now c) (now b) (now counts))) e × Today e ⌝ }
-    ensures { λ _. ⌜ keptOf (now (r .exit)) (now (d .exit)) (now (c .exit)) (now (b .exit)) (now (counts .exit)) ≡ overKept (moved (sheetOf (planOf rows columns (now (coefs .entry)) (now (costs .entry)) (now (lowers .entry)) (now (uppers .entry)) (now («lower_marks» .entry)) (now («upper_marks» .entry)) (now (rights .entry)) (now (ops .entry)) (now (amounts .entry)) (now (mults .entry))) (keptOf (now (r .entry)) (now (d .entry)) (now (c .entry)) (now (b .entry)) (now (counts .entry)))) e) (keptOf (now (r .entry)) (now (d .entry)) (now (c .entry)) (now (b .entry)) (now (counts .entry))) ⌝ }
+    requires { ⌜ Ready (sheetOf (planOf rows columns (now coefs) (now costs) (now lowers) (now uppers)
+        (now «lower_marks») (now «upper_marks») (now rights) (now ops) (now amounts) (now mults))
+        (keptOf (now r) (now d) (now c) (now b) (now counts))) e × Today e ⌝ }
+    ensures { λ _. ⌜ keptOf (now (r .exit)) (now (d .exit)) (now (c .exit)) (now (b .exit)) (now (counts .exit)) ≡
+        overKept (moved (sheetOf (planOf rows columns (now (coefs .entry)) (now (costs .entry)) (now (lowers .entry))
+        (now (uppers .entry)) (now («lower_marks» .entry)) (now («upper_marks» .entry)) (now (rights .entry))
+        (now (ops .entry)) (now (amounts .entry)) (now (mults .entry)))
+        (keptOf (now (r .entry)) (now (d .entry)) (now (c .entry)) (now (b .entry)) (now (counts .entry)))) e)
+        (keptOf (now (r .entry)) (now (d .entry)) (now (c .entry)) (now (b .entry)) (now (counts .entry))) ⌝ }
 {
     let t = sheet_change_after::totals_after(
         e,
@@ -106,8 +114,17 @@ pub fn apply_edit(
     b: &mut [i64],
     counts: &mut [i64],
 )
-    requires { ⌜ Ready (sheetOf (planOf rows columns (now coefs) (now costs) (now lowers) (now uppers) (now «lower_marks») (now «upper_marks») (now rights) (now ops) (now amounts) (now mults)) (keptOf (now r) (now d) (now c) (now b) (now counts))) e × Today e ⌝ }
-    ensures { λ _. ⌜ sheetOf (planOf rows columns (now (coefs .exit)) (now (costs .exit)) (now (lowers .exit)) (now (uppers .exit)) (now («lower_marks» .exit)) (now («upper_marks» .exit)) (now (rights .exit)) (now (ops .entry)) (now (amounts .exit)) (now (mults .exit))) (keptOf (now (r .exit)) (now (d .exit)) (now (c .exit)) (now (b .exit)) (now (counts .exit))) ≡ applied (sheetOf (planOf rows columns (now (coefs .entry)) (now (costs .entry)) (now (lowers .entry)) (now (uppers .entry)) (now («lower_marks» .entry)) (now («upper_marks» .entry)) (now (rights .entry)) (now (ops .entry)) (now (amounts .entry)) (now (mults .entry))) (keptOf (now (r .entry)) (now (d .entry)) (now (c .entry)) (now (b .entry)) (now (counts .entry)))) e ⌝ }
+    requires { ⌜ Ready (sheetOf (planOf rows columns (now coefs) (now costs) (now lowers) (now uppers)
+        (now «lower_marks») (now «upper_marks») (now rights) (now ops) (now amounts) (now mults))
+        (keptOf (now r) (now d) (now c) (now b) (now counts))) e × Today e ⌝ }
+    ensures { λ _. ⌜ sheetOf (planOf rows columns (now (coefs .exit)) (now (costs .exit)) (now (lowers .exit))
+        (now (uppers .exit)) (now («lower_marks» .exit)) (now («upper_marks» .exit)) (now (rights .exit))
+        (now (ops .entry)) (now (amounts .exit)) (now (mults .exit)))
+        (keptOf (now (r .exit)) (now (d .exit)) (now (c .exit)) (now (b .exit)) (now (counts .exit))) ≡ applied
+        (sheetOf (planOf rows columns (now (coefs .entry)) (now (costs .entry)) (now (lowers .entry))
+        (now (uppers .entry)) (now («lower_marks» .entry)) (now («upper_marks» .entry)) (now (rights .entry))
+        (now (ops .entry)) (now (amounts .entry)) (now (mults .entry)))
+        (keptOf (now (r .entry)) (now (d .entry)) (now (c .entry)) (now (b .entry)) (now (counts .entry)))) e ⌝ }
 {
     move_kept(
         e,

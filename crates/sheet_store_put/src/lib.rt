@@ -45,8 +45,10 @@ fn put_coef(hit: bool, row: usize, column: usize, columns: usize, v: i64, coefs:
 
 // A bound that an edit takes is present, one that it drops is absent with number 0.
 fn put_bound(take: bool, drop: bool, j: usize, v: i64, xs: &mut [i64], marks: &mut [u8])
-    requires { ⌜ (take ≡ true → (j < length (now xs)) × (j < length (now marks))) × (drop ≡ true → (j < length (now xs)) × (j < length (now marks))) ⌝ }
-    ensures { λ _. ⌜ (now (xs .exit) ≡ put drop j (pos 0) (put take j v (now (xs .entry)))) × (now (marks .exit) ≡ put drop j 0 (put take j 1 (now (marks .entry)))) ⌝ }
+    requires { ⌜ (take ≡ true → (j < length (now xs)) × (j < length (now marks))) ×
+        (drop ≡ true → (j < length (now xs)) × (j < length (now marks))) ⌝ }
+    ensures { λ _. ⌜ (now (xs .exit) ≡ put drop j (pos 0) (put take j v (now (xs .entry)))) ×
+        (now (marks .exit) ≡ put drop j 0 (put take j 1 (now (marks .entry)))) ⌝ }
 {
     put_number(take, j, v, xs);
     put_number(drop, j, 0, xs);
@@ -70,8 +72,16 @@ pub fn put_cell(
     amounts: &mut [i64],
     mults: &mut [i64],
 )
-    requires { ⌜ PlanSized (planOf rows columns (now coefs) (now costs) (now lowers) (now uppers) (now «lower_marks») (now «upper_marks») (now rights) (now ops) (now amounts) (now mults)) × Index (planOf rows columns (now coefs) (now costs) (now lowers) (now uppers) (now «lower_marks») (now «upper_marks») (now rights) (now ops) (now amounts) (now mults)) e ⌝ }
-    ensures { λ _. ⌜ planOf rows columns (now (coefs .exit)) (now (costs .exit)) (now (lowers .exit)) (now (uppers .exit)) (now («lower_marks» .exit)) (now («upper_marks» .exit)) (now (rights .exit)) (now (ops .entry)) (now (amounts .exit)) (now (mults .exit)) ≡ edited (planOf rows columns (now (coefs .entry)) (now (costs .entry)) (now (lowers .entry)) (now (uppers .entry)) (now («lower_marks» .entry)) (now («upper_marks» .entry)) (now (rights .entry)) (now (ops .entry)) (now (amounts .entry)) (now (mults .entry))) e ⌝ }
+    requires { ⌜ PlanSized (planOf rows columns (now coefs) (now costs) (now lowers) (now uppers) (now «lower_marks»)
+        (now «upper_marks») (now rights) (now ops) (now amounts) (now mults)) × Index
+        (planOf rows columns (now coefs) (now costs) (now lowers) (now uppers) (now «lower_marks») (now «upper_marks»)
+        (now rights) (now ops) (now amounts) (now mults)) e ⌝ }
+    ensures { λ _. ⌜ planOf rows columns (now (coefs .exit)) (now (costs .exit)) (now (lowers .exit))
+        (now (uppers .exit)) (now («lower_marks» .exit)) (now («upper_marks» .exit)) (now (rights .exit))
+        (now (ops .entry)) (now (amounts .exit)) (now (mults .exit)) ≡ edited
+        (planOf rows columns (now (coefs .entry)) (now (costs .entry)) (now (lowers .entry)) (now (uppers .entry))
+        (now («lower_marks» .entry)) (now («upper_marks» .entry)) (now (rights .entry)) (now (ops .entry))
+        (now (amounts .entry)) (now (mults .entry))) e ⌝ }
 {
     let kind = e.kind;
     let i = e.row;
@@ -88,7 +98,8 @@ pub fn put_cell(
 // C, B and the counts.
 pub fn store_totals(t: Totals, c: &mut [i64], b: &mut [i64], counts: &mut [i64])
     requires { ⌜ (1 ≤ length (now c)) × (1 ≤ length (now b)) × (4 ≤ length (now counts)) ⌝ }
-    ensures { λ _. ⌜ keptOf [] [] (now (c .exit)) (now (b .exit)) (now (counts .exit)) ≡ overKept (cellsOf t) (keptOf [] [] (now (c .entry)) (now (b .entry)) (now (counts .entry))) ⌝ }
+    ensures { λ _. ⌜ keptOf [] [] (now (c .exit)) (now (b .exit)) (now (counts .exit)) ≡ overKept (cellsOf t)
+        (keptOf [] [] (now (c .entry)) (now (b .entry)) (now (counts .entry))) ⌝ }
 {
     let cost = t.cost;
     let floor = t.floor;

@@ -53,8 +53,13 @@ pub fn move_activities(
     e: Edit,
     r: &mut [i64],
 )
-    requires { ⌜ PlanReady (planOf rows columns (now coefs) (now costs) (now lowers) (now uppers) (now «lower_marks») (now «upper_marks») (now rights) (now ops) (now amounts) (now mults)) e × Small maxR rows (now r) ⌝ }
-    ensures { λ _. ⌜ now (r .exit) ≡ over (table rows (movedR (sheetOf (planOf rows columns (now (coefs .entry)) (now (costs .entry)) (now (lowers .entry)) (now (uppers .entry)) (now («lower_marks» .entry)) (now («upper_marks» .entry)) (now (rights .entry)) (now (ops .entry)) (now (amounts .entry)) (now (mults .entry))) (keptOf (now (r .entry)) [] [] [] [])) e)) (now (r .entry)) ⌝ }
+    requires { ⌜ PlanReady (planOf rows columns (now coefs) (now costs) (now lowers) (now uppers) (now «lower_marks»)
+        (now «upper_marks») (now rights) (now ops) (now amounts) (now mults)) e × Small maxR rows (now r) ⌝ }
+    ensures { λ _. ⌜ now (r .exit) ≡ over (table rows
+        (movedR (sheetOf (planOf rows columns (now (coefs .entry)) (now (costs .entry)) (now (lowers .entry))
+        (now (uppers .entry)) (now («lower_marks» .entry)) (now («upper_marks» .entry)) (now (rights .entry))
+        (now (ops .entry)) (now (amounts .entry)) (now (mults .entry))) (keptOf (now (r .entry)) [] [] [] [])) e))
+        (now (r .entry)) ⌝ }
 {
     let kind = e.kind;
     let places = touched_span(kind == 1, kind == 6, rows, e.row);
@@ -99,8 +104,13 @@ pub fn move_prices(
     e: Edit,
     d: &mut [i64],
 )
-    requires { ⌜ PlanReady (planOf rows columns (now coefs) (now costs) (now lowers) (now uppers) (now «lower_marks») (now «upper_marks») (now rights) (now ops) (now amounts) (now mults)) e × Small maxD columns (now d) ⌝ }
-    ensures { λ _. ⌜ now (d .exit) ≡ over (table columns (movedD (sheetOf (planOf rows columns (now (coefs .entry)) (now (costs .entry)) (now (lowers .entry)) (now (uppers .entry)) (now («lower_marks» .entry)) (now («upper_marks» .entry)) (now (rights .entry)) (now (ops .entry)) (now (amounts .entry)) (now (mults .entry))) (keptOf [] (now (d .entry)) [] [] [])) e)) (now (d .entry)) ⌝ }
+    requires { ⌜ PlanReady (planOf rows columns (now coefs) (now costs) (now lowers) (now uppers) (now «lower_marks»)
+        (now «upper_marks») (now rights) (now ops) (now amounts) (now mults)) e × Small maxD columns (now d) ⌝ }
+    ensures { λ _. ⌜ now (d .exit) ≡ over (table columns
+        (movedD (sheetOf (planOf rows columns (now (coefs .entry)) (now (costs .entry)) (now (lowers .entry))
+        (now (uppers .entry)) (now («lower_marks» .entry)) (now («upper_marks» .entry)) (now (rights .entry))
+        (now (ops .entry)) (now (amounts .entry)) (now (mults .entry))) (keptOf [] (now (d .entry)) [] [] [])) e))
+        (now (d .entry)) ⌝ }
 {
     let kind = e.kind;
     let places = touched_span(kind == 7, (kind == 2) | (kind == 6), columns, e.column);

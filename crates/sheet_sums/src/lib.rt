@@ -31,7 +31,8 @@ pub fn dot(n: usize, xs: &[i64], ys: &[i64]) -> i64
 
 // A column's coefficients times the multipliers.
 pub fn column_sum(rows: usize, columns: usize, column: usize, coefs: &[i64], mults: &[i64]) -> i64
-    requires { ⌜ (rows ≤ maxRows) × (column < columns) × Small maxCoefficient (rows * columns) (now coefs) × Small maxMultiplier rows (now mults) ⌝ }
+    requires { ⌜ (rows ≤ maxRows) × (column < columns) × Small maxCoefficient (rows * columns) (now coefs) × Small
+        maxMultiplier rows (now mults) ⌝ }
     ensures { λ z. ⌜ z ≡ dot rows (λ i. now (coefs .entry) ‼ (i * columns + column)) (λ i. now (mults .entry) ‼ i) ⌝ }
 {
     let mut total: i64 = 0;
@@ -52,8 +53,10 @@ pub fn column_terms(
     upper_marks: &[u8],
     d: &[i64],
 ) -> i64
-    requires { ⌜ (columns ≤ maxColumns) × Small maxBound columns (now lowers) × Small maxBound columns (now uppers) × (columns ≤ length (now «lower_marks»)) × (columns ≤ length (now «upper_marks»)) × Small maxD columns (now d) ⌝ }
-    ensures { λ z. ⌜ z ≡ sum columns (λ j. term (now (d .entry) ‼ j) (now (lowers .entry) ‼ j) (now (uppers .entry) ‼ j) (now («lower_marks» .entry) # j) (now («upper_marks» .entry) # j)) ⌝ }
+    requires { ⌜ (columns ≤ maxColumns) × Small maxBound columns (now lowers) × Small maxBound columns (now uppers) ×
+        (columns ≤ length (now «lower_marks»)) × (columns ≤ length (now «upper_marks»)) × Small maxD columns (now d) ⌝ }
+    ensures { λ z. ⌜ z ≡ sum columns (λ j. term (now (d .entry) ‼ j) (now (lowers .entry) ‼ j) (now (uppers .entry) ‼ j)
+        (now («lower_marks» .entry) # j) (now («upper_marks» .entry) # j)) ⌝ }
 {
     let mut total: i64 = 0;
     let mut j = 0;
@@ -67,7 +70,8 @@ pub fn column_terms(
 // The rows that their activities r break.
 pub fn broken_rows(rows: usize, rights: &[i64], ops: &[u8], r: &[i64]) -> i64
     requires { ⌜ (rows ≤ maxRows) × (rows ≤ length (now rights)) × (rows ≤ length (now ops)) × (rows ≤ length (now r)) ⌝ }
-    ensures { λ z. ⌜ z ≡ count rows (λ i. not (holds (now (ops .entry) # i) (now (r .entry) ‼ i) (now (rights .entry) ‼ i))) ⌝ }
+    ensures { λ z. ⌜ z ≡ count rows (λ i. not (holds (now (ops .entry) # i) (now (r .entry) ‼ i)
+        (now (rights .entry) ‼ i))) ⌝ }
 {
     let mut total: i64 = 0;
     let mut i = 0;
@@ -87,8 +91,11 @@ pub fn outside_amounts(
     upper_marks: &[u8],
     amounts: &[i64],
 ) -> i64
-    requires { ⌜ (columns ≤ maxColumns) × (columns ≤ length (now lowers)) × (columns ≤ length (now uppers)) × (columns ≤ length (now «lower_marks»)) × (columns ≤ length (now «upper_marks»)) × (columns ≤ length (now amounts)) ⌝ }
-    ensures { λ z. ⌜ z ≡ count columns (λ j. outside (now (amounts .entry) ‼ j) (now (lowers .entry) ‼ j) (now (uppers .entry) ‼ j) (now («lower_marks» .entry) # j) (now («upper_marks» .entry) # j)) ⌝ }
+    requires { ⌜ (columns ≤ maxColumns) × (columns ≤ length (now lowers)) × (columns ≤ length (now uppers)) ×
+        (columns ≤ length (now «lower_marks»)) × (columns ≤ length (now «upper_marks»)) ×
+        (columns ≤ length (now amounts)) ⌝ }
+    ensures { λ z. ⌜ z ≡ count columns (λ j. outside (now (amounts .entry) ‼ j) (now (lowers .entry) ‼ j)
+        (now (uppers .entry) ‼ j) (now («lower_marks» .entry) # j) (now («upper_marks» .entry) # j)) ⌝ }
 {
     let mut total: i64 = 0;
     let mut j = 0;
@@ -121,8 +128,10 @@ pub fn wrong_signs(rows: usize, ops: &[u8], mults: &[i64]) -> i64
 
 // The absent bounds that the prices d need.
 pub fn absent_needed(columns: usize, lower_marks: &[u8], upper_marks: &[u8], d: &[i64]) -> i64
-    requires { ⌜ (columns ≤ maxColumns) × (columns ≤ length (now «lower_marks»)) × (columns ≤ length (now «upper_marks»)) × (columns ≤ length (now d)) ⌝ }
-    ensures { λ z. ⌜ z ≡ count columns (λ j. lacks (now (d .entry) ‼ j) (now («lower_marks» .entry) # j) (now («upper_marks» .entry) # j)) ⌝ }
+    requires { ⌜ (columns ≤ maxColumns) × (columns ≤ length (now «lower_marks»)) ×
+        (columns ≤ length (now «upper_marks»)) × (columns ≤ length (now d)) ⌝ }
+    ensures { λ z. ⌜ z ≡ count columns (λ j. lacks (now (d .entry) ‼ j) (now («lower_marks» .entry) # j)
+        (now («upper_marks» .entry) # j)) ⌝ }
 {
     let mut total: i64 = 0;
     let mut j = 0;

@@ -109,7 +109,9 @@ fn quiet(row: &[i64], j: usize) -> bool
 
 // The sum of a row's products up to `from`, gone on with up to `to`.
 fn go_on(row: &[i64], amounts: &[i64], so_far: i64, from: usize, to: usize) -> i64
-    requires { ⌜ (from ≤ to) × (to ≤ length (now row)) × (length (now row) ≤ maxColumns) × Small maxCoefficient (length (now row)) (now row) × Small maxAmount (length (now row)) (now amounts) × («so_far» ≡ dot from (λ k. now row ‼ k) (λ k. now amounts ‼ k)) ⌝ }
+    requires { ⌜ (from ≤ to) × (to ≤ length (now row)) × (length (now row) ≤ maxColumns) × Small maxCoefficient
+        (length (now row)) (now row) × Small maxAmount (length (now row)) (now amounts) ×
+        («so_far» ≡ dot from (λ k. now row ‼ k) (λ k. now amounts ‼ k)) ⌝ }
     ensures { λ r. ⌜ r ≡ dot to (λ k. now (row .entry) ‼ k) (λ k. now (amounts .entry) ‼ k) ⌝ }
 {
     let mut r = so_far;
@@ -125,7 +127,8 @@ fn go_on(row: &[i64], amounts: &[i64], so_far: i64, from: usize, to: usize) -> i
 // 02: "Let the sum behind R pass over stretches of zeros quickly." A row whose first three coefficients aren't 0 is
 // taken for a full one, and summed with no test.
 pub fn activity(row: &[i64], amounts: &[i64]) -> i64
-    requires { ⌜ (length (now row) ≤ maxColumns) × Small maxCoefficient (length (now row)) (now row) × Small maxAmount (length (now row)) (now amounts) ⌝ }
+    requires { ⌜ (length (now row) ≤ maxColumns) × Small maxCoefficient (length (now row)) (now row) × Small maxAmount
+        (length (now row)) (now amounts) ⌝ }
     ensures { λ r. ⌜ r ≡ rowSum (now (row .entry)) (now (amounts .entry)) ⌝ }
 {
     let n = row.len();

@@ -94,7 +94,10 @@ pub fn sizes_fine(
     b: &[i64],
     counts: &[i64],
 ) -> bool
-    ensures { λ z. ⌜ z ≡ sizesFine (sheetOf (planOf rows columns (now (coefs .entry)) (now (costs .entry)) (now (lowers .entry)) (now (uppers .entry)) (now («lower_marks» .entry)) (now («upper_marks» .entry)) (now (rights .entry)) (now (ops .entry)) (now (amounts .entry)) (now (mults .entry))) (keptOf (now (r .entry)) (now (d .entry)) (now (c .entry)) (now (b .entry)) (now (counts .entry)))) ⌝ }
+    ensures { λ z. ⌜ z ≡ sizesFine (sheetOf (planOf rows columns (now (coefs .entry)) (now (costs .entry))
+        (now (lowers .entry)) (now (uppers .entry)) (now («lower_marks» .entry)) (now («upper_marks» .entry))
+        (now (rights .entry)) (now (ops .entry)) (now (amounts .entry)) (now (mults .entry)))
+        (keptOf (now (r .entry)) (now (d .entry)) (now (c .entry)) (now (b .entry)) (now (counts .entry)))) ⌝ }
 {
     if (rows <= doubles::MAX_ROWS) & (columns <= doubles::MAX_COLUMNS) {
         let cells = rows * columns;
@@ -132,8 +135,11 @@ pub fn arrays_fine(
     amounts: &[i64],
     mults: &[i64],
 ) -> bool
-    requires { ⌜ PlanSized (planOf rows columns (now coefs) (now costs) (now lowers) (now uppers) (now «lower_marks») (now «upper_marks») (now rights) (now ops) (now amounts) (now mults)) ⌝ }
-    ensures { λ z. ⌜ z ≡ arraysFine (planOf rows columns (now (coefs .entry)) (now (costs .entry)) (now (lowers .entry)) (now (uppers .entry)) (now («lower_marks» .entry)) (now («upper_marks» .entry)) (now (rights .entry)) (now (ops .entry)) (now (amounts .entry)) (now (mults .entry))) ⌝ }
+    requires { ⌜ PlanSized (planOf rows columns (now coefs) (now costs) (now lowers) (now uppers) (now «lower_marks»)
+        (now «upper_marks») (now rights) (now ops) (now amounts) (now mults)) ⌝ }
+    ensures { λ z. ⌜ z ≡ arraysFine (planOf rows columns (now (coefs .entry)) (now (costs .entry)) (now (lowers .entry))
+        (now (uppers .entry)) (now («lower_marks» .entry)) (now («upper_marks» .entry)) (now (rights .entry))
+        (now (ops .entry)) (now (amounts .entry)) (now (mults .entry))) ⌝ }
 {
     all_within(doubles::MAX_COST, columns, costs)
         & bounds_fine(columns, lower_marks, lowers)
@@ -159,8 +165,11 @@ pub fn numbers_fine(
     amounts: &[i64],
     mults: &[i64],
 ) -> bool
-    requires { ⌜ PlanSized (planOf rows columns (now coefs) (now costs) (now lowers) (now uppers) (now «lower_marks») (now «upper_marks») (now rights) (now ops) (now amounts) (now mults)) ⌝ }
-    ensures { λ z. ⌜ z ≡ numbersFine (planOf rows columns (now (coefs .entry)) (now (costs .entry)) (now (lowers .entry)) (now (uppers .entry)) (now («lower_marks» .entry)) (now («upper_marks» .entry)) (now (rights .entry)) (now (ops .entry)) (now (amounts .entry)) (now (mults .entry))) ⌝ }
+    requires { ⌜ PlanSized (planOf rows columns (now coefs) (now costs) (now lowers) (now uppers) (now «lower_marks»)
+        (now «upper_marks») (now rights) (now ops) (now amounts) (now mults)) ⌝ }
+    ensures { λ z. ⌜ z ≡ numbersFine (planOf rows columns (now (coefs .entry)) (now (costs .entry))
+        (now (lowers .entry)) (now (uppers .entry)) (now («lower_marks» .entry)) (now («upper_marks» .entry))
+        (now (rights .entry)) (now (ops .entry)) (now (amounts .entry)) (now (mults .entry))) ⌝ }
 {
     all_within(doubles::MAX_COEFFICIENT, rows * columns, coefs)
         & arrays_fine(
@@ -201,8 +210,11 @@ pub fn uncrossed(
     amounts: &[i64],
     mults: &[i64],
 ) -> bool
-    requires { ⌜ PlanSized (planOf rows columns (now coefs) (now costs) (now lowers) (now uppers) (now «lower_marks») (now «upper_marks») (now rights) (now ops) (now amounts) (now mults)) ⌝ }
-    ensures { λ z. ⌜ z ≡ uncrossed (planOf rows columns (now (coefs .entry)) (now (costs .entry)) (now (lowers .entry)) (now (uppers .entry)) (now («lower_marks» .entry)) (now («upper_marks» .entry)) (now (rights .entry)) (now (ops .entry)) (now (amounts .entry)) (now (mults .entry))) ⌝ }
+    requires { ⌜ PlanSized (planOf rows columns (now coefs) (now costs) (now lowers) (now uppers) (now «lower_marks»)
+        (now «upper_marks») (now rights) (now ops) (now amounts) (now mults)) ⌝ }
+    ensures { λ z. ⌜ z ≡ uncrossed (planOf rows columns (now (coefs .entry)) (now (costs .entry)) (now (lowers .entry))
+        (now (uppers .entry)) (now («lower_marks» .entry)) (now («upper_marks» .entry)) (now (rights .entry))
+        (now (ops .entry)) (now (amounts .entry)) (now (mults .entry))) ⌝ }
 {
     let mut j = 0;
     while j < columns {
@@ -236,7 +248,8 @@ pub fn kept_fine(
     counts: &[i64],
 ) -> bool
     requires { ⌜ KeptSized rows columns (keptOf (now r) (now d) (now c) (now b) (now counts)) ⌝ }
-    ensures { λ z. ⌜ z ≡ keptFine (sheetOf (bare rows columns) (keptOf (now (r .entry)) (now (d .entry)) (now (c .entry)) (now (b .entry)) (now (counts .entry)))) ⌝ }
+    ensures { λ z. ⌜ z ≡ keptFine (sheetOf (bare rows columns)
+        (keptOf (now (r .entry)) (now (d .entry)) (now (c .entry)) (now (b .entry)) (now (counts .entry)))) ⌝ }
 {
     all_within(doubles::MAX_R, rows, r)
         & all_within(doubles::MAX_D, columns, d)

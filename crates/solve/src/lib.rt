@@ -23,10 +23,11 @@ pub fn solve(
     numbers: &mut [usize],
     doubles: &mut [f64],
 ) -> rules::Answer
-    ensures { λ r. ⌜ answered r (now (values .exit)) (now (numbers .exit)) (now (doubles .exit))
-        ≡ handed (solvePlan (planOf columns rows entries budget tolerance (now (costs .entry)) (now (lowers .entry)) (now (uppers .entry))
-        (now (starts .entry)) (now (cols .entry)) (now (coeffs .entry)) (now (ops .entry)) (now (rhs .entry)))
-        (memoryIn (now (values .entry)) (now (numbers .entry)) (now (doubles .entry)))) (pastOf (now (numbers .entry)) (now (doubles .entry))) ⌝ }
+    ensures { λ r. ⌜ answered r (now (values .exit)) (now (numbers .exit)) (now (doubles .exit)) ≡ handed
+        (solvePlan (planOf columns rows entries budget tolerance (now (costs .entry)) (now (lowers .entry))
+        (now (uppers .entry)) (now (starts .entry)) (now (cols .entry)) (now (coeffs .entry)) (now (ops .entry))
+        (now (rhs .entry))) (memoryIn (now (values .entry)) (now (numbers .entry)) (now (doubles .entry))))
+        (pastOf (now (numbers .entry)) (now (doubles .entry))) ⌝ }
 {
     let refusal = start_gate::refusal(
         columns,

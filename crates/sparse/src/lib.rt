@@ -17,7 +17,8 @@ pub fn touch(
     i: usize,
 ) -> usize
     requires { ⌜ (i < places) × Wf places (pat (now marks) (now list) count) ⌝ }
-    ensures { λ r. ⌜ pat (now (marks .exit)) (now (list .exit)) r ≡ touched (pat (now (marks .entry)) (now (list .entry)) count) i ⌝ }
+    ensures { λ r. ⌜ pat (now (marks .exit)) (now (list .exit)) r ≡ touched
+        (pat (now (marks .entry)) (now (list .entry)) count) i ⌝ }
 {
     if marks[i] {
         return count;
@@ -93,8 +94,8 @@ pub fn load(
 ) -> usize
     requires { ⌜ Good places (sv (now values) (now marks) (now list) count) ⌝ }
     requires { ⌜ (n ≤ length (now at)) × (n ≤ length (now xs)) × Within places n (now at) ⌝ }
-    ensures { λ r. ⌜ sv (now (values .exit)) (now (marks .exit)) (now (list .exit)) r
-        ≡ loaded (now (at .entry)) (now (xs .entry)) n (sv (now (values .entry)) (now (marks .entry)) (now (list .entry)) count) ⌝ }
+    ensures { λ r. ⌜ sv (now (values .exit)) (now (marks .exit)) (now (list .exit)) r ≡ loaded (now (at .entry))
+        (now (xs .entry)) n (sv (now (values .entry)) (now (marks .entry)) (now (list .entry)) count) ⌝ }
 {
     let mut c = count;
     let mut k = 0;
@@ -137,8 +138,8 @@ pub fn take_off(
 ) -> usize
     requires { ⌜ Good places (sv (now values) (now marks) (now list) count) ⌝ }
     requires { ⌜ (length (now rows) ≤ length (now coeffs)) × Within places (length (now rows)) (now rows) ⌝ }
-    ensures { λ r. ⌜ sv (now (values .exit)) (now (marks .exit)) (now (list .exit)) r
-        ≡ takeOff x (now (rows .entry)) (now (coeffs .entry)) (sv (now (values .entry)) (now (marks .entry)) (now (list .entry)) count) ⌝ }
+    ensures { λ r. ⌜ sv (now (values .exit)) (now (marks .exit)) (now (list .exit)) r ≡ takeOff x (now (rows .entry))
+        (now (coeffs .entry)) (sv (now (values .entry)) (now (marks .entry)) (now (list .entry)) count) ⌝ }
 {
     let mut n = count;
     let mut k = 0;
@@ -174,7 +175,8 @@ pub fn relist(
     from_list: &[usize; doubles::PLACES],
     from_count: usize,
 ) -> usize
-    requires { ⌜ Fresh (sv (now values) (now marks) (now list) 0) × («from_count» ≤ places) × Within places «from_count» (now «from_list») ⌝ }
+    requires { ⌜ Fresh (sv (now values) (now marks) (now list) 0) × («from_count» ≤ places) × Within places «from_count»
+        (now «from_list») ⌝ }
     ensures { λ c. ⌜ ((m : List Bool) → sv (now (values .exit)) (now (marks .exit)) (now (list .exit)) c
         ≡ relisted (sv (now (from .entry)) m (now («from_list» .entry)) «from_count»)) ⌝ }
 {

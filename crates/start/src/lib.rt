@@ -32,10 +32,12 @@ pub fn reckon(
     slacks: &mut [f64; doubles::MAX_ROWS],
     norms: &mut [f64; doubles::MAX_COLUMNS],
 ) -> f64
-    requires { ⌜ Reckonable (unruled n (now costs) (now lowers) (now uppers) (now starts) (now cols) (now coeffs) (now rhs) (now kept)) ⌝ }
+    requires { ⌜ Reckonable (unruled n (now costs) (now lowers) (now uppers) (now starts) (now cols) (now coeffs)
+        (now rhs) (now kept)) ⌝ }
     requires { ⌜ Scratch n (length (now kept)) (now xs) (now slacks) (now norms) ⌝ }
-    ensures { λ r. ⌜ numbers (now (xs .exit)) (now (slacks .exit)) (now (norms .exit)) r
-        ≡ reckoned (unruled n (now (costs .entry)) (now (lowers .entry)) (now (uppers .entry)) (now (starts .entry)) (now (cols .entry)) (now (coeffs .entry)) (now (rhs .entry)) (now (kept .entry)))
+    ensures { λ r. ⌜ numbers (now (xs .exit)) (now (slacks .exit)) (now (norms .exit)) r ≡ reckoned
+        (unruled n (now (costs .entry)) (now (lowers .entry)) (now (uppers .entry)) (now (starts .entry))
+        (now (cols .entry)) (now (coeffs .entry)) (now (rhs .entry)) (now (kept .entry)))
         (numbers (now (xs .entry)) (now (slacks .entry)) (now (norms .entry)) f0) ⌝ }
 {
     start_values::start_vals(costs, lowers, uppers, n, xs);
@@ -105,8 +107,10 @@ fn count_from(first: usize, n: usize, to: &mut [usize])
 }
 
 fn write_flags(n: usize, lowers: &[f64], uppers: &[f64], xs: &[f64], flags: &mut [usize])
-    requires { ⌜ (n ≤ length (now lowers)) × (n ≤ length (now uppers)) × (n ≤ length (now xs)) × (n ≤ length (now flags)) ⌝ }
-    ensures { λ _. ⌜ now (flags .exit) ≡ over (table n (startFlags (costed n [] (now (lowers .entry)) (now (uppers .entry))) (now (xs .entry)))) (now (flags .entry)) ⌝ }
+    requires { ⌜ (n ≤ length (now lowers)) × (n ≤ length (now uppers)) × (n ≤ length (now xs)) ×
+        (n ≤ length (now flags)) ⌝ }
+    ensures { λ _. ⌜ now (flags .exit) ≡ over (table n
+        (startFlags (costed n [] (now (lowers .entry)) (now (uppers .entry))) (now (xs .entry)))) (now (flags .entry)) ⌝ }
 {
     for j in 0..n {
         let f = rules::NonBasicVarState {
@@ -131,10 +135,11 @@ pub fn write_start(
     numbers: &mut [usize],
     doubles: &mut [f64],
 )
-    requires { ⌜ (n ≤ maxColumns) × (m ≤ maxRows) × Columns n (now costs) (now lowers) (now uppers) × Scratch n m (now xs) (now slacks) (now norms) ⌝ }
+    requires { ⌜ (n ≤ maxColumns) × (m ≤ maxRows) × Columns n (now costs) (now lowers) (now uppers) × Scratch n m
+        (now xs) (now slacks) (now norms) ⌝ }
     requires { ⌜ Sized (now numbers) (now doubles) ⌝ }
-    ensures { λ _. ⌜ packed (now (numbers .exit)) (now (doubles .exit))
-        ≡ written n m (now (costs .entry)) (now (lowers .entry)) (now (uppers .entry)) (now (xs .entry)) (now (slacks .entry)) (now (norms .entry))
+    ensures { λ _. ⌜ packed (now (numbers .exit)) (now (doubles .exit)) ≡ written n m (now (costs .entry))
+        (now (lowers .entry)) (now (uppers .entry)) (now (xs .entry)) (now (slacks .entry)) (now (norms .entry))
         (packed (now (numbers .entry)) (now (doubles .entry))) ⌝ }
 {
     count_from(n, m, &mut numbers[state::BASIC_VARS..state::BASIC_VARS_END]);

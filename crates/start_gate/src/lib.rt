@@ -1,4 +1,5 @@
-// 01, "When the gateway says no": what is lent is long enough, and refusals 1 to 7 before the first lent cell is written.
+// 01, "When the gateway says no": what is lent is long enough, and refusals 1 to 7 before the first lent cell is
+// written.
 ghost use mathlib.Core.Path.{_≡_};
 ghost use mathlib.Core.List.{[]};
 ghost use Prim.Native.Nat.{_≤_};
@@ -19,8 +20,8 @@ pub enum Begun {
     On(f64),
 }
 
-// 1: "Needed are columns plus rows of values, dropped rows counted, and the full stated store": each array whole, whatever
-// the plan's sizes. Those are small by then, so that they may be added.
+// 1: "Needed are columns plus rows of values, dropped rows counted, and the full stated store": each array whole,
+// whatever the plan's sizes. Those are small by then, so that they may be added.
 pub fn memory_long(
     columns: usize,
     rows: usize,
@@ -56,8 +57,10 @@ pub fn refusal(
     numbers: &[usize],
     doubles: &[f64],
 ) -> plan::Refusal
-    ensures { λ r. ⌜ r ≡ refusalBy (planOf columns rows entries budget tolerance (now (costs .entry)) (now (lowers .entry)) (now (uppers .entry))
-        (now (starts .entry)) (now (cols .entry)) (now (coeffs .entry)) (now (ops .entry)) (now (rhs .entry))) (memoryIn (now (values .entry)) (now (numbers .entry)) (now (doubles .entry))) ⌝ }
+    ensures { λ r. ⌜ r ≡ refusalBy (planOf columns rows entries budget tolerance (now (costs .entry))
+        (now (lowers .entry)) (now (uppers .entry)) (now (starts .entry)) (now (cols .entry)) (now (coeffs .entry))
+        (now (ops .entry)) (now (rhs .entry))) (memoryIn (now (values .entry)) (now (numbers .entry))
+        (now (doubles .entry))) ⌝ }
 {
     if !plan::sizes_fit(columns, rows, entries, budget) {
         return plan::Refusal::By(rules::Answer::BadSize);
@@ -112,12 +115,13 @@ pub fn begin(
     slacks: &mut [f64; doubles::MAX_ROWS],
     norms: &mut [f64; doubles::MAX_COLUMNS],
 ) -> Begun
-    requires { ⌜ Passed columns (now costs) (now lowers) (now uppers) (now starts) (now cols) (now coeffs) (now ops) (now rhs) (now kept) ⌝ }
+    requires { ⌜ Passed columns (now costs) (now lowers) (now uppers) (now starts) (now cols) (now coeffs) (now ops)
+        (now rhs) (now kept) ⌝ }
     requires { ⌜ Scratch columns (length (now kept)) (now xs) (now slacks) (now norms) ⌝ }
-    ensures { λ r. ⌜ begunBy r (now (xs .exit)) (now (slacks .exit)) (now (norms .exit))
-        ≡ begun (problem (planOf columns 0 0 0 f0 (now (costs .entry)) (now (lowers .entry)) (now (uppers .entry))
-        (now (starts .entry)) (now (cols .entry)) (now (coeffs .entry)) (now (ops .entry)) (now (rhs .entry))) (now (kept .entry)))
-        (numbers (now (xs .entry)) (now (slacks .entry)) (now (norms .entry)) f0) ⌝ }
+    ensures { λ r. ⌜ begunBy r (now (xs .exit)) (now (slacks .exit)) (now (norms .exit)) ≡ begun
+        (problem (planOf columns 0 0 0 f0 (now (costs .entry)) (now (lowers .entry)) (now (uppers .entry))
+        (now (starts .entry)) (now (cols .entry)) (now (coeffs .entry)) (now (ops .entry)) (now (rhs .entry)))
+        (now (kept .entry))) (numbers (now (xs .entry)) (now (slacks .entry)) (now (norms .entry)) f0) ⌝ }
 {
     let objective = start::reckon(
         columns,

@@ -44,7 +44,8 @@ fn sum_squares(
     norms: &mut [f64; doubles::MAX_COLUMNS],
 )
     requires { ⌜ RowsRead (rowed 0 (now starts) (now cols) (now coeffs) (now kept)) maxColumns ⌝ }
-    ensures { λ _. ⌜ now (norms .exit) ≡ squares (rowed 0 (now (starts .entry)) (now (cols .entry)) (now (coeffs .entry)) (now (kept .entry))) (now (norms .entry)) ⌝ }
+    ensures { λ _. ⌜ now (norms .exit) ≡ squares (rowed 0 (now (starts .entry)) (now (cols .entry))
+        (now (coeffs .entry)) (now (kept .entry))) (now (norms .entry)) ⌝ }
 {
     let mut r = 0;
     while r < kept.len() {
@@ -74,8 +75,11 @@ pub fn start_norms(
     kept: &[usize],
     norms: &mut [f64; doubles::MAX_COLUMNS],
 )
-    requires { ⌜ (n ≤ maxColumns) × (n ≤ length (now norms)) × RowsRead (rowed 0 (now starts) (now cols) (now coeffs) (now kept)) n ⌝ }
-    ensures { λ _. ⌜ now (norms .exit) ≡ over (table n (startNorm (rowed n (now (starts .entry)) (now (cols .entry)) (now (coeffs .entry)) (now (kept .entry))))) (now (norms .entry)) ⌝ }
+    requires { ⌜ (n ≤ maxColumns) × (n ≤ length (now norms)) × RowsRead
+        (rowed 0 (now starts) (now cols) (now coeffs) (now kept)) n ⌝ }
+    ensures { λ _. ⌜ now (norms .exit) ≡ over (table n
+        (startNorm (rowed n (now (starts .entry)) (now (cols .entry)) (now (coeffs .entry)) (now (kept .entry)))))
+        (now (norms .entry)) ⌝ }
 {
     clear_norms(n, norms);
     sum_squares(starts, cols, coeffs, kept, norms);

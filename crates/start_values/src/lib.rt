@@ -1,6 +1,6 @@
 // 01, "Start": the columns' start values, their objective, the slacks that they leave, and whether the start is dual
-// feasible.
-// From minilp 0.2.2, src/solver.rs, try_new, Apache-2.0, changed: 01's rules, one function for each number, lent arrays.
+// feasible. From minilp 0.2.2, src/solver.rs, try_new, Apache-2.0, changed: 01's rules, one function for each number,
+// lent arrays.
 ghost use mathlib.Core.Path.{_≡_};
 ghost use mathlib.Core.Bool.{_&&_};
 ghost use mathlib.Core.List.{[]};
@@ -86,7 +86,8 @@ pub fn start_vals(
     xs: &mut [f64; doubles::MAX_COLUMNS],
 )
     requires { ⌜ (n ≤ maxColumns) × (n ≤ length (now xs)) × Columns n (now costs) (now lowers) (now uppers) ⌝ }
-    ensures { λ _. ⌜ now (xs .exit) ≡ over (startVals (costed n (now (costs .entry)) (now (lowers .entry)) (now (uppers .entry)))) (now (xs .entry)) ⌝ }
+    ensures { λ _. ⌜ now (xs .exit) ≡ over (startVals
+        (costed n (now (costs .entry)) (now (lowers .entry)) (now (uppers .entry)))) (now (xs .entry)) ⌝ }
 {
     for j in 0..n {
         xs[j] = start_val(costs[j], lowers[j], uppers[j]);
@@ -131,7 +132,8 @@ fn start_slack(
 ) -> f64
     requires { ⌜ (r < length (now kept)) × Within (length (now rhs)) (length (now kept)) (now kept) ⌝ }
     requires { ⌜ RowReads (rowed 0 (now starts) (now cols) (now coeffs) (now kept)) (length (now xs)) r ⌝ }
-    ensures { λ x. ⌜ x ≡ startSlack (sided (now (starts .entry)) (now (cols .entry)) (now (coeffs .entry)) (now (rhs .entry)) (now (kept .entry))) (now (xs .entry)) r ⌝ }
+    ensures { λ x. ⌜ x ≡ startSlack (sided (now (starts .entry)) (now (cols .entry)) (now (coeffs .entry))
+        (now (rhs .entry)) (now (kept .entry))) (now (xs .entry)) r ⌝ }
 {
     let i = kept[r];
     let row_cols = plan::row_cols(starts, cols, i);
@@ -149,10 +151,12 @@ pub fn start_slacks(
     xs: &[f64; doubles::MAX_COLUMNS],
     slacks: &mut [f64; doubles::MAX_ROWS],
 )
-    requires { ⌜ (length (now kept) ≤ maxRows) × (length (now kept) ≤ length (now slacks)) × Within (length (now rhs)) (length (now kept)) (now kept) ⌝ }
+    requires { ⌜ (length (now kept) ≤ maxRows) × (length (now kept) ≤ length (now slacks)) × Within (length (now rhs))
+        (length (now kept)) (now kept) ⌝ }
     requires { ⌜ RowsRead (rowed 0 (now starts) (now cols) (now coeffs) (now kept)) (length (now xs)) ⌝ }
     ensures { λ _. ⌜ now (slacks .exit) ≡ over (table (length (now (kept .entry)))
-        (startSlack (sided (now (starts .entry)) (now (cols .entry)) (now (coeffs .entry)) (now (rhs .entry)) (now (kept .entry))) (now (xs .entry)))) (now (slacks .entry)) ⌝ }
+        (startSlack (sided (now (starts .entry)) (now (cols .entry)) (now (coeffs .entry)) (now (rhs .entry))
+        (now (kept .entry))) (now (xs .entry)))) (now (slacks .entry)) ⌝ }
 {
     let mut r = 0;
     while r < kept.len() {

@@ -1,5 +1,6 @@
-// The solver's state in two lent arrays: where each section of them stands. specs/Packed.antt has the same names for the
-// definitions: no place is written anywhere else. A run is lent the workspace's part of each, up to KEPT and OBJECTIVE.
+// The solver's state in two lent arrays: where each section of them stands. specs/Packed.antt has the same names for
+// the definitions: no place is written anywhere else. A run is lent the workspace's part of each, up to KEPT and
+// OBJECTIVE.
 
 // Sections of `numbers`.
 pub const BASIC_VARS: usize = 0;

@@ -1,5 +1,5 @@
-// One step from the entering column on: its solve, the ratio, then a flip or an exchange.
-// From minilp 0.2.2, src/solver.rs, choose_pivot and pivot, Apache-2.0, changed: 01's answers 21 and 23, and the vectors are local arrays.
+// One step from the entering column on: its solve, the ratio, then a flip or an exchange. From minilp 0.2.2,
+// src/solver.rs, choose_pivot and pivot, Apache-2.0, changed: 01's answers 21 and 23, and the vectors are local arrays.
 ghost use mathlib.Core.Path.{_≡_};
 ghost use mathlib.Core.List.{List};
 ghost use Prim.Native.Nat.{ℕ, _<_};
@@ -44,10 +44,13 @@ fn decide(
     e: rules::Entering,
 ) -> Decided
     requires { ⌜ Fresh (sv (now values) (now marks) (now list) 0) ⌝ }
-    requires { ⌜ Enters n (now lowers) (now uppers) (now ops) (now kept) (now cstarts) (now crows) (now ccoeffs) (now numbers) (now doubles) at e ⌝ }
-    ensures { λ r. ⌜ ((starts cols : List ℕ) (coeffs : List Float) → ByColumns (rowed n starts cols coeffs (now (kept .entry))) (now (cstarts .entry)) (now (crows .entry)) (now (ccoeffs .entry))
-        → foundBy r (now (values .exit)) (now (marks .exit)) (now (list .exit))
-        ≡ found (stepped n (now (lowers .entry)) (now (uppers .entry)) starts cols coeffs (now (ops .entry)) (now (kept .entry))) (stateAt (now (numbers .entry)) (now (doubles .entry)) at) e) ⌝ }
+    requires { ⌜ Enters n (now lowers) (now uppers) (now ops) (now kept) (now cstarts) (now crows) (now ccoeffs)
+        (now numbers) (now doubles) at e ⌝ }
+    ensures { λ r. ⌜ ((starts cols : List ℕ) (coeffs : List Float) → ByColumns
+        (rowed n starts cols coeffs (now (kept .entry))) (now (cstarts .entry)) (now (crows .entry))
+        (now (ccoeffs .entry)) → foundBy r (now (values .exit)) (now (marks .exit)) (now (list .exit)) ≡ found
+        (stepped n (now (lowers .entry)) (now (uppers .entry)) starts cols coeffs (now (ops .entry))
+        (now (kept .entry))) (stateAt (now (numbers .entry)) (now (doubles .entry)) at) e) ⌝ }
 {
     let col = e.col;
     let count = step_reads::column(
@@ -131,10 +134,13 @@ pub fn step(
     ccoeffs: &[f64],
     e: rules::Entering,
 ) -> step_exchange::Went
-    requires { ⌜ Ready n (now lowers) (now uppers) (now starts) (now cols) (now coeffs) (now ops) (now kept) (now numbers) (now doubles) at ⌝ }
-    requires { ⌜ ByColumns (rowed n (now starts) (now cols) (now coeffs) (now kept)) (now cstarts) (now crows) (now ccoeffs) × (n < length (now cstarts)) × (e .col < n) ⌝ }
-    ensures { λ r. ⌜ leftBy r (now (numbers .exit)) (now (doubles .exit))
-        ≡ afterBy (λ (s : State). Step.step (stepped n (now (lowers .entry)) (now (uppers .entry)) (now (starts .entry)) (now (cols .entry)) (now (coeffs .entry)) (now (ops .entry)) (now (kept .entry))) s e)
+    requires { ⌜ Ready n (now lowers) (now uppers) (now starts) (now cols) (now coeffs) (now ops) (now kept)
+        (now numbers) (now doubles) at ⌝ }
+    requires { ⌜ ByColumns (rowed n (now starts) (now cols) (now coeffs) (now kept)) (now cstarts) (now crows)
+        (now ccoeffs) × (n < length (now cstarts)) × (e .col < n) ⌝ }
+    ensures { λ r. ⌜ leftBy r (now (numbers .exit)) (now (doubles .exit)) ≡ afterBy
+        (λ (s : State). Step.step (stepped n (now (lowers .entry)) (now (uppers .entry)) (now (starts .entry))
+        (now (cols .entry)) (now (coeffs .entry)) (now (ops .entry)) (now (kept .entry))) s e)
         (stateAt (now (numbers .entry)) (now (doubles .entry)) at) ⌝ }
 {
     let mut values = [0.0; doubles::PLACES];

@@ -47,7 +47,8 @@ fn better(c: usize, price: f64, norm: f64, flags: usize, best: Best) -> Best
 
 pub fn best_column(n: usize, prices: &[f64], norms: &[f64], flags: &[usize]) -> Best
     requires { ⌜ (n ≤ length (now prices)) × (n ≤ length (now norms)) × (n ≤ length (now flags)) ⌝ }
-    ensures { λ r. ⌜ column r ≡ bestColumn n (nonBasicOf [] [] (now (prices .entry)) (now (norms .entry)) (now (flags .entry))) ⌝ }
+    ensures { λ r. ⌜ column r ≡ bestColumn n (nonBasicOf [] [] (now (prices .entry)) (now (norms .entry))
+        (now (flags .entry))) ⌝ }
 {
     let mut best = Best {
         col: n,
@@ -72,7 +73,8 @@ pub fn side(
     v: usize,
 ) -> f64
     requires { ⌜ Sides (bounded n (now lowers) (now uppers) (now ops) (now kept)) × (v < n + length (now kept)) ⌝ }
-    ensures { λ r. ⌜ r ≡ sideOf (bounded n (now (lowers .entry)) (now (uppers .entry)) (now (ops .entry)) (now (kept .entry))) max v ⌝ }
+    ensures { λ r. ⌜ r ≡ sideOf (bounded n (now (lowers .entry)) (now (uppers .entry)) (now (ops .entry))
+        (now (kept .entry))) max v ⌝ }
 {
     if max {
         return cells::var_max(n, uppers, ops, kept, v);
@@ -92,9 +94,10 @@ pub fn other_val(
     col: usize,
 ) -> f64
     requires { ⌜ Sides (bounded n (now lowers) (now uppers) (now ops) (now kept)) × (col < n) ⌝ }
-    requires { ⌜ Places (bounded n (now lowers) (now uppers) (now ops) (now kept)) (nonBasicOf (now «nb_vars») [] (now prices) [] []) ⌝ }
-    ensures { λ r. ⌜ r ≡ otherVal (bounded n (now (lowers .entry)) (now (uppers .entry)) (now (ops .entry)) (now (kept .entry)))
-        (nonBasicOf (now («nb_vars» .entry)) [] (now (prices .entry)) [] []) col ⌝ }
+    requires { ⌜ Places (bounded n (now lowers) (now uppers) (now ops) (now kept))
+        (nonBasicOf (now «nb_vars») [] (now prices) [] []) ⌝ }
+    ensures { λ r. ⌜ r ≡ otherVal (bounded n (now (lowers .entry)) (now (uppers .entry)) (now (ops .entry))
+        (now (kept .entry))) (nonBasicOf (now («nb_vars» .entry)) [] (now (prices .entry)) [] []) col ⌝ }
 {
     side(
         n,
@@ -122,8 +125,9 @@ pub fn choose(
 ) -> rules::Choice
     requires { ⌜ Choosing (bounded n (now lowers) (now uppers) (now ops) (now kept))
         (nonBasicOf (now «nb_vars») (now «nb_var_vals») (now prices) (now norms) (now flags)) ⌝ }
-    ensures { λ r. ⌜ r ≡ Choose.choose (bounded n (now (lowers .entry)) (now (uppers .entry)) (now (ops .entry)) (now (kept .entry)))
-        (nonBasicOf (now («nb_vars» .entry)) (now («nb_var_vals» .entry)) (now (prices .entry)) (now (norms .entry)) (now (flags .entry))) ⌝ }
+    ensures { λ r. ⌜ r ≡ Choose.choose (bounded n (now (lowers .entry)) (now (uppers .entry)) (now (ops .entry))
+        (now (kept .entry))) (nonBasicOf (now («nb_vars» .entry)) (now («nb_var_vals» .entry)) (now (prices .entry))
+        (now (norms .entry)) (now (flags .entry))) ⌝ }
 {
     let best = best_column(n, prices, norms, flags);
     let col = best.col;

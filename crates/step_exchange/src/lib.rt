@@ -1,6 +1,6 @@
 // An exchange is decided (eta room, row solve, all new numbers), then stored. Nothing is stored before every test has
-// passed, and the store can't fail.
-// From minilp 0.2.2, src/solver.rs, pivot, Apache-2.0, changed: 01's answers 22 and 23, and the vectors are local arrays.
+// passed, and the store can't fail. From minilp 0.2.2, src/solver.rs, pivot, Apache-2.0, changed: 01's answers 22 and
+// 23, and the vectors are local arrays.
 ghost use mathlib.Core.Path.{_≡_};
 ghost use mathlib.Core.Bool.{Bool, _&&_};
 ghost use mathlib.Core.List.{List};
@@ -47,13 +47,17 @@ fn numbers_finite(
     e: rules::Entering,
     x: state::Exchange,
 ) -> bool
-    requires { ⌜ (length (now doubles) ≡ objectiveAt) × Listing maxRows count (now list) × Listing maxColumns «row_count» (now «row_list») ⌝ }
-    requires { ⌜ Squares (now values) (now list) count sq × («helper_count» ≤ places) × Within places «helper_count» (now «helper_list») ⌝ }
-    ensures { λ r. ⌜ ((P : Problem) (N : List ℕ) (m rm hm : List Bool) → r ≡ (listedFinite (sv (now («row_values» .entry)) rm (now («row_list» .entry)) «row_count»)
-        && listedFinite (sv (now («helper_values» .entry)) hm (now («helper_list» .entry)) «helper_count»)
-        && exchangeFinite P (stateAt N (now (doubles .entry)) at) e (sv (now (values .entry)) m (now (list .entry)) count)
-        (sv (now («row_values» .entry)) rm (now («row_list» .entry)) «row_count») (sv (now («helper_values» .entry)) hm (now («helper_list» .entry)) «helper_count»)
-        (x .value) (x .diff) (x .row) (x .pivot) (x .leaving))) ⌝ }
+    requires { ⌜ (length (now doubles) ≡ objectiveAt) × Listing maxRows count (now list) × Listing maxColumns
+        «row_count» (now «row_list») ⌝ }
+    requires { ⌜ Squares (now values) (now list) count sq × («helper_count» ≤ places) × Within places «helper_count»
+        (now «helper_list») ⌝ }
+    ensures { λ r. ⌜ ((P : Problem) (N : List ℕ) (m rm hm : List Bool) → r ≡
+        (listedFinite (sv (now («row_values» .entry)) rm (now («row_list» .entry)) «row_count») && listedFinite
+        (sv (now («helper_values» .entry)) hm (now («helper_list» .entry)) «helper_count») && exchangeFinite P
+        (stateAt N (now (doubles .entry)) at) e (sv (now (values .entry)) m (now (list .entry)) count)
+        (sv (now («row_values» .entry)) rm (now («row_list» .entry)) «row_count»)
+        (sv (now («helper_values» .entry)) hm (now («helper_list» .entry)) «helper_count») (x .value) (x .diff) (x .row)
+        (x .pivot) (x .leaving))) ⌝ }
 {
     if !sparse::listed_finite(row_values, row_list, row_count) {
         return false;
@@ -100,12 +104,16 @@ fn decide(
     e: rules::Entering,
     x: state::Exchange,
 ) -> Decided
-    requires { ⌜ Fresh (sv (now «row_values») (now «row_marks») (now «row_list») 0) × Fresh (sv (now «helper_values») (now «helper_marks») (now «helper_list») 0) ⌝ }
-    requires { ⌜ Solving n (now starts) (now cols) (now coeffs) (now kept) (now numbers) (now doubles) at
-        × Solved (length (now kept)) (now values) (now list) count × Squares (now values) (now list) count sq × (x .row < length (now kept)) ⌝ }
-    ensures { λ r. ⌜ ((m : List Bool) → decidedBy r (now («row_values» .exit)) (now («row_marks» .exit)) (now («row_list» .exit)) (now («helper_values» .exit))
-        ≡ decided (rowed n (now (starts .entry)) (now (cols .entry)) (now (coeffs .entry)) (now (kept .entry)))
-        (stateAt (now (numbers .entry)) (now (doubles .entry)) at) e (sv (now (values .entry)) m (now (list .entry)) count) x) ⌝ }
+    requires { ⌜ Fresh (sv (now «row_values») (now «row_marks») (now «row_list») 0) × Fresh
+        (sv (now «helper_values») (now «helper_marks») (now «helper_list») 0) ⌝ }
+    requires { ⌜ Solving n (now starts) (now cols) (now coeffs) (now kept) (now numbers) (now doubles) at × Solved
+        (length (now kept)) (now values) (now list) count × Squares (now values) (now list) count sq ×
+        (x .row < length (now kept)) ⌝ }
+    ensures { λ r. ⌜ ((m : List Bool) → decidedBy r (now («row_values» .exit)) (now («row_marks» .exit))
+        (now («row_list» .exit)) (now («helper_values» .exit)) ≡ decided
+        (rowed n (now (starts .entry)) (now (cols .entry)) (now (coeffs .entry)) (now (kept .entry)))
+        (stateAt (now (numbers .entry)) (now (doubles .entry)) at) e
+        (sv (now (values .entry)) m (now (list .entry)) count) x) ⌝ }
 {
     if !basis_store::eta_fits(numbers, at, count) {
         return Decided::Stops(rules::Stop::NoRoom);
@@ -180,11 +188,14 @@ pub fn exchange(
     e: rules::Entering,
     x: state::Exchange,
 ) -> Went
-    requires { ⌜ Ready n (now lowers) (now uppers) (now starts) (now cols) (now coeffs) (now ops) (now kept) (now numbers) (now doubles) at ⌝ }
-    requires { ⌜ Solved (length (now kept)) (now values) (now list) count × (e .col < n) × (x .row < length (now kept)) ⌝ }
-    ensures { λ r. ⌜ ((m : List Bool) → leftBy r (now (numbers .exit)) (now (doubles .exit))
-        ≡ afterBy (λ (s : State). Step.exchange (stepped n (now (lowers .entry)) (now (uppers .entry)) (now (starts .entry)) (now (cols .entry)) (now (coeffs .entry)) (now (ops .entry)) (now (kept .entry)))
-        s e (sv (now (values .entry)) m (now (list .entry)) count) (x .value) (x .diff) (x .row) (x .pivot) (x .leaving))
+    requires { ⌜ Ready n (now lowers) (now uppers) (now starts) (now cols) (now coeffs) (now ops) (now kept)
+        (now numbers) (now doubles) at ⌝ }
+    requires { ⌜ Solved (length (now kept)) (now values) (now list) count × (e .col < n) × (x .row < length (now kept))
+        ⌝ }
+    ensures { λ r. ⌜ ((m : List Bool) → leftBy r (now (numbers .exit)) (now (doubles .exit)) ≡ afterBy
+        (λ (s : State). Step.exchange (stepped n (now (lowers .entry)) (now (uppers .entry)) (now (starts .entry))
+        (now (cols .entry)) (now (coeffs .entry)) (now (ops .entry)) (now (kept .entry))) s e
+        (sv (now (values .entry)) m (now (list .entry)) count) (x .value) (x .diff) (x .row) (x .pivot) (x .leaving))
         (stateAt (now (numbers .entry)) (now (doubles .entry)) at)) ⌝ }
 {
     let mut row_values = [0.0; doubles::PLACES];

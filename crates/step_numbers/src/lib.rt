@@ -1,6 +1,6 @@
-// The new numbers of a step, and the tests that every one is finite: they only read.
-// From minilp 0.2.2, src/solver.rs, pivot and update_primal_sq_norms, Apache-2.0, changed: a number is tested before any
-// is stored, the vectors and the state are lent arrays, and the helper is reckoned by the caller.
+// The new numbers of a step, and the tests that every one is finite: they only read. From minilp 0.2.2, src/solver.rs,
+// pivot and update_primal_sq_norms, Apache-2.0, changed: a number is tested before any is stored, the vectors and the
+// state are lent arrays, and the helper is reckoned by the caller.
 ghost use mathlib.Core.Path.{_≡_};
 ghost use mathlib.Core.Bool.{Bool};
 ghost use mathlib.Core.List.{List, []};
@@ -69,7 +69,8 @@ fn moved_finite(
 ) -> bool
     requires { ⌜ Listing (length (now «basic_var_vals»)) count (now list) ⌝ }
     ensures { λ r. ⌜ ((m : List Bool) → r ≡ storesFinite (sv (now (values .entry)) m (now (list .entry)) count)
-        (movedVal (numbersOf (now («basic_var_vals» .entry)) [] []) (sv (now (values .entry)) m (now (list .entry)) count) diff)) ⌝ }
+        (movedVal (numbersOf (now («basic_var_vals» .entry)) [] [])
+        (sv (now (values .entry)) m (now (list .entry)) count) diff)) ⌝ }
 {
     let mut k = 0;
     while k < count {
@@ -94,7 +95,8 @@ fn vals_finite(
 ) -> bool
     requires { ⌜ Listing (length (now «basic_var_vals»)) count (now list) ⌝ }
     ensures { λ r. ⌜ ((m : List Bool) → r ≡ storesFinite (sv (now (values .entry)) m (now (list .entry)) count)
-        (newVal (numbersOf (now («basic_var_vals» .entry)) [] []) (sv (now (values .entry)) m (now (list .entry)) count) value diff row)) ⌝ }
+        (newVal (numbersOf (now («basic_var_vals» .entry)) [] []) (sv (now (values .entry)) m (now (list .entry)) count)
+        value diff row)) ⌝ }
 {
     let mut k = 0;
     while k < count {
@@ -119,7 +121,8 @@ fn prices_finite(
 ) -> bool
     requires { ⌜ Listing (length (now prices)) count (now list) ⌝ }
     ensures { λ r. ⌜ ((m : List Bool) → r ≡ storesFinite (sv (now (values .entry)) m (now (list .entry)) count)
-        (newPrice (numbersOf [] (now (prices .entry)) []) e pivot (sv (now (values .entry)) m (now (list .entry)) count))) ⌝ }
+        (newPrice (numbersOf [] (now (prices .entry)) []) e pivot
+        (sv (now (values .entry)) m (now (list .entry)) count))) ⌝ }
 {
     let col = e.col;
     let pivot_obj = e.price / pivot;
@@ -148,8 +151,10 @@ fn norms_finite(
     pivot: f64,
 ) -> bool
     requires { ⌜ Listing (length (now norms)) count (now list) ⌝ }
-    ensures { λ r. ⌜ ((m : List Bool) (p : Pat) (c : Sv) → sq ≡ sqNorm c → r ≡ storesFinite (sv (now (values .entry)) m (now (list .entry)) count)
-        (newNorm (numbersOf [] [] (now (norms .entry))) e c pivot (sv (now (values .entry)) m (now (list .entry)) count) (svOf (now (helper .entry)) p))) ⌝ }
+    ensures { λ r. ⌜ ((m : List Bool) (p : Pat) (c : Sv) → sq ≡ sqNorm c → r ≡ storesFinite
+        (sv (now (values .entry)) m (now (list .entry)) count)
+        (newNorm (numbersOf [] [] (now (norms .entry))) e c pivot (sv (now (values .entry)) m (now (list .entry)) count)
+        (svOf (now (helper .entry)) p))) ⌝ }
 {
     let col = e.col;
     let sq1 = sq + 1.0;
@@ -175,7 +180,8 @@ fn eta_finite(
     pivot: f64,
 ) -> bool
     requires { ⌜ (count ≤ places) × Within places count (now list) ⌝ }
-    ensures { λ r. ⌜ ((m : List Bool) → r ≡ etaFinite (sv (now (values .entry)) m (now (list .entry)) count) row pivot) ⌝ }
+    ensures { λ r. ⌜ ((m : List Bool) → r ≡ etaFinite (sv (now (values .entry)) m (now (list .entry)) count) row pivot)
+        ⌝ }
 {
     let mut k = 0;
     while k < count {
@@ -201,7 +207,8 @@ pub fn flip_finite(
     diff: f64,
 ) -> bool
     requires { ⌜ Listing (length (now «basic_var_vals»)) count (now list) ⌝ }
-    ensures { λ r. ⌜ ((P : Problem) (m : List Bool) → r ≡ flipFinite P (stateOf (numbersOf (now («basic_var_vals» .entry)) [] []) 0 objective 0) e
+    ensures { λ r. ⌜ ((P : Problem) (m : List Bool) → r ≡ flipFinite P
+        (stateOf (numbersOf (now («basic_var_vals» .entry)) [] []) 0 objective 0) e
         (sv (now (values .entry)) m (now (list .entry)) count) value diff) ⌝ }
 {
     if !doubles::is_finite(new_objective(objective, e, diff)) {
@@ -235,10 +242,15 @@ pub fn exchange_finite(
     pivot: f64,
     leaving: f64,
 ) -> bool
-    requires { ⌜ Listing (length (now «basic_var_vals»)) count (now list) × ((m : List Bool) → sq ≡ sqNorm (sv (now values) m (now list) count)) ⌝ }
-    requires { ⌜ Listing (length (now prices)) «row_count» (now «row_list») × Listing (length (now norms)) «row_count» (now «row_list») ⌝ }
-    ensures { λ r. ⌜ ((P : Problem) (m rm : List Bool) (p : Pat) → r ≡ exchangeFinite P (stateOf (numbersOf (now («basic_var_vals» .entry)) (now (prices .entry)) (now (norms .entry))) 0 objective 0) e
-        (sv (now (values .entry)) m (now (list .entry)) count) (sv (now («row_values» .entry)) rm (now («row_list» .entry)) «row_count») (svOf (now (helper .entry)) p) value diff row pivot leaving) ⌝ }
+    requires { ⌜ Listing (length (now «basic_var_vals»)) count (now list) ×
+        ((m : List Bool) → sq ≡ sqNorm (sv (now values) m (now list) count)) ⌝ }
+    requires { ⌜ Listing (length (now prices)) «row_count» (now «row_list») × Listing (length (now norms)) «row_count»
+        (now «row_list») ⌝ }
+    ensures { λ r. ⌜ ((P : Problem) (m rm : List Bool) (p : Pat) → r ≡ exchangeFinite P
+        (stateOf (numbersOf (now («basic_var_vals» .entry)) (now (prices .entry)) (now (norms .entry))) 0 objective 0) e
+        (sv (now (values .entry)) m (now (list .entry)) count)
+        (sv (now («row_values» .entry)) rm (now («row_list» .entry)) «row_count») (svOf (now (helper .entry)) p) value
+        diff row pivot leaving) ⌝ }
 {
     if !doubles::is_finite(new_objective(objective, e, diff)) {
         return false;

@@ -43,8 +43,8 @@ fn ahead(
 ) -> f64
     requires { ⌜ Sides (bounded n (now lowers) (now uppers) (now ops) (now kept)) × (r < length (now «basic_vars»)) ⌝ }
     requires { ⌜ now «basic_vars» # r < n + length (now kept) ⌝ }
-    ensures { λ x. ⌜ x ≡ Ratio.ahead (bounded n (now (lowers .entry)) (now (uppers .entry)) (now (ops .entry)) (now (kept .entry)))
-        (basicOf (now («basic_vars» .entry)) []) up r a ⌝ }
+    ensures { λ x. ⌜ x ≡ Ratio.ahead (bounded n (now (lowers .entry)) (now (uppers .entry)) (now (ops .entry))
+        (now (kept .entry))) (basicOf (now («basic_vars» .entry)) []) up r a ⌝ }
 {
     step_choose::side(
         n,
@@ -93,9 +93,10 @@ fn room_ahead(
     a: f64,
 ) -> Room
     requires { ⌜ Sides (bounded n (now lowers) (now uppers) (now ops) (now kept)) × (r < length (now kept)) ⌝ }
-    requires { ⌜ Rows (bounded n (now lowers) (now uppers) (now ops) (now kept)) (basicOf (now «basic_vars») (now «basic_var_vals»)) ⌝ }
-    ensures { λ x. ⌜ x ≡ roomOf (bounded n (now (lowers .entry)) (now (uppers .entry)) (now (ops .entry)) (now (kept .entry)))
-        (basicOf (now («basic_vars» .entry)) (now («basic_var_vals» .entry))) up r a ⌝ }
+    requires { ⌜ Rows (bounded n (now lowers) (now uppers) (now ops) (now kept))
+        (basicOf (now «basic_vars») (now «basic_var_vals»)) ⌝ }
+    ensures { λ x. ⌜ x ≡ roomOf (bounded n (now (lowers .entry)) (now (uppers .entry)) (now (ops .entry))
+        (now (kept .entry))) (basicOf (now («basic_vars» .entry)) (now («basic_var_vals» .entry))) up r a ⌝ }
 {
     if doubles::under_eps(a) {
         return Room::Open;
@@ -130,9 +131,10 @@ fn shrink(
     step: f64,
 ) -> MaxStep
     requires { ⌜ Sides (bounded n (now lowers) (now uppers) (now ops) (now kept)) × (r < length (now kept)) ⌝ }
-    requires { ⌜ Rows (bounded n (now lowers) (now uppers) (now ops) (now kept)) (basicOf (now «basic_vars») (now «basic_var_vals»)) ⌝ }
-    ensures { λ x. ⌜ x ≡ shrunk (bounded n (now (lowers .entry)) (now (uppers .entry)) (now (ops .entry)) (now (kept .entry)))
-        (basicOf (now («basic_vars» .entry)) (now («basic_var_vals» .entry))) up r a step ⌝ }
+    requires { ⌜ Rows (bounded n (now lowers) (now uppers) (now ops) (now kept))
+        (basicOf (now «basic_vars») (now «basic_var_vals»)) ⌝ }
+    ensures { λ x. ⌜ x ≡ shrunk (bounded n (now (lowers .entry)) (now (uppers .entry)) (now (ops .entry))
+        (now (kept .entry))) (basicOf (now («basic_vars» .entry)) (now («basic_var_vals» .entry))) up r a step ⌝ }
 {
     let left = room_ahead(
         n,
@@ -174,9 +176,12 @@ fn pass_one(
     list: &[usize; doubles::PLACES],
     count: usize,
 ) -> MaxStep
-    requires { ⌜ Passing (bounded n (now lowers) (now uppers) (now ops) (now kept)) (basicOf (now «basic_vars») (now «basic_var_vals»)) (now list) count ⌝ }
-    ensures { λ x. ⌜ ((m : List Bool) → x ≡ maxStepOf (bounded n (now (lowers .entry)) (now (uppers .entry)) (now (ops .entry)) (now (kept .entry)))
-        (basicOf (now («basic_vars» .entry)) (now («basic_var_vals» .entry))) (Ratio.rises e) (sv (now (values .entry)) m (now (list .entry)) count) (e .distance)) ⌝ }
+    requires { ⌜ Passing (bounded n (now lowers) (now uppers) (now ops) (now kept))
+        (basicOf (now «basic_vars») (now «basic_var_vals»)) (now list) count ⌝ }
+    ensures { λ x. ⌜ ((m : List Bool) → x ≡ maxStepOf
+        (bounded n (now (lowers .entry)) (now (uppers .entry)) (now (ops .entry)) (now (kept .entry)))
+        (basicOf (now («basic_vars» .entry)) (now («basic_var_vals» .entry))) (Ratio.rises e)
+        (sv (now (values .entry)) m (now (list .entry)) count) (e .distance)) ⌝ }
 {
     let up = rises(e);
     let mut step = e.distance;
@@ -222,9 +227,11 @@ fn takes(
     best: f64,
 ) -> bool
     requires { ⌜ Sides (bounded n (now lowers) (now uppers) (now ops) (now kept)) × (r < length (now kept)) ⌝ }
-    requires { ⌜ Rows (bounded n (now lowers) (now uppers) (now ops) (now kept)) (basicOf (now «basic_vars») (now «basic_var_vals»)) ⌝ }
-    ensures { λ x. ⌜ x ≡ taken (bounded n (now (lowers .entry)) (now (uppers .entry)) (now (ops .entry)) (now (kept .entry)))
-        (basicOf (now («basic_vars» .entry)) (now («basic_var_vals» .entry))) up r a «max_step» best ⌝ }
+    requires { ⌜ Rows (bounded n (now lowers) (now uppers) (now ops) (now kept))
+        (basicOf (now «basic_vars») (now «basic_var_vals»)) ⌝ }
+    ensures { λ x. ⌜ x ≡ taken (bounded n (now (lowers .entry)) (now (uppers .entry)) (now (ops .entry))
+        (now (kept .entry))) (basicOf (now («basic_vars» .entry)) (now («basic_var_vals» .entry))) up r a «max_step»
+        best ⌝ }
 {
     let size = doubles::abs(a);
     if best < size {
@@ -263,9 +270,12 @@ fn pass_two(
     count: usize,
     max_step: f64,
 ) -> usize
-    requires { ⌜ Passing (bounded n (now lowers) (now uppers) (now ops) (now kept)) (basicOf (now «basic_vars») (now «basic_var_vals»)) (now list) count ⌝ }
-    ensures { λ x. ⌜ ((m : List Bool) → x ≡ passTwo (bounded n (now (lowers .entry)) (now (uppers .entry)) (now (ops .entry)) (now (kept .entry)))
-        (basicOf (now («basic_vars» .entry)) (now («basic_var_vals» .entry))) (Ratio.rises e) (sv (now (values .entry)) m (now (list .entry)) count) «max_step» .at) ⌝ }
+    requires { ⌜ Passing (bounded n (now lowers) (now uppers) (now ops) (now kept))
+        (basicOf (now «basic_vars») (now «basic_var_vals»)) (now list) count ⌝ }
+    ensures { λ x. ⌜ ((m : List Bool) → x ≡ passTwo
+        (bounded n (now (lowers .entry)) (now (uppers .entry)) (now (ops .entry)) (now (kept .entry)))
+        (basicOf (now («basic_vars» .entry)) (now («basic_var_vals» .entry))) (Ratio.rises e)
+        (sv (now (values .entry)) m (now (list .entry)) count) «max_step» .at) ⌝ }
 {
     let up = rises(e);
     let mut at = count;
@@ -315,9 +325,12 @@ fn leaving_row(
     list: &[usize; doubles::PLACES],
     count: usize,
 ) -> Leaving
-    requires { ⌜ Passing (bounded n (now lowers) (now uppers) (now ops) (now kept)) (basicOf (now «basic_vars») (now «basic_var_vals»)) (now list) count ⌝ }
-    ensures { λ x. ⌜ ((m : List Bool) → x ≡ leavingBy (bounded n (now (lowers .entry)) (now (uppers .entry)) (now (ops .entry)) (now (kept .entry)))
-        (basicOf (now («basic_vars» .entry)) (now («basic_var_vals» .entry))) (Ratio.rises e) (sv (now (values .entry)) m (now (list .entry)) count) (e .distance)) ⌝ }
+    requires { ⌜ Passing (bounded n (now lowers) (now uppers) (now ops) (now kept))
+        (basicOf (now «basic_vars») (now «basic_var_vals»)) (now list) count ⌝ }
+    ensures { λ x. ⌜ ((m : List Bool) → x ≡ leavingBy
+        (bounded n (now (lowers .entry)) (now (uppers .entry)) (now (ops .entry)) (now (kept .entry)))
+        (basicOf (now («basic_vars» .entry)) (now («basic_var_vals» .entry))) (Ratio.rises e)
+        (sv (now (values .entry)) m (now (list .entry)) count) (e .distance)) ⌝ }
 {
     let first = pass_one(
         e,
@@ -371,11 +384,13 @@ fn pivot_by(
     other: f64,
     at: usize,
 ) -> rules::Ratio
-    requires { ⌜ Passing (bounded n (now lowers) (now uppers) (now ops) (now kept)) (basicOf (now «basic_vars») (now «basic_var_vals»)) (now list) count ⌝ }
+    requires { ⌜ Passing (bounded n (now lowers) (now uppers) (now ops) (now kept))
+        (basicOf (now «basic_vars») (now «basic_var_vals»)) (now list) count ⌝ }
     requires { ⌜ e .col < length (now «nb_var_vals») ⌝ }
-    ensures { λ x. ⌜ ((m : List Bool) → x ≡ pivotBy (bounded n (now (lowers .entry)) (now (uppers .entry)) (now (ops .entry)) (now (kept .entry)))
-        (workspaceOf (now («basic_vars» .entry)) (now («basic_var_vals» .entry)) [] (now («nb_var_vals» .entry)) [] [] [] [] noEtas)
-        e (sv (now (values .entry)) m (now (list .entry)) count) other at) ⌝ }
+    ensures { λ x. ⌜ ((m : List Bool) → x ≡ pivotBy
+        (bounded n (now (lowers .entry)) (now (uppers .entry)) (now (ops .entry)) (now (kept .entry)))
+        (workspaceOf (now («basic_vars» .entry)) (now («basic_var_vals» .entry)) [] (now («nb_var_vals» .entry)) [] []
+        [] [] noEtas) e (sv (now (values .entry)) m (now (list .entry)) count) other at) ⌝ }
 {
     let col = e.col;
     let up = rises(e);
@@ -420,10 +435,13 @@ pub fn ratio(
     count: usize,
 ) -> rules::Ratio
     requires { ⌜ Stepping (bounded n (now lowers) (now uppers) (now ops) (now kept))
-        (workspaceOf (now «basic_vars») (now «basic_var_vals») (now «nb_vars») (now «nb_var_vals») (now prices) [] [] [] noEtas) e (now list) count ⌝ }
-    ensures { λ x. ⌜ ((m : List Bool) → x ≡ Ratio.ratio (bounded n (now (lowers .entry)) (now (uppers .entry)) (now (ops .entry)) (now (kept .entry)))
-        (workspaceOf (now («basic_vars» .entry)) (now («basic_var_vals» .entry)) (now («nb_vars» .entry)) (now («nb_var_vals» .entry)) (now (prices .entry)) [] [] [] noEtas)
-        e (sv (now (values .entry)) m (now (list .entry)) count)) ⌝ }
+        (workspaceOf (now «basic_vars») (now «basic_var_vals») (now «nb_vars») (now «nb_var_vals») (now prices) [] [] []
+        noEtas) e (now list) count ⌝ }
+    ensures { λ x. ⌜ ((m : List Bool) → x ≡ Ratio.ratio
+        (bounded n (now (lowers .entry)) (now (uppers .entry)) (now (ops .entry)) (now (kept .entry)))
+        (workspaceOf (now («basic_vars» .entry)) (now («basic_var_vals» .entry)) (now («nb_vars» .entry))
+        (now («nb_var_vals» .entry)) (now (prices .entry)) [] [] [] noEtas) e
+        (sv (now (values .entry)) m (now (list .entry)) count)) ⌝ }
 {
     let col = e.col;
     let other = step_choose::other_val(n, lowers, uppers, ops, kept, nb_vars, prices, col);

@@ -34,8 +34,8 @@ pub fn choose(
 ) -> rules::Choice
     requires { ⌜ Sized (now numbers) (now doubles)
         × Choosing (bounded n (now lowers) (now uppers) (now ops) (now kept)) (packed (now numbers) (now doubles)) ⌝ }
-    ensures { λ r. ⌜ r ≡ Choose.choose (bounded n (now (lowers .entry)) (now (uppers .entry)) (now (ops .entry)) (now (kept .entry)))
-        (packed (now (numbers .entry)) (now (doubles .entry))) ⌝ }
+    ensures { λ r. ⌜ r ≡ Choose.choose (bounded n (now (lowers .entry)) (now (uppers .entry)) (now (ops .entry))
+        (now (kept .entry))) (packed (now (numbers .entry)) (now (doubles .entry))) ⌝ }
 {
     step_choose::choose(
         n,
@@ -65,12 +65,14 @@ pub fn column(
     ccoeffs: &[f64],
     col: usize,
 ) -> usize
-    requires { ⌜ Sized (now numbers) (now doubles) × Fresh (sv (now values) (now marks) (now list) 0) × (col < maxColumns) ⌝ }
+    requires { ⌜ Sized (now numbers) (now doubles) × Fresh (sv (now values) (now marks) (now list) 0) ×
+        (col < maxColumns) ⌝ }
     requires { ⌜ ColumnLent (now cstarts) (now crows) (now ccoeffs) n (packed (now numbers) (now doubles) .nbVars # col)
         × Readable (packed (now numbers) (now doubles) .etas) (at .«eta_count») ⌝ }
-    ensures { λ c. ⌜ ((P : Problem) → nOf P ≡ n → ByColumns P (now (cstarts .entry)) (now (crows .entry)) (now (ccoeffs .entry))
-        → sv (now (values .exit)) (now (marks .exit)) (now (list .exit)) c
-        ≡ colCoeffs P (stateAt (now (numbers .entry)) (now (doubles .entry)) at) (packed (now (numbers .entry)) (now (doubles .entry)) .nbVars # col)) ⌝ }
+    ensures { λ c. ⌜ ((P : Problem) → nOf P ≡ n → ByColumns P (now (cstarts .entry)) (now (crows .entry))
+        (now (ccoeffs .entry)) → sv (now (values .exit)) (now (marks .exit)) (now (list .exit)) c ≡ colCoeffs P
+        (stateAt (now (numbers .entry)) (now (doubles .entry)) at)
+        (packed (now (numbers .entry)) (now (doubles .entry)) .nbVars # col)) ⌝ }
 {
     let var = numbers[state::NB_VARS + col];
     let columns = at.eta_count;
@@ -105,10 +107,12 @@ pub fn ratio(
     count: usize,
     e: rules::Entering,
 ) -> rules::Ratio
-    requires { ⌜ Sized (now numbers) (now doubles)
-        × Stepping (bounded n (now lowers) (now uppers) (now ops) (now kept)) (packed (now numbers) (now doubles)) e (now list) count ⌝ }
-    ensures { λ r. ⌜ ((m : List Bool) → r ≡ Ratio.ratio (bounded n (now (lowers .entry)) (now (uppers .entry)) (now (ops .entry)) (now (kept .entry)))
-        (packed (now (numbers .entry)) (now (doubles .entry))) e (sv (now (values .entry)) m (now (list .entry)) count)) ⌝ }
+    requires { ⌜ Sized (now numbers) (now doubles) × Stepping (bounded n (now lowers) (now uppers) (now ops) (now kept))
+        (packed (now numbers) (now doubles)) e (now list) count ⌝ }
+    ensures { λ r. ⌜ ((m : List Bool) → r ≡ Ratio.ratio
+        (bounded n (now (lowers .entry)) (now (uppers .entry)) (now (ops .entry)) (now (kept .entry)))
+        (packed (now (numbers .entry)) (now (doubles .entry))) e (sv (now (values .entry)) m (now (list .entry)) count))
+        ⌝ }
 {
     step_ratio::ratio(
         e,
@@ -144,8 +148,9 @@ pub fn row(
     row: usize,
 ) -> usize
     requires { ⌜ Sized (now numbers) (now doubles) × Fresh (sv (now values) (now marks) (now list) 0) × (row < places) ⌝ }
-    requires { ⌜ RowSolve (rowed n (now starts) (now cols) (now coeffs) (now kept)) (length (packed (now numbers) (now doubles) .varStates))
-        (packed (now numbers) (now doubles) .etas) (at .«eta_count») (putAt blank row f1) ⌝ }
+    requires { ⌜ RowSolve (rowed n (now starts) (now cols) (now coeffs) (now kept))
+        (length (packed (now numbers) (now doubles) .varStates)) (packed (now numbers) (now doubles) .etas)
+        (at .«eta_count») (putAt blank row f1) ⌝ }
     ensures { λ c. ⌜ sv (now (values .exit)) (now (marks .exit)) (now (list .exit)) c
         ≡ rowCoeffsOf (rowed n (now (starts .entry)) (now (cols .entry)) (now (coeffs .entry)) (now (kept .entry)))
         (stateAt (now (numbers .entry)) (now (doubles .entry)) at) row ⌝ }
@@ -189,11 +194,13 @@ pub fn helper(
 ) -> usize
     requires { ⌜ Sized (now numbers) (now doubles) × Fresh (sv (now values) (now marks) (now list) 0)
         × («from_count» ≤ places) × Within places «from_count» (now «from_list») ⌝ }
-    requires { ⌜ RowSolve (rowed n (now starts) (now cols) (now coeffs) (now kept)) (length (packed (now numbers) (now doubles) .varStates))
-        (packed (now numbers) (now doubles) .etas) (at .«eta_count») (relisted (sv (now from) [] (now «from_list») «from_count»)) ⌝ }
-    ensures { λ c. ⌜ ((m : List Bool) → sv (now (values .exit)) (now (marks .exit)) (now (list .exit)) c
-        ≡ helperOf (rowed n (now (starts .entry)) (now (cols .entry)) (now (coeffs .entry)) (now (kept .entry)))
-        (stateAt (now (numbers .entry)) (now (doubles .entry)) at) (sv (now (from .entry)) m (now («from_list» .entry)) «from_count»)) ⌝ }
+    requires { ⌜ RowSolve (rowed n (now starts) (now cols) (now coeffs) (now kept))
+        (length (packed (now numbers) (now doubles) .varStates)) (packed (now numbers) (now doubles) .etas)
+        (at .«eta_count») (relisted (sv (now from) [] (now «from_list») «from_count»)) ⌝ }
+    ensures { λ c. ⌜ ((m : List Bool) → sv (now (values .exit)) (now (marks .exit)) (now (list .exit)) c ≡ helperOf
+        (rowed n (now (starts .entry)) (now (cols .entry)) (now (coeffs .entry)) (now (kept .entry)))
+        (stateAt (now (numbers .entry)) (now (doubles .entry)) at)
+        (sv (now (from .entry)) m (now («from_list» .entry)) «from_count»)) ⌝ }
 {
     let columns = at.eta_count;
     basis_solves::helper(
@@ -229,8 +236,8 @@ pub fn flip_finite(
     diff: f64,
 ) -> bool
     requires { ⌜ (length (now doubles) ≡ objectiveAt) × Listing maxRows count (now list) ⌝ }
-    ensures { λ r. ⌜ ((P : Problem) (N : List ℕ) (m : List Bool) → r ≡ flipFinite P (stateAt N (now (doubles .entry)) at) e
-        (sv (now (values .entry)) m (now (list .entry)) count) value diff) ⌝ }
+    ensures { λ r. ⌜ ((P : Problem) (N : List ℕ) (m : List Bool) → r ≡ flipFinite P
+        (stateAt N (now (doubles .entry)) at) e (sv (now (values .entry)) m (now (list .entry)) count) value diff) ⌝ }
 {
     step_numbers::flip_finite(
         &doubles[state::BASIC_VAR_VALS..state::BASIC_VAR_VALS_END],
@@ -259,11 +266,13 @@ pub fn exchange_finite(
     e: rules::Entering,
     x: state::Exchange,
 ) -> bool
-    requires { ⌜ (length (now doubles) ≡ objectiveAt) × Listing maxRows count (now list) × Listing maxColumns «row_count» (now «row_list») ⌝ }
+    requires { ⌜ (length (now doubles) ≡ objectiveAt) × Listing maxRows count (now list) × Listing maxColumns
+        «row_count» (now «row_list») ⌝ }
     requires { ⌜ ((m : List Bool) → sq ≡ sqNorm (sv (now values) m (now list) count)) ⌝ }
-    ensures { λ r. ⌜ ((P : Problem) (N : List ℕ) (m rm : List Bool) (p : Pat) → r ≡ exchangeFinite P (stateAt N (now (doubles .entry)) at) e
-        (sv (now (values .entry)) m (now (list .entry)) count) (sv (now («row_values» .entry)) rm (now («row_list» .entry)) «row_count»)
-        (svOf (now (helper .entry)) p) (x .value) (x .diff) (x .row) (x .pivot) (x .leaving)) ⌝ }
+    ensures { λ r. ⌜ ((P : Problem) (N : List ℕ) (m rm : List Bool) (p : Pat) → r ≡ exchangeFinite P
+        (stateAt N (now (doubles .entry)) at) e (sv (now (values .entry)) m (now (list .entry)) count)
+        (sv (now («row_values» .entry)) rm (now («row_list» .entry)) «row_count») (svOf (now (helper .entry)) p)
+        (x .value) (x .diff) (x .row) (x .pivot) (x .leaving)) ⌝ }
 {
     step_numbers::exchange_finite(
         &doubles[state::BASIC_VAR_VALS..state::BASIC_VAR_VALS_END],

@@ -1,7 +1,6 @@
-// The stores of a step, a flip's or an exchange's.
-// From minilp 0.2.2, src/solver.rs, pivot and update_primal_sq_norms, Apache-2.0, changed: `new_numbers` has tested every
-// number before any is stored, the vectors are lent arrays, the state is sections of two, and the helper is reckoned by
-// the caller.
+// The stores of a step, a flip's or an exchange's. From minilp 0.2.2, src/solver.rs, pivot and update_primal_sq_norms,
+// Apache-2.0, changed: `new_numbers` has tested every number before any is stored, the vectors are lent arrays, the
+// state is sections of two, and the helper is reckoned by the caller.
 ghost use mathlib.Core.Path.{_≡_};
 ghost use mathlib.Core.Bool.{Bool};
 ghost use mathlib.Core.List.{List, []};
@@ -26,8 +25,10 @@ fn store_moved(
     diff: f64,
 )
     requires { ⌜ Listing (length (now «basic_var_vals»)) count (now list) ⌝ }
-    ensures { λ _. ⌜ ((m : List Bool) → now («basic_var_vals» .exit) ≡ stored (sv (now (values .entry)) m (now (list .entry)) count)
-        (movedVal (numbersOf (now («basic_var_vals» .entry)) [] []) (sv (now (values .entry)) m (now (list .entry)) count) diff) (now («basic_var_vals» .entry))) ⌝ }
+    ensures { λ _. ⌜ ((m : List Bool) → now («basic_var_vals» .exit) ≡ stored
+        (sv (now (values .entry)) m (now (list .entry)) count)
+        (movedVal (numbersOf (now («basic_var_vals» .entry)) [] [])
+        (sv (now (values .entry)) m (now (list .entry)) count) diff) (now («basic_var_vals» .entry))) ⌝ }
 {
     let mut k = 0;
     while k < count {
@@ -48,8 +49,10 @@ fn store_vals(
     row: usize,
 )
     requires { ⌜ Listing (length (now «basic_var_vals»)) count (now list) ⌝ }
-    ensures { λ _. ⌜ ((m : List Bool) → now («basic_var_vals» .exit) ≡ stored (sv (now (values .entry)) m (now (list .entry)) count)
-        (newVal (numbersOf (now («basic_var_vals» .entry)) [] []) (sv (now (values .entry)) m (now (list .entry)) count) value diff row) (now («basic_var_vals» .entry))) ⌝ }
+    ensures { λ _. ⌜ ((m : List Bool) → now («basic_var_vals» .exit) ≡ stored
+        (sv (now (values .entry)) m (now (list .entry)) count)
+        (newVal (numbersOf (now («basic_var_vals» .entry)) [] []) (sv (now (values .entry)) m (now (list .entry)) count)
+        value diff row) (now («basic_var_vals» .entry))) ⌝ }
 {
     let mut k = 0;
     while k < count {
@@ -75,8 +78,10 @@ fn store_prices(
     pivot: f64,
 )
     requires { ⌜ Listing (length (now prices)) count (now list) ⌝ }
-    ensures { λ _. ⌜ ((m : List Bool) → now (prices .exit) ≡ stored (sv (now (values .entry)) m (now (list .entry)) count)
-        (newPrice (numbersOf [] (now (prices .entry)) []) e pivot (sv (now (values .entry)) m (now (list .entry)) count)) (now (prices .entry))) ⌝ }
+    ensures { λ _. ⌜ ((m : List Bool) → now (prices .exit) ≡ stored
+        (sv (now (values .entry)) m (now (list .entry)) count)
+        (newPrice (numbersOf [] (now (prices .entry)) []) e pivot
+        (sv (now (values .entry)) m (now (list .entry)) count)) (now (prices .entry))) ⌝ }
 {
     let col = e.col;
     let pivot_obj = e.price / pivot;
@@ -99,8 +104,10 @@ fn store_norms(
     pivot: f64,
 )
     requires { ⌜ Listing (length (now norms)) count (now list) ⌝ }
-    ensures { λ _. ⌜ ((m : List Bool) (p : Pat) (c : Sv) → sq ≡ sqNorm c → now (norms .exit) ≡ stored (sv (now (values .entry)) m (now (list .entry)) count)
-        (newNorm (numbersOf [] [] (now (norms .entry))) e c pivot (sv (now (values .entry)) m (now (list .entry)) count) (svOf (now (helper .entry)) p)) (now (norms .entry))) ⌝ }
+    ensures { λ _. ⌜ ((m : List Bool) (p : Pat) (c : Sv) → sq ≡ sqNorm c → now (norms .exit) ≡ stored
+        (sv (now (values .entry)) m (now (list .entry)) count)
+        (newNorm (numbersOf [] [] (now (norms .entry))) e c pivot (sv (now (values .entry)) m (now (list .entry)) count)
+        (svOf (now (helper .entry)) p)) (now (norms .entry))) ⌝ }
 {
     let col = e.col;
     let sq1 = sq + 1.0;
@@ -133,7 +140,8 @@ fn flags_at(
     x: f64,
 ) -> usize
     requires { ⌜ Bounded (bounded n (now lowers) (now uppers) (now ops) (now kept)) v ⌝ }
-    ensures { λ r. ⌜ r ≡ flagsAt (bounded n (now (lowers .entry)) (now (uppers .entry)) (now (ops .entry)) (now (kept .entry))) v x ⌝ }
+    ensures { λ r. ⌜ r ≡ flagsAt (bounded n (now (lowers .entry)) (now (uppers .entry)) (now (ops .entry))
+        (now (kept .entry))) v x ⌝ }
 {
     let at_min = x == cells::var_min(n, lowers, ops, kept, v);
     let at_max = x == cells::var_max(n, uppers, ops, kept, v);
@@ -159,9 +167,10 @@ pub fn store_flip(
 ) -> state::Tally
     requires { ⌜ Flips (bounded n (now lowers) (now uppers) (now ops) (now kept)) (now numbers) (now doubles) (e .col) ⌝ }
     requires { ⌜ Listing maxRows count (now list) × (at .steps < maxBudget) ⌝ }
-    ensures { λ r. ⌜ ((m : List Bool) → stateAt (now (numbers .exit)) (now (doubles .exit)) r
-        ≡ flipped (bounded n (now (lowers .entry)) (now (uppers .entry)) (now (ops .entry)) (now (kept .entry)))
-        (stateAt (now (numbers .entry)) (now (doubles .entry)) at) e (sv (now (values .entry)) m (now (list .entry)) count) value diff) ⌝ }
+    ensures { λ r. ⌜ ((m : List Bool) → stateAt (now (numbers .exit)) (now (doubles .exit)) r ≡ flipped
+        (bounded n (now (lowers .entry)) (now (uppers .entry)) (now (ops .entry)) (now (kept .entry)))
+        (stateAt (now (numbers .entry)) (now (doubles .entry)) at) e
+        (sv (now (values .entry)) m (now (list .entry)) count) value diff) ⌝ }
 {
     let col = e.col;
     let var = numbers[state::NB_VARS + col];
@@ -196,11 +205,13 @@ fn store_numbers(
     e: rules::Entering,
     x: state::Exchange,
 )
-    requires { ⌜ Listing maxRows count (now list) × ((m : List Bool) → sq ≡ sqNorm (sv (now values) m (now list) count)) ⌝ }
+    requires { ⌜ Listing maxRows count (now list) × ((m : List Bool) → sq ≡ sqNorm (sv (now values) m (now list) count))
+        ⌝ }
     requires { ⌜ Listing maxColumns «row_count» (now «row_list») × (length (now doubles) ≡ objectiveAt) ⌝ }
-    ensures { λ _. ⌜ ((N : List ℕ) (m rm : List Bool) (p : Pat) → packed N (now (doubles .exit))
-        ≡ numbersStored (packed N (now (doubles .entry))) e (sv (now (values .entry)) m (now (list .entry)) count)
-        (sv (now («row_values» .entry)) rm (now («row_list» .entry)) «row_count») (svOf (now (helper .entry)) p) (x .value) (x .diff) (x .row) (x .pivot)) ⌝ }
+    ensures { λ _. ⌜ ((N : List ℕ) (m rm : List Bool) (p : Pat) → packed N (now (doubles .exit)) ≡ numbersStored
+        (packed N (now (doubles .entry))) e (sv (now (values .entry)) m (now (list .entry)) count)
+        (sv (now («row_values» .entry)) rm (now («row_list» .entry)) «row_count») (svOf (now (helper .entry)) p)
+        (x .value) (x .diff) (x .row) (x .pivot)) ⌝ }
 {
     let pivot = x.pivot;
     store_vals(
@@ -282,13 +293,17 @@ pub fn store_exchange(
     e: rules::Entering,
     x: state::Exchange,
 ) -> state::Tally
-    requires { ⌜ Swaps (bounded n (now lowers) (now uppers) (now ops) (now kept)) (now numbers) (now doubles) (e .col) (x .row) ⌝ }
+    requires { ⌜ Swaps (bounded n (now lowers) (now uppers) (now ops) (now kept)) (now numbers) (now doubles) (e .col)
+        (x .row) ⌝ }
     requires { ⌜ Room (packed (now numbers) (now doubles) .etas) (at .«eta_count») count × (at .steps < maxBudget) ⌝ }
-    requires { ⌜ Listing maxRows count (now list) × ((m : List Bool) → sq ≡ sqNorm (sv (now values) m (now list) count)) × Listing maxColumns «row_count» (now «row_list») ⌝ }
-    ensures { λ r. ⌜ ((m rm : List Bool) (p : Pat) → stateAt (now (numbers .exit)) (now (doubles .exit)) r
-        ≡ exchanged (bounded n (now (lowers .entry)) (now (uppers .entry)) (now (ops .entry)) (now (kept .entry)))
-        (stateAt (now (numbers .entry)) (now (doubles .entry)) at) e (sv (now (values .entry)) m (now (list .entry)) count)
-        (sv (now («row_values» .entry)) rm (now («row_list» .entry)) «row_count») (svOf (now (helper .entry)) p) (x .value) (x .diff) (x .row) (x .pivot) (x .leaving)) ⌝ }
+    requires { ⌜ Listing maxRows count (now list) × ((m : List Bool) → sq ≡ sqNorm (sv (now values) m (now list) count))
+        × Listing maxColumns «row_count» (now «row_list») ⌝ }
+    ensures { λ r. ⌜ ((m rm : List Bool) (p : Pat) → stateAt (now (numbers .exit)) (now (doubles .exit)) r ≡ exchanged
+        (bounded n (now (lowers .entry)) (now (uppers .entry)) (now (ops .entry)) (now (kept .entry)))
+        (stateAt (now (numbers .entry)) (now (doubles .entry)) at) e
+        (sv (now (values .entry)) m (now (list .entry)) count)
+        (sv (now («row_values» .entry)) rm (now («row_list» .entry)) «row_count») (svOf (now (helper .entry)) p)
+        (x .value) (x .diff) (x .row) (x .pivot) (x .leaving)) ⌝ }
 {
     let col = e.col;
     let row = x.row;

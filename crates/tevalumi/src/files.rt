@@ -19,7 +19,9 @@ pub extern "C" fn tevalumi_write_plan(
     mults: &[i64],
     file: &mut [u8],
 ) -> file_face::TevalumiWritten
-    ensures { λ r. ⌜ WritesNumbers (planOf rows columns (now (coefs .entry)) (now (costs .entry)) (now (lowers .entry)) (now (uppers .entry)) (now («lower_marks» .entry)) (now («upper_marks» .entry)) (now (rights .entry)) (now (ops .entry)) (now (amounts .entry)) (now (mults .entry))) (now (file .entry)) r (now (file .exit)) ⌝ }
+    ensures { λ r. ⌜ WritesNumbers (planOf rows columns (now (coefs .entry)) (now (costs .entry)) (now (lowers .entry))
+        (now (uppers .entry)) (now («lower_marks» .entry)) (now («upper_marks» .entry)) (now (rights .entry))
+        (now (ops .entry)) (now (amounts .entry)) (now (mults .entry))) (now (file .entry)) r (now (file .exit)) ⌝ }
 {
     let w = file::write_plan(
         rows,
@@ -53,7 +55,13 @@ pub extern "C" fn tevalumi_read_plan(
     amounts: &mut [i64],
     mults: &mut [i64],
 ) -> file_face::TevalumiRead
-    ensures { λ r. ⌜ ReadsNumbers (now (file .entry)) (planOf 0 0 (now (coefs .entry)) (now (costs .entry)) (now (lowers .entry)) (now (uppers .entry)) (now («lower_marks» .entry)) (now («upper_marks» .entry)) (now (rights .entry)) (now (ops .entry)) (now (amounts .entry)) (now (mults .entry))) r (planOf 0 0 (now (coefs .exit)) (now (costs .exit)) (now (lowers .exit)) (now (uppers .exit)) (now («lower_marks» .exit)) (now («upper_marks» .exit)) (now (rights .exit)) (now (ops .exit)) (now (amounts .exit)) (now (mults .exit))) ⌝ }
+    ensures { λ r. ⌜ ReadsNumbers (now (file .entry))
+        (planOf 0 0 (now (coefs .entry)) (now (costs .entry)) (now (lowers .entry)) (now (uppers .entry))
+        (now («lower_marks» .entry)) (now («upper_marks» .entry)) (now (rights .entry)) (now (ops .entry))
+        (now (amounts .entry)) (now (mults .entry))) r
+        (planOf 0 0 (now (coefs .exit)) (now (costs .exit)) (now (lowers .exit)) (now (uppers .exit))
+        (now («lower_marks» .exit)) (now («upper_marks» .exit)) (now (rights .exit)) (now (ops .exit))
+        (now (amounts .exit)) (now (mults .exit))) ⌝ }
 {
     let a = file::read_plan(
         file,

@@ -29,9 +29,9 @@ pub extern "C" fn tevalumi_lower_sparse(
     listed: usize,
     values: &mut [f64],
 ) -> face::TriAnswer
-    ensures { λ r. ⌜ triResult r (now (values .exit)) (now (list .exit))
-        ≡ triSolveSparse (tri true size (now (starts .entry)) (now (rows .entry)) (now (vals .entry)) (not (eqb «with_diag» 0)) (now (diag .entry)))
-        entries (now (list .entry)) listed (now (values .entry)) ⌝ }
+    ensures { λ r. ⌜ triResult r (now (values .exit)) (now (list .exit)) ≡ triSolveSparse
+        (tri true size (now (starts .entry)) (now (rows .entry)) (now (vals .entry)) (not (eqb «with_diag» 0))
+        (now (diag .entry))) entries (now (list .entry)) listed (now (values .entry)) ⌝ }
 {
     let has_diag = with_diag != 0;
     let a = lu::tri_solve_sparse(
@@ -63,9 +63,9 @@ pub extern "C" fn tevalumi_upper_sparse(
     listed: usize,
     values: &mut [f64],
 ) -> face::TriAnswer
-    ensures { λ r. ⌜ triResult r (now (values .exit)) (now (list .exit))
-        ≡ triSolveSparse (tri false size (now (starts .entry)) (now (rows .entry)) (now (vals .entry)) (not (eqb «with_diag» 0)) (now (diag .entry)))
-        entries (now (list .entry)) listed (now (values .entry)) ⌝ }
+    ensures { λ r. ⌜ triResult r (now (values .exit)) (now (list .exit)) ≡ triSolveSparse
+        (tri false size (now (starts .entry)) (now (rows .entry)) (now (vals .entry)) (not (eqb «with_diag» 0))
+        (now (diag .entry))) entries (now (list .entry)) listed (now (values .entry)) ⌝ }
 {
     let has_diag = with_diag != 0;
     let a = lu::tri_solve_sparse(
@@ -95,8 +95,9 @@ pub extern "C" fn tevalumi_lower_dense(
     diag: &[f64],
     values: &mut [f64],
 ) -> face::TriAnswer
-    ensures { λ r. ⌜ triResult r (now (values .exit)) []
-        ≡ triSolveDense (tri true size (now (starts .entry)) (now (rows .entry)) (now (vals .entry)) (not (eqb «with_diag» 0)) (now (diag .entry))) entries (now (values .entry)) ⌝ }
+    ensures { λ r. ⌜ triResult r (now (values .exit)) [] ≡ triSolveDense
+        (tri true size (now (starts .entry)) (now (rows .entry)) (now (vals .entry)) (not (eqb «with_diag» 0))
+        (now (diag .entry))) entries (now (values .entry)) ⌝ }
 {
     let has_diag = with_diag != 0;
     let a = lu::tri_solve_dense(
@@ -124,8 +125,9 @@ pub extern "C" fn tevalumi_upper_dense(
     diag: &[f64],
     values: &mut [f64],
 ) -> face::TriAnswer
-    ensures { λ r. ⌜ triResult r (now (values .exit)) []
-        ≡ triSolveDense (tri false size (now (starts .entry)) (now (rows .entry)) (now (vals .entry)) (not (eqb «with_diag» 0)) (now (diag .entry))) entries (now (values .entry)) ⌝ }
+    ensures { λ r. ⌜ triResult r (now (values .exit)) [] ≡ triSolveDense
+        (tri false size (now (starts .entry)) (now (rows .entry)) (now (vals .entry)) (not (eqb «with_diag» 0))
+        (now (diag .entry))) entries (now (values .entry)) ⌝ }
 {
     let has_diag = with_diag != 0;
     let a = lu::tri_solve_dense(
@@ -160,9 +162,11 @@ pub extern "C" fn tevalumi_solve_dense(
     upper_diag: &[f64],
     values: &mut [f64],
 ) -> face::TriAnswer
-    ensures { λ r. ⌜ triResult r (now (values .exit)) []
-        ≡ solveDense (tri true size (now («lower_starts» .entry)) (now («lower_rows» .entry)) (now («lower_vals» .entry)) (not (eqb «lower_with_diag» 0)) (now («lower_diag» .entry))) «lower_entries»
-        (tri false size (now («upper_starts» .entry)) (now («upper_rows» .entry)) (now («upper_vals» .entry)) (not (eqb «upper_with_diag» 0)) (now («upper_diag» .entry))) «upper_entries» (now (values .entry)) ⌝ }
+    ensures { λ r. ⌜ triResult r (now (values .exit)) [] ≡ solveDense
+        (tri true size (now («lower_starts» .entry)) (now («lower_rows» .entry)) (now («lower_vals» .entry))
+        (not (eqb «lower_with_diag» 0)) (now («lower_diag» .entry))) «lower_entries»
+        (tri false size (now («upper_starts» .entry)) (now («upper_rows» .entry)) (now («upper_vals» .entry))
+        (not (eqb «upper_with_diag» 0)) (now («upper_diag» .entry))) «upper_entries» (now (values .entry)) ⌝ }
 {
     let lower_has_diag = lower_with_diag != 0;
     let upper_has_diag = upper_with_diag != 0;
@@ -206,7 +210,14 @@ pub extern "C" fn tevalumi_open(
     b: &mut [i64],
     counts: &mut [i64],
 ) -> usize
-    ensures { λ z. ⌜ Opens (sheetOf (planOf rows columns (now (coefs .entry)) (now (costs .entry)) (now (lowers .entry)) (now (uppers .entry)) (now («lower_marks» .entry)) (now («upper_marks» .entry)) (now (rights .entry)) (now (ops .entry)) (now (amounts .entry)) (now (mults .entry))) (keptOf (now (r .entry)) (now (d .entry)) (now (c .entry)) (now (b .entry)) (now (counts .entry)))) z (sheetOf (planOf rows columns (now (coefs .entry)) (now (costs .entry)) (now (lowers .entry)) (now (uppers .entry)) (now («lower_marks» .entry)) (now («upper_marks» .entry)) (now (rights .entry)) (now (ops .entry)) (now (amounts .entry)) (now (mults .entry))) (keptOf (now (r .exit)) (now (d .exit)) (now (c .exit)) (now (b .exit)) (now (counts .exit)))) ⌝ }
+    ensures { λ z. ⌜ Opens (sheetOf (planOf rows columns (now (coefs .entry)) (now (costs .entry)) (now (lowers .entry))
+        (now (uppers .entry)) (now («lower_marks» .entry)) (now («upper_marks» .entry)) (now (rights .entry))
+        (now (ops .entry)) (now (amounts .entry)) (now (mults .entry)))
+        (keptOf (now (r .entry)) (now (d .entry)) (now (c .entry)) (now (b .entry)) (now (counts .entry)))) z
+        (sheetOf (planOf rows columns (now (coefs .entry)) (now (costs .entry)) (now (lowers .entry))
+        (now (uppers .entry)) (now («lower_marks» .entry)) (now («upper_marks» .entry)) (now (rights .entry))
+        (now (ops .entry)) (now (amounts .entry)) (now (mults .entry)))
+        (keptOf (now (r .exit)) (now (d .exit)) (now (c .exit)) (now (b .exit)) (now (counts .exit)))) ⌝ }
 {
     sheet::open(
         rows,
@@ -254,7 +265,15 @@ pub extern "C" fn tevalumi_edit(
     b: &mut [i64],
     counts: &mut [i64],
 ) -> usize
-    ensures { λ z. ⌜ Edits (sheetOf (planOf rows columns (now (coefs .entry)) (now (costs .entry)) (now (lowers .entry)) (now (uppers .entry)) (now («lower_marks» .entry)) (now («upper_marks» .entry)) (now (rights .entry)) (now (ops .entry)) (now (amounts .entry)) (now (mults .entry))) (keptOf (now (r .entry)) (now (d .entry)) (now (c .entry)) (now (b .entry)) (now (counts .entry)))) (record { kind = kind; row = row; column = column; number = number }) z (sheetOf (planOf rows columns (now (coefs .exit)) (now (costs .exit)) (now (lowers .exit)) (now (uppers .exit)) (now («lower_marks» .exit)) (now («upper_marks» .exit)) (now (rights .exit)) (now (ops .entry)) (now (amounts .exit)) (now (mults .exit))) (keptOf (now (r .exit)) (now (d .exit)) (now (c .exit)) (now (b .exit)) (now (counts .exit)))) ⌝ }
+    ensures { λ z. ⌜ Edits (sheetOf (planOf rows columns (now (coefs .entry)) (now (costs .entry)) (now (lowers .entry))
+        (now (uppers .entry)) (now («lower_marks» .entry)) (now («upper_marks» .entry)) (now (rights .entry))
+        (now (ops .entry)) (now (amounts .entry)) (now (mults .entry)))
+        (keptOf (now (r .entry)) (now (d .entry)) (now (c .entry)) (now (b .entry)) (now (counts .entry))))
+        (record { kind = kind; row = row; column = column; number = number }) z
+        (sheetOf (planOf rows columns (now (coefs .exit)) (now (costs .exit)) (now (lowers .exit)) (now (uppers .exit))
+        (now («lower_marks» .exit)) (now («upper_marks» .exit)) (now (rights .exit)) (now (ops .entry))
+        (now (amounts .exit)) (now (mults .exit)))
+        (keptOf (now (r .exit)) (now (d .exit)) (now (c .exit)) (now (b .exit)) (now (counts .exit)))) ⌝ }
 {
     sheet::edit(
         kind,
@@ -302,7 +321,11 @@ pub extern "C" fn tevalumi_verdict(
     b: &[i64],
     counts: &[i64],
 ) -> face::SheetVerdict
-    ensures { λ z. ⌜ sheetNumbers z ≡ verdictNumbers (verdict (sheetOf (planOf rows columns (now (coefs .entry)) (now (costs .entry)) (now (lowers .entry)) (now (uppers .entry)) (now («lower_marks» .entry)) (now («upper_marks» .entry)) (now (rights .entry)) (now (ops .entry)) (now (amounts .entry)) (now (mults .entry))) (keptOf (now (r .entry)) (now (d .entry)) (now (c .entry)) (now (b .entry)) (now (counts .entry))))) ⌝ }
+    ensures { λ z. ⌜ sheetNumbers z ≡ verdictNumbers
+        (verdict (sheetOf (planOf rows columns (now (coefs .entry)) (now (costs .entry)) (now (lowers .entry))
+        (now (uppers .entry)) (now («lower_marks» .entry)) (now («upper_marks» .entry)) (now (rights .entry))
+        (now (ops .entry)) (now (amounts .entry)) (now (mults .entry)))
+        (keptOf (now (r .entry)) (now (d .entry)) (now (c .entry)) (now (b .entry)) (now (counts .entry))))) ⌝ }
 {
     let v = sheet::verdict(
         rows,
@@ -345,10 +368,11 @@ pub extern "C" fn tevalumi_solve(
     numbers: &mut [usize],
     doubles: &mut [f64],
 ) -> face::TevalumiAnswer
-    ensures { λ r. ⌜ faced r (now (values .exit)) (now (numbers .exit)) (now (doubles .exit))
-        ≡ facedBy (handed (solvePlan (Parts.planOf columns rows entries budget tolerance (now (costs .entry)) (now (lowers .entry)) (now (uppers .entry))
-        (now (starts .entry)) (now (cols .entry)) (now (coeffs .entry)) (now (ops .entry)) (now (rhs .entry)))
-        (memoryIn (now (values .entry)) (now (numbers .entry)) (now (doubles .entry)))) (pastOf (now (numbers .entry)) (now (doubles .entry)))) ⌝ }
+    ensures { λ r. ⌜ faced r (now (values .exit)) (now (numbers .exit)) (now (doubles .exit)) ≡ facedBy
+        (handed (solvePlan (Parts.planOf columns rows entries budget tolerance (now (costs .entry))
+        (now (lowers .entry)) (now (uppers .entry)) (now (starts .entry)) (now (cols .entry)) (now (coeffs .entry))
+        (now (ops .entry)) (now (rhs .entry))) (memoryIn (now (values .entry)) (now (numbers .entry))
+        (now (doubles .entry)))) (pastOf (now (numbers .entry)) (now (doubles .entry)))) ⌝ }
 {
     let a = solve::solve(
         columns,

@@ -1,5 +1,6 @@
-// What a program that replays a list reads and writes. Its input is words of eight bytes, the lowest byte first; what it writes is text.
-// No contract can say which bytes are read or written: these say what a word means, and that a count fits its array.
+// What a program that replays a list reads and writes. Its input is words of eight bytes, the lowest byte first; what
+// it writes is text. No contract can say which bytes are read or written: these say what a word means, and that a count
+// fits its array.
 ghost use mathlib.Core.Path.{_≡_};
 ghost use Prim.Native.Nat.{_%_, _≤_};
 ghost use lib.Ieee.{binary64, ofBits, toBits};
