@@ -195,7 +195,7 @@ TriAnswer tevalumi_solve_dense(
  *   costs                      columns; 2^20
  *   lowers, uppers             columns; 2^16; 0 where the bound is absent
  *   lower_marks, upper_marks   columns; 0 absent, 1 present
- *   rights                     rows; 2^31
+ *   rhs                     rows; 2^31
  *   ops                        rows; 0 is <=, 1 is =, 2 is >=
  *   amounts                    columns; 2^16
  *   mults                      rows, in 1/1024; 2^20
@@ -216,7 +216,7 @@ size_t tevalumi_open(
     const int64_t *uppers, size_t uppers_len,
     const uint8_t *lower_marks, size_t lower_marks_len,
     const uint8_t *upper_marks, size_t upper_marks_len,
-    const int64_t *rights, size_t rights_len,
+    const int64_t *rhs, size_t rhs_len,
     const uint8_t *ops, size_t ops_len,
     const int64_t *amounts, size_t amounts_len,
     const int64_t *mults, size_t mults_len,
@@ -246,7 +246,7 @@ SheetVerdict tevalumi_verdict(
     const int64_t *uppers, size_t uppers_len,
     const uint8_t *lower_marks, size_t lower_marks_len,
     const uint8_t *upper_marks, size_t upper_marks_len,
-    const int64_t *rights, size_t rights_len,
+    const int64_t *rhs, size_t rhs_len,
     const uint8_t *ops, size_t ops_len,
     const int64_t *amounts, size_t amounts_len,
     const int64_t *mults, size_t mults_len,
@@ -273,7 +273,7 @@ size_t tevalumi_edit(
     int64_t *uppers, size_t uppers_len,
     uint8_t *lower_marks, size_t lower_marks_len,
     uint8_t *upper_marks, size_t upper_marks_len,
-    int64_t *rights, size_t rights_len,
+    int64_t *rhs, size_t rhs_len,
     const uint8_t *ops, size_t ops_len,
     int64_t *amounts, size_t amounts_len,
     int64_t *mults, size_t mults_len,
@@ -305,7 +305,7 @@ TevalumiWritten tevalumi_write_plan(
     const int64_t *uppers, size_t uppers_len,
     const uint8_t *lower_marks, size_t lower_marks_len,
     const uint8_t *upper_marks, size_t upper_marks_len,
-    const int64_t *rights, size_t rights_len,
+    const int64_t *rhs, size_t rhs_len,
     const uint8_t *ops, size_t ops_len,
     const int64_t *amounts, size_t amounts_len,
     const int64_t *mults, size_t mults_len,
@@ -336,7 +336,7 @@ TevalumiRead tevalumi_read_plan(
     int64_t *uppers, size_t uppers_len,
     uint8_t *lower_marks, size_t lower_marks_len,
     uint8_t *upper_marks, size_t upper_marks_len,
-    int64_t *rights, size_t rights_len,
+    int64_t *rhs, size_t rhs_len,
     uint8_t *ops, size_t ops_len,
     int64_t *amounts, size_t amounts_len,
     int64_t *mults, size_t mults_len);

@@ -162,7 +162,7 @@ static void factors(void) {
 typedef struct {
     int64_t coefs[2], costs[2], lowers[2], uppers[2];
     uint8_t lower_marks[2], upper_marks[2];
-    int64_t rights[1];
+    int64_t rhs[1];
     uint8_t ops[1];
     int64_t amounts[2], mults[1];
     int64_t r[1], d[3], c[1], b[1], counts[4];
@@ -175,7 +175,7 @@ static Sheet n2(int64_t amount, int64_t mult) {
 
 #define PLAN(s) \
     ARRAY((s)->coefs), ARRAY((s)->costs), ARRAY((s)->lowers), ARRAY((s)->uppers), ARRAY((s)->lower_marks), ARRAY((s)->upper_marks), \
-        ARRAY((s)->rights), ARRAY((s)->ops), ARRAY((s)->amounts), ARRAY((s)->mults)
+        ARRAY((s)->rhs), ARRAY((s)->ops), ARRAY((s)->amounts), ARRAY((s)->mults)
 #define KEPT(s) ARRAY((s)->r), ARRAY((s)->d), ARRAY((s)->c), ARRAY((s)->b), ARRAY((s)->counts)
 
 static size_t open_sheet(Sheet *s) {
@@ -232,7 +232,7 @@ static void edits(void) {
     check(edit(&s, 1, 0, 0, 3) == 0 && s.r[0] == 3 && s.c[0] == -9, "an amount, its R and C");
     check(is(judge(&s), 0, 2, 3072), "N5: gap 3072, by an edit");
     check(edit(&s, 1, 0, 0, 5) == 0 && is(judge(&s), 0, 0, 0), "N5: not a plan, by an edit");
-    check(edit(&s, 5, 0, 0, 5) == 0 && s.rights[0] == 5 && s.counts[0] == 0, "a right side");
+    check(edit(&s, 5, 0, 0, 5) == 0 && s.rhs[0] == 5 && s.counts[0] == 0, "a right side");
     check(edit(&s, 9, 0, 1, 77) == 0 && s.uppers[1] == 0 && s.upper_marks[1] == 0, "an upper bound dropped");
     check(edit(&s, 4, 0, 1, 2) == 0 && s.uppers[1] == 2 && s.upper_marks[1] == 1, "and set again");
 

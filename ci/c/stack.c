@@ -51,12 +51,12 @@ static void *triangle(void *answer) {
 
 /* A multiplier moves on a sheet of every size. */
 static void *edit(void *answer) {
-    static int64_t coefs[ROWS * COLUMNS], costs[COLUMNS], lowers[COLUMNS], uppers[COLUMNS], rights[ROWS], amounts[COLUMNS], mults[ROWS], r[ROWS], d[COLUMNS],
+    static int64_t coefs[ROWS * COLUMNS], costs[COLUMNS], lowers[COLUMNS], uppers[COLUMNS], rhs[ROWS], amounts[COLUMNS], mults[ROWS], r[ROWS], d[COLUMNS],
         c[1], b[1], counts[4];
     static uint8_t low[COLUMNS], up[COLUMNS], ops[ROWS];
-    size_t opened = tevalumi_open(ROWS, COLUMNS, ARRAY(coefs), ARRAY(costs), ARRAY(lowers), ARRAY(uppers), ARRAY(low), ARRAY(up), ARRAY(rights), ARRAY(ops),
+    size_t opened = tevalumi_open(ROWS, COLUMNS, ARRAY(coefs), ARRAY(costs), ARRAY(lowers), ARRAY(uppers), ARRAY(low), ARRAY(up), ARRAY(rhs), ARRAY(ops),
         ARRAY(amounts), ARRAY(mults), ARRAY(r), ARRAY(d), ARRAY(c), ARRAY(b), ARRAY(counts));
-    size_t edited = tevalumi_edit(7, 3, 0, -5, ROWS, COLUMNS, ARRAY(coefs), ARRAY(costs), ARRAY(lowers), ARRAY(uppers), ARRAY(low), ARRAY(up), ARRAY(rights),
+    size_t edited = tevalumi_edit(7, 3, 0, -5, ROWS, COLUMNS, ARRAY(coefs), ARRAY(costs), ARRAY(lowers), ARRAY(uppers), ARRAY(low), ARRAY(up), ARRAY(rhs),
         ARRAY(ops), ARRAY(amounts), ARRAY(mults), ARRAY(r), ARRAY(d), ARRAY(c), ARRAY(b), ARRAY(counts));
     *(int *)answer = opened == 0 && edited == 0 && mults[3] == -5;
     return NULL;

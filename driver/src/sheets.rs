@@ -181,7 +181,7 @@ impl Arrays {
     }
 
     pub fn open(&mut self, rows: u64, columns: u64) -> usize {
-        let [coefs, costs, lowers, uppers, rights, amounts, mults, r, d, c, b, counts] =
+        let [coefs, costs, lowers, uppers, rhs, amounts, mults, r, d, c, b, counts] =
             &mut self.numbers;
         let [lower_marks, upper_marks, ops] = &self.bytes;
         tevalumi_open(
@@ -193,7 +193,7 @@ impl Arrays {
             uppers.get(),
             lower_marks.get(),
             upper_marks.get(),
-            rights.get(),
+            rhs.get(),
             ops.get(),
             amounts.get(),
             mults.get(),
@@ -206,7 +206,7 @@ impl Arrays {
     }
 
     pub fn edit(&mut self, rows: u64, columns: u64, edit: Edit) -> usize {
-        let [coefs, costs, lowers, uppers, rights, amounts, mults, r, d, c, b, counts] =
+        let [coefs, costs, lowers, uppers, rhs, amounts, mults, r, d, c, b, counts] =
             &mut self.numbers;
         let [lower_marks, upper_marks, ops] = &mut self.bytes;
         tevalumi_edit(
@@ -222,7 +222,7 @@ impl Arrays {
             uppers.lend(),
             lower_marks.lend(),
             upper_marks.lend(),
-            rights.lend(),
+            rhs.lend(),
             ops.get(),
             amounts.lend(),
             mults.lend(),
@@ -235,7 +235,7 @@ impl Arrays {
     }
 
     pub fn verdict(&self, rows: u64, columns: u64) -> Verdict {
-        let [coefs, costs, lowers, uppers, rights, amounts, mults, r, d, c, b, counts] =
+        let [coefs, costs, lowers, uppers, rhs, amounts, mults, r, d, c, b, counts] =
             &self.numbers;
         let [lower_marks, upper_marks, ops] = &self.bytes;
         let verdict = tevalumi_verdict(
@@ -247,7 +247,7 @@ impl Arrays {
             uppers.get(),
             lower_marks.get(),
             upper_marks.get(),
-            rights.get(),
+            rhs.get(),
             ops.get(),
             amounts.get(),
             mults.get(),
@@ -269,7 +269,7 @@ impl Arrays {
 
     /// The status, and how many bytes of the file were written.
     pub fn write_plan(&self, rows: u64, columns: u64, file: &mut [u8]) -> (usize, usize) {
-        let [coefs, costs, lowers, uppers, rights, amounts, mults, ..] = &self.numbers;
+        let [coefs, costs, lowers, uppers, rhs, amounts, mults, ..] = &self.numbers;
         let [lower_marks, upper_marks, ops] = &self.bytes;
         let written = tevalumi_write_plan(
             rows as usize,
@@ -280,7 +280,7 @@ impl Arrays {
             uppers.get(),
             lower_marks.get(),
             upper_marks.get(),
-            rights.get(),
+            rhs.get(),
             ops.get(),
             amounts.get(),
             mults.get(),
@@ -290,7 +290,7 @@ impl Arrays {
     }
 
     pub(crate) fn read_plan(&mut self, file: &[u8]) -> Read {
-        let [coefs, costs, lowers, uppers, rights, amounts, mults, ..] = &mut self.numbers;
+        let [coefs, costs, lowers, uppers, rhs, amounts, mults, ..] = &mut self.numbers;
         let [lower_marks, upper_marks, ops] = &mut self.bytes;
         tevalumi_read_plan(
             file,
@@ -300,7 +300,7 @@ impl Arrays {
             uppers.lend(),
             lower_marks.lend(),
             upper_marks.lend(),
-            rights.lend(),
+            rhs.lend(),
             ops.lend(),
             amounts.lend(),
             mults.lend(),

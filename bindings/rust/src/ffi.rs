@@ -123,7 +123,7 @@ call! {
     fn tevalumi_open(
         rows: usize, columns: usize,
         coefs: &[i64], costs: &[i64], lowers: &[i64], uppers: &[i64],
-        lower_marks: &[u8], upper_marks: &[u8], rights: &[i64], ops: &[u8],
+        lower_marks: &[u8], upper_marks: &[u8], rhs: &[i64], ops: &[u8],
         amounts: &[i64], mults: &[i64],
         r: &mut [i64], d: &mut [i64], c: &mut [i64], b: &mut [i64], counts: &mut [i64],
     ) -> usize
@@ -134,7 +134,7 @@ call! {
     fn tevalumi_edit(
         kind: usize, row: usize, column: usize, number: i64, rows: usize, columns: usize,
         coefs: &mut [i64], costs: &mut [i64], lowers: &mut [i64], uppers: &mut [i64],
-        lower_marks: &mut [u8], upper_marks: &mut [u8], rights: &mut [i64], ops: &[u8],
+        lower_marks: &mut [u8], upper_marks: &mut [u8], rhs: &mut [i64], ops: &[u8],
         amounts: &mut [i64], mults: &mut [i64],
         r: &mut [i64], d: &mut [i64], c: &mut [i64], b: &mut [i64], counts: &mut [i64],
     ) -> usize
@@ -145,7 +145,7 @@ call! {
     fn tevalumi_verdict(
         rows: usize, columns: usize,
         coefs: &[i64], costs: &[i64], lowers: &[i64], uppers: &[i64],
-        lower_marks: &[u8], upper_marks: &[u8], rights: &[i64], ops: &[u8],
+        lower_marks: &[u8], upper_marks: &[u8], rhs: &[i64], ops: &[u8],
         amounts: &[i64], mults: &[i64],
         r: &[i64], d: &[i64], c: &[i64], b: &[i64], counts: &[i64],
     ) -> SheetVerdict
@@ -156,7 +156,7 @@ call! {
     fn tevalumi_write_plan(
         rows: usize, columns: usize,
         coefs: &[i64], costs: &[i64], lowers: &[i64], uppers: &[i64],
-        lower_marks: &[u8], upper_marks: &[u8], rights: &[i64], ops: &[u8],
+        lower_marks: &[u8], upper_marks: &[u8], rhs: &[i64], ops: &[u8],
         amounts: &[i64], mults: &[i64],
         file: &mut [u8],
     ) -> Written
@@ -167,7 +167,7 @@ call! {
     fn tevalumi_read_plan(
         file: &[u8],
         coefs: &mut [i64], costs: &mut [i64], lowers: &mut [i64], uppers: &mut [i64],
-        lower_marks: &mut [u8], upper_marks: &mut [u8], rights: &mut [i64], ops: &mut [u8],
+        lower_marks: &mut [u8], upper_marks: &mut [u8], rhs: &mut [i64], ops: &mut [u8],
         amounts: &mut [i64], mults: &mut [i64],
     ) -> Read
 }

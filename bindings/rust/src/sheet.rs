@@ -17,7 +17,7 @@
 //!     costs: vec![-3, -1],
 //!     lowers: vec![Some(0), Some(0)],
 //!     uppers: vec![None, Some(2)],
-//!     rights: vec![4],
+//!     rhs: vec![4],
 //!     ops: vec![ComparisonOp::Le],
 //!     amounts: vec![4, 0],
 //!     mults: vec![-3 * 1024],
@@ -122,7 +122,7 @@ pub struct Figures {
     /// An upper bound for each column, at most 2^16 in size, or none.
     pub uppers: Vec<Option<i64>>,
     /// A right side for each row, at most 2^31 in size.
-    pub rights: Vec<i64>,
+    pub rhs: Vec<i64>,
     /// A comparison for each row.
     pub ops: Vec<ComparisonOp>,
     /// An amount for each column, at most 2^16 in size.
@@ -188,7 +188,7 @@ pub struct Sheet {
     uppers: Vec<i64>,
     lower_marks: Vec<u8>,
     upper_marks: Vec<u8>,
-    rights: Vec<i64>,
+    rhs: Vec<i64>,
     ops: Vec<u8>,
     amounts: Vec<i64>,
     mults: Vec<i64>,
@@ -218,7 +218,7 @@ impl Sheet {
             uppers: number(&figures.uppers),
             lower_marks: mark(&figures.lowers),
             upper_marks: mark(&figures.uppers),
-            rights: figures.rights.clone(),
+            rhs: figures.rhs.clone(),
             ops: figures.ops.iter().map(|op| op.code()).collect(),
             amounts: figures.amounts.clone(),
             mults: figures.mults.clone(),
@@ -291,7 +291,7 @@ impl Sheet {
             uppers: vec![0; columns],
             lower_marks: vec![0; columns],
             upper_marks: vec![0; columns],
-            rights: vec![0; rows],
+            rhs: vec![0; rows],
             ops: vec![0; rows],
             amounts: vec![0; columns],
             mults: vec![0; rows],
@@ -308,7 +308,7 @@ impl Sheet {
             uppers: &mut sheet.uppers,
             lower_marks: &mut sheet.lower_marks,
             upper_marks: &mut sheet.upper_marks,
-            rights: &mut sheet.rights,
+            rhs: &mut sheet.rhs,
             ops: &mut sheet.ops,
             amounts: &mut sheet.amounts,
             mults: &mut sheet.mults,
@@ -327,7 +327,7 @@ impl Sheet {
     fn trim(&mut self) {
         let (rows, columns) = (self.rows, self.columns);
         self.coefs.truncate(rows * columns);
-        for cells in [&mut self.rights, &mut self.mults, &mut self.r] {
+        for cells in [&mut self.rhs, &mut self.mults, &mut self.r] {
             cells.truncate(rows);
         }
         for cells in [
@@ -354,7 +354,7 @@ impl Sheet {
             uppers: &mut self.uppers,
             lower_marks: &mut self.lower_marks,
             upper_marks: &mut self.upper_marks,
-            rights: &mut self.rights,
+            rhs: &mut self.rhs,
             ops: &self.ops,
             amounts: &mut self.amounts,
             mults: &mut self.mults,
@@ -376,7 +376,7 @@ impl Sheet {
             uppers: &self.uppers,
             lower_marks: &self.lower_marks,
             upper_marks: &self.upper_marks,
-            rights: &self.rights,
+            rhs: &self.rhs,
             ops: &self.ops,
             amounts: &self.amounts,
             mults: &self.mults,
@@ -425,7 +425,7 @@ impl Sheet {
 
     /// A row's right side.
     pub fn right(&self, row: usize) -> i64 {
-        self.rights[row]
+        self.rhs[row]
     }
 
     /// A row's comparison.

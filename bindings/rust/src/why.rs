@@ -18,7 +18,7 @@
 //!     costs: vec![-3, -1],
 //!     lowers: vec![Some(0), Some(0)],
 //!     uppers: vec![None, None],
-//!     rights: vec![9, 4],
+//!     rhs: vec![9, 4],
 //!     ops: vec![Ge, Le],
 //!     ..Figures::default()
 //! };
@@ -118,10 +118,10 @@ fn can_be_opened(plan: &Figures) -> bool {
     rows <= limits::ROWS
         && columns <= limits::COLUMNS
         && plan.coefs.len() == rows * columns
-        && plan.rights.len() == rows
+        && plan.rhs.len() == rows
         && plan.ops.len() == rows
         && within(&plan.coefs, limits::SHEET_COEFFICIENT)
-        && within(&plan.rights, limits::SHEET_RIGHT)
+        && within(&plan.rhs, limits::SHEET_RIGHT)
         && bounds(&plan.lowers)
         && bounds(&plan.uppers)
         && pairs.all(|(lower, upper)| lower.is_none() || upper.is_none() || lower <= upper)
@@ -139,7 +139,7 @@ fn shows(plan: &Figures, mults: &[i64]) -> bool {
         if wrong || mult.abs() > limits::SHEET_MULTIPLIER {
             return false;
         }
-        floor += i128::from(mult) * i128::from(plan.rights[i]);
+        floor += i128::from(mult) * i128::from(plan.rhs[i]);
     }
     for j in 0..plan.columns {
         let coef = |i: usize| i128::from(plan.coefs[i * plan.columns + j]);
@@ -499,7 +499,7 @@ impl<T: Number> Tableau<T> {
         cell: impl Fn(Side, usize) -> T,
     ) -> Result<Tableau<T>, TooLarge> {
         let columns = plan.columns;
-        let right = |side: &Side| Some(plan.rights[side.row]);
+        let right = |side: &Side| Some(plan.rhs[side.row]);
         let row_lower = sides.iter().map(|side| match side.op {
             ComparisonOp::Le => None,
             _ => right(side),
@@ -724,7 +724,7 @@ mod tests {
             coefs: vec![1, 1],
             lowers: vec![Some(0)],
             uppers: vec![None],
-            rights: vec![5, 3],
+            rhs: vec![5, 3],
             ops: vec![ComparisonOp::Ge, ComparisonOp::Le],
             ..Figures::default()
         };

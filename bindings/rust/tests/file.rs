@@ -18,7 +18,7 @@ fn n5() -> Figures {
         costs: vec![-3, -1],
         lowers: vec![Some(0), Some(0)],
         uppers: vec![None, Some(2)],
-        rights: vec![4],
+        rhs: vec![4],
         ops: vec![ComparisonOp::Le],
         amounts: vec![4, 0],
         mults: vec![-3072],
@@ -41,7 +41,7 @@ fn large(rows: usize, columns: usize, rng: &mut Rng) -> Figures {
             .map(|low| (low % 3 != 0).then_some(low))
             .collect(),
         uppers: vec![Some(limits::SHEET_AMOUNT); columns],
-        rights: up_to(limits::SHEET_RIGHT, rows),
+        rhs: up_to(limits::SHEET_RIGHT, rows),
         ops: up_to(1, rows)
             .into_iter()
             .map(|op| match op {
@@ -153,7 +153,7 @@ fn one_byte_changed() {
 fn lent_memory() {
     let file = Sheet::open(&n5()).unwrap().to_bytes();
     for lent_amounts in [1, 2] {
-        let (mut coefs, mut costs, mut rights) = ([7; 3], [7; 3], [7; 2]);
+        let (mut coefs, mut costs, mut rhs) = ([7; 3], [7; 3], [7; 2]);
         let (mut lowers, mut uppers, mut amounts, mut mults) = ([7; 2], [7; 2], [7; 2], [7; 1]);
         let (mut low, mut up, mut ops) = ([7; 2], [7; 2], [7; 1]);
         let read = FiguresMut {
@@ -163,7 +163,7 @@ fn lent_memory() {
             uppers: &mut uppers,
             lower_marks: &mut low,
             upper_marks: &mut up,
-            rights: &mut rights,
+            rhs: &mut rhs,
             ops: &mut ops,
             amounts: &mut amounts[..lent_amounts],
             mults: &mut mults,
@@ -172,14 +172,14 @@ fn lent_memory() {
         if lent_amounts < 2 {
             let (refusal, block) = (Refusal::BadSize, 0);
             assert_eq!(read, Err(BadFile { refusal, block }));
-            assert_eq!((coefs, costs, rights), ([7; 3], [7; 3], [7; 2]));
+            assert_eq!((coefs, costs, rhs), ([7; 3], [7; 3], [7; 2]));
             assert_eq!((amounts, mults), ([7; 2], [7; 1]));
             assert_eq!((lowers, uppers), ([7; 2], [7; 2]));
             assert_eq!((low, up, ops), ([7; 2], [7; 2], [7; 1]));
             continue;
         }
         assert_eq!(read, Ok((1, 2)));
-        assert_eq!((coefs, costs, rights), ([1, 1, 7], [-3, -1, 7], [4, 7]));
+        assert_eq!((coefs, costs, rhs), ([1, 1, 7], [-3, -1, 7], [4, 7]));
         assert_eq!((amounts, mults), ([4, 0], [-3072]));
         assert_eq!((lowers, uppers), ([0, 0], [0, 2]));
         assert_eq!((low, up, ops), ([1, 1], [0, 1], [0]));

@@ -16,7 +16,7 @@ fn n5(amounts: [i64; 2], mult: i64) -> Figures {
         costs: vec![-3, -1],
         lowers: vec![Some(0), Some(0)],
         uppers: vec![None, Some(2)],
-        rights: vec![4],
+        rhs: vec![4],
         ops: vec![ComparisonOp::Le],
         amounts: amounts.to_vec(),
         mults: vec![mult],
@@ -100,7 +100,7 @@ fn each_edit_is_a_fresh_sheet() {
             f.lowers[1] = Some(-7)
         }),
         (Edit::Upper { column: 0, to: 3 }, |f| f.uppers[0] = Some(3)),
-        (Edit::Right { row: 0, to: 3 }, |f| f.rights[0] = 3),
+        (Edit::Right { row: 0, to: 3 }, |f| f.rhs[0] = 3),
         (
             Edit::Coefficient {
                 row: 0,
@@ -149,7 +149,7 @@ fn apply(figures: &mut Figures, edit: Edit) {
         Edit::Cost { column, to } => figures.costs[column] = to,
         Edit::Lower { column, to } => figures.lowers[column] = Some(to),
         Edit::Upper { column, to } => figures.uppers[column] = Some(to),
-        Edit::Right { row, to } => figures.rights[row] = to,
+        Edit::Right { row, to } => figures.rhs[row] = to,
         Edit::Coefficient { row, column, to } => figures.coefs[row * figures.columns + column] = to,
         Edit::Multiplier { row, to } => figures.mults[row] = to,
         Edit::DropLower { column } => figures.lowers[column] = None,
@@ -176,7 +176,7 @@ fn edits_in_long_runs() {
             uppers: (0..columns)
                 .map(|_| Some(rng.between(0, 5)).filter(|up| up % 2 == 0))
                 .collect(),
-            rights: (0..rows).map(|_| rng.between(0, 30)).collect(),
+            rhs: (0..rows).map(|_| rng.between(0, 30)).collect(),
             ops: (0..rows).map(|row| ops[row % 3]).collect(),
             amounts: vec![0; columns],
             mults: vec![0; rows],
@@ -231,7 +231,7 @@ fn opening_refuses_by_number() {
         |f| f.costs.truncate(1),
         |f| f.lowers.truncate(1),
         |f| f.uppers.truncate(1),
-        |f| f.rights.clear(),
+        |f| f.rhs.clear(),
         |f| f.ops.clear(),
         |f| f.amounts.truncate(1),
         |f| f.mults.clear(),
@@ -247,7 +247,7 @@ fn opening_refuses_by_number() {
         |f, past| f.costs[0] = -(1 << 20) - past,
         |f, past| f.lowers[1] = Some(-(1 << 16) - past),
         |f, past| f.uppers[1] = Some((1 << 16) + past),
-        |f, past| f.rights[0] = (1 << 31) + past,
+        |f, past| f.rhs[0] = (1 << 31) + past,
         |f, past| f.amounts[1] = (1 << 16) + past,
         |f, past| f.mults[0] = -(1 << 20) - past,
     ];
@@ -354,7 +354,7 @@ impl Lent {
     fn lend(&mut self) -> SheetMut<'_> {
         let [coefs, costs, lowers, uppers, amounts] = &mut self.plan;
         let [lower_marks, upper_marks] = &mut self.marks;
-        let [rights, mults, r] = &mut self.rows;
+        let [rhs, mults, r] = &mut self.rows;
         let [c, b] = &mut self.sums;
         SheetMut {
             rows: 1,
@@ -365,7 +365,7 @@ impl Lent {
             uppers,
             lower_marks,
             upper_marks,
-            rights,
+            rhs,
             ops: &self.ops,
             amounts,
             mults,

@@ -19,7 +19,7 @@ fn floor(plan: &Figures, mults: &[i64]) -> i128 {
             Ge => assert!(y >= 0),
             Eq => {}
         }
-        floor += i128::from(y) * i128::from(plan.rights[i]);
+        floor += i128::from(y) * i128::from(plan.rhs[i]);
     }
     for j in 0..plan.columns {
         let mut price = 0;
@@ -62,7 +62,7 @@ fn plan(
         costs: vec![7; bounds.len()],
         lowers: bounds.iter().map(|&(lower, _)| lower).collect(),
         uppers: bounds.iter().map(|&(_, upper)| upper).collect(),
-        rights: rows.iter().map(|&(_, right)| right).collect(),
+        rhs: rows.iter().map(|&(_, right)| right).collect(),
         ops: rows.iter().map(|&(op, _)| op).collect(),
         ..Figures::default()
     }
@@ -143,7 +143,7 @@ fn the_largest_numbers() {
         coefs: vec![4096; ROWS * 128],
         lowers: vec![wide.0; 128],
         uppers: vec![wide.1; 128],
-        rights: (0..ROWS).map(|i| [1 << 31, -1 << 31][i % 2]).collect(),
+        rhs: (0..ROWS).map(|i| [1 << 31, -1 << 31][i % 2]).collect(),
         ops: vec![Eq; ROWS],
         ..Figures::default()
     };
@@ -213,7 +213,7 @@ impl Made {
     fn push(&mut self, coefs: &[i64], op: ComparisonOp, right: i64) {
         self.plan.coefs.extend(coefs);
         self.plan.ops.push(op);
-        self.plan.rights.push(right);
+        self.plan.rhs.push(right);
         self.plan.rows += 1;
     }
 
@@ -253,7 +253,7 @@ impl Made {
             for (j, coef) in coefs.iter_mut().enumerate() {
                 *coef += weight * self.plan.coefs[i * columns + j];
             }
-            right += weight * self.plan.rights[i];
+            right += weight * self.plan.rhs[i];
         }
         if with_bounds {
             // More in some columns, by what their bounds allow at least.
@@ -294,7 +294,7 @@ impl Made {
         for i in (1..self.plan.rows).rev() {
             let other = self.rng.below(i + 1);
             self.plan.ops.swap(i, other);
-            self.plan.rights.swap(i, other);
+            self.plan.rhs.swap(i, other);
             for j in 0..columns {
                 self.plan.coefs.swap(i * columns + j, other * columns + j);
             }

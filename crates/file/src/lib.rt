@@ -25,13 +25,13 @@ fn plan_sized(
     uppers: &[i64],
     lower_marks: &[u8],
     upper_marks: &[u8],
-    rights: &[i64],
+    rhs: &[i64],
     ops: &[u8],
     amounts: &[i64],
     mults: &[i64],
 ) -> bool
     ensures { λ z. ⌜ z ≡ planSized (planOf rows columns (now (coefs .entry)) (now (costs .entry)) (now (lowers .entry))
-        (now (uppers .entry)) (now («lower_marks» .entry)) (now («upper_marks» .entry)) (now (rights .entry))
+        (now (uppers .entry)) (now («lower_marks» .entry)) (now («upper_marks» .entry)) (now (rhs .entry))
         (now (ops .entry)) (now (amounts .entry)) (now (mults .entry))) ⌝ }
 {
     if (rows <= doubles::MAX_ROWS) & (columns <= doubles::MAX_COLUMNS) {
@@ -42,7 +42,7 @@ fn plan_sized(
             & (columns <= uppers.len())
             & (columns <= lower_marks.len())
             & (columns <= upper_marks.len())
-            & (rows <= rights.len())
+            & (rows <= rhs.len())
             & (rows <= ops.len())
             & (columns <= amounts.len())
             & (rows <= mults.len());
@@ -60,7 +60,7 @@ fn write_refusal(
     uppers: &[i64],
     lower_marks: &[u8],
     upper_marks: &[u8],
-    rights: &[i64],
+    rhs: &[i64],
     ops: &[u8],
     amounts: &[i64],
     mults: &[i64],
@@ -68,7 +68,7 @@ fn write_refusal(
 ) -> usize
     ensures { λ r. ⌜ r ≡ writeRefusal (planOf rows columns (now (coefs .entry)) (now (costs .entry))
         (now (lowers .entry)) (now (uppers .entry)) (now («lower_marks» .entry)) (now («upper_marks» .entry))
-        (now (rights .entry)) (now (ops .entry)) (now (amounts .entry)) (now (mults .entry))) (now (file .entry)) ⌝ }
+        (now (rhs .entry)) (now (ops .entry)) (now (amounts .entry)) (now (mults .entry))) (now (file .entry)) ⌝ }
 {
     if !plan_sized(
         rows,
@@ -79,7 +79,7 @@ fn write_refusal(
         uppers,
         lower_marks,
         upper_marks,
-        rights,
+        rhs,
         ops,
         amounts,
         mults,
@@ -98,7 +98,7 @@ fn write_refusal(
         uppers,
         lower_marks,
         upper_marks,
-        rights,
+        rhs,
         ops,
         amounts,
         mults,
@@ -114,7 +114,7 @@ fn write_refusal(
         uppers,
         lower_marks,
         upper_marks,
-        rights,
+        rhs,
         ops,
         amounts,
         mults,
@@ -134,14 +134,14 @@ pub fn write_plan(
     uppers: &[i64],
     lower_marks: &[u8],
     upper_marks: &[u8],
-    rights: &[i64],
+    rhs: &[i64],
     ops: &[u8],
     amounts: &[i64],
     mults: &[i64],
     file: &mut [u8],
 ) -> Writing
     ensures { λ r. ⌜ Writes (planOf rows columns (now (coefs .entry)) (now (costs .entry)) (now (lowers .entry))
-        (now (uppers .entry)) (now («lower_marks» .entry)) (now («upper_marks» .entry)) (now (rights .entry))
+        (now (uppers .entry)) (now («lower_marks» .entry)) (now («upper_marks» .entry)) (now (rhs .entry))
         (now (ops .entry)) (now (amounts .entry)) (now (mults .entry))) (now (file .entry)) r (now (file .exit)) ⌝ }
 {
     let refusal = write_refusal(
@@ -153,7 +153,7 @@ pub fn write_plan(
         uppers,
         lower_marks,
         upper_marks,
-        rights,
+        rhs,
         ops,
         amounts,
         mults,
@@ -171,7 +171,7 @@ pub fn write_plan(
         uppers,
         lower_marks,
         upper_marks,
-        rights,
+        rhs,
         ops,
         amounts,
         mults,
@@ -230,13 +230,13 @@ fn judge(
     uppers: &[i64],
     lower_marks: &[u8],
     upper_marks: &[u8],
-    rights: &[i64],
+    rhs: &[i64],
     ops: &[u8],
     amounts: &[i64],
     mults: &[i64],
 ) -> Reading
     ensures { λ r. ⌜ r ≡ readingOf (readFile (planOf 0 0 (now (coefs .entry)) (now (costs .entry)) (now (lowers .entry))
-        (now (uppers .entry)) (now («lower_marks» .entry)) (now («upper_marks» .entry)) (now (rights .entry))
+        (now (uppers .entry)) (now («lower_marks» .entry)) (now («upper_marks» .entry)) (now (rhs .entry))
         (now (ops .entry)) (now (amounts .entry)) (now (mults .entry))) (now (file .entry))) ⌝ }
 {
     let first = first_refusal(file);
@@ -257,7 +257,7 @@ fn judge(
         uppers,
         lower_marks,
         upper_marks,
-        rights,
+        rhs,
         ops,
         amounts,
         mults,
@@ -280,16 +280,16 @@ pub fn read_plan(
     uppers: &mut [i64],
     lower_marks: &mut [u8],
     upper_marks: &mut [u8],
-    rights: &mut [i64],
+    rhs: &mut [i64],
     ops: &mut [u8],
     amounts: &mut [i64],
     mults: &mut [i64],
 ) -> Reading
     ensures { λ r. ⌜ Reads (now (file .entry)) (planOf 0 0 (now (coefs .entry)) (now (costs .entry))
         (now (lowers .entry)) (now (uppers .entry)) (now («lower_marks» .entry)) (now («upper_marks» .entry))
-        (now (rights .entry)) (now (ops .entry)) (now (amounts .entry)) (now (mults .entry))) r
+        (now (rhs .entry)) (now (ops .entry)) (now (amounts .entry)) (now (mults .entry))) r
         (planOf 0 0 (now (coefs .exit)) (now (costs .exit)) (now (lowers .exit)) (now (uppers .exit))
-        (now («lower_marks» .exit)) (now («upper_marks» .exit)) (now (rights .exit)) (now (ops .exit))
+        (now («lower_marks» .exit)) (now («upper_marks» .exit)) (now (rhs .exit)) (now (ops .exit))
         (now (amounts .exit)) (now (mults .exit))) ⌝ }
 {
     let answer = judge(
@@ -300,7 +300,7 @@ pub fn read_plan(
         uppers,
         lower_marks,
         upper_marks,
-        rights,
+        rhs,
         ops,
         amounts,
         mults,
@@ -317,7 +317,7 @@ pub fn read_plan(
                 uppers,
                 lower_marks,
                 upper_marks,
-                rights,
+                rhs,
                 ops,
                 amounts,
                 mults,

@@ -31,7 +31,7 @@ pub record Placed (m n : ℕ) (p : Places) (len : ℕ) : Type 0 where
   pub uppers-in : blockSize * (p .uppers + ceil (8 * n)) ≤ len
   pub lowerMarks-in : blockSize * (p .«lower_marks» + ceil n) ≤ len
   pub upperMarks-in : blockSize * (p .«upper_marks» + ceil n) ≤ len
-  pub rights-in : blockSize * (p .rights + ceil (8 * m)) ≤ len
+  pub rhs-in : blockSize * (p .rhs + ceil (8 * m)) ≤ len
   pub ops-in : blockSize * (p .ops + ceil m) ≤ len
   pub amounts-in : blockSize * (p .amounts + ceil (8 * n)) ≤ len
   pub mults-in : blockSize * (p .mults + ceil (8 * m)) ≤ len
@@ -44,7 +44,7 @@ placed-of m n len h = record {
   uppers-in = omega arith;
   lowerMarks-in = omega arith;
   upperMarks-in = omega arith;
-  rights-in = omega arith;
+  rhs-in = omega arith;
   ops-in = omega arith;
   amounts-in = omega arith;
   mults-in = omega arith;

@@ -163,7 +163,7 @@ module _ (f : List ℕ) where
 
     shape-parts : payload (shape m n) 1
         ≡ payload (array 2 (8 * (m * n))) 1 ++ (payload (array 3 (8 * n)) (p .costs) ++ (payload (array 4 (8 * n)) (p .lowers) ++ (payload (array 5 (8 * n)) (p .uppers) ++ (payload (array 6 n) (p .«lower_marks») ++ (payload (array 7 n) (p .«upper_marks»)
-        ++ (payload (array 8 (8 * m)) (p .rights) ++ (payload (array 9 m) (p .ops) ++ (payload (array 10 (8 * n)) (p .amounts) ++ (payload (array 10 (8 * m)) (p .mults) ++ payload (slot 255 0 ∷ []) (p .end))))))))))
+        ++ (payload (array 8 (8 * m)) (p .rhs) ++ (payload (array 9 m) (p .ops) ++ (payload (array 10 (8 * n)) (p .amounts) ++ (payload (array 10 (8 * m)) (p .mults) ++ payload (slot 255 0 ∷ []) (p .end))))))))))
     unfolding shape
     shape-parts =
         behind 2 (8 * (m * n)) _ 1 _
@@ -172,7 +172,7 @@ module _ (f : List ℕ) where
         (behind 5 (8 * n) _ (p .uppers) _
         (behind 6 n _ (p .«lower_marks») _
         (behind 7 n _ (p .«upper_marks») _
-        (behind 8 (8 * m) _ (p .rights) _
+        (behind 8 (8 * m) _ (p .rhs) _
         (behind 9 m _ (p .ops) _
         (behind 10 (8 * n) _ (p .amounts) _
         (behind 10 (8 * m) _ (p .mults) _ refl)))))))))
@@ -189,7 +189,7 @@ module _ (f : List ℕ) where
           off 5 (8 * n) (p .uppers) _ (i .uppers-in),
           off 6 n (p .«lower_marks») _ (i .lowerMarks-in),
           off 7 n (p .«upper_marks») _ (i .upperMarks-in),
-          off 8 (8 * m) (p .rights) _ (i .rights-in),
+          off 8 (8 * m) (p .rhs) _ (i .rhs-in),
           off 9 m (p .ops) _ (i .ops-in),
           off 10 (8 * n) (p .amounts) _ (i .amounts-in),
           numbers-are 2 (m * n) 1 _ (i .coefs-in),
@@ -198,7 +198,7 @@ module _ (f : List ℕ) where
           numbers-are 5 n (p .uppers) _ (i .uppers-in),
           bytes-are 6 n (p .«lower_marks») _ (i .lowerMarks-in),
           bytes-are 7 n (p .«upper_marks») _ (i .upperMarks-in),
-          numbers-are 8 m (p .rights) _ (i .rights-in),
+          numbers-are 8 m (p .rhs) _ (i .rhs-in),
           bytes-are 9 m (p .ops) _ (i .ops-in),
           numbers-are 10 n (p .amounts) _ (i .amounts-in),
           numbers-are 10 m (p .mults) _ (i .mults-in),

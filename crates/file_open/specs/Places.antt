@@ -17,8 +17,8 @@ placesOf m n =
     let uppers = lowers + ceil (8 * n) in
     let lowerMarks = uppers + ceil (8 * n) in
     let upperMarks = lowerMarks + ceil n in
-    let rights = upperMarks + ceil n in
-    let ops = rights + ceil (8 * m) in
+    let rhs = upperMarks + ceil n in
+    let ops = rhs + ceil (8 * m) in
     let amounts = ops + ceil m in
     let mults = amounts + ceil (8 * n) in
     record {
@@ -27,7 +27,7 @@ placesOf m n =
       uppers = uppers;
       «lower_marks» = lowerMarks;
       «upper_marks» = upperMarks;
-      rights = rights;
+      rhs = rhs;
       ops = ops;
       amounts = amounts;
       mults = mults;
@@ -37,7 +37,7 @@ placesOf m n =
 unfoldable pub planAt : List ℕ → ℕ → ℕ → Plan
 planAt f m n =
     let p = placesOf m n in
-    planOf m n (table (m * n) (numberAt f 1)) (table n (numberAt f (p .costs))) (table n (numberAt f (p .lowers))) (table n (numberAt f (p .uppers))) (table n (byteAt f (p .«lower_marks»))) (table n (byteAt f (p .«upper_marks»))) (table m (numberAt f (p .rights))) (table m (byteAt f (p .ops))) (table n (numberAt f (p .amounts))) (table m (numberAt f (p .mults)))
+    planOf m n (table (m * n) (numberAt f 1)) (table n (numberAt f (p .costs))) (table n (numberAt f (p .lowers))) (table n (numberAt f (p .uppers))) (table n (byteAt f (p .«lower_marks»))) (table n (byteAt f (p .«upper_marks»))) (table m (numberAt f (p .rhs))) (table m (byteAt f (p .ops))) (table n (numberAt f (p .amounts))) (table m (numberAt f (p .mults)))
 
 -- a file that has every block of these sizes
 pub record Whole (m n : ℕ) (f : List ℕ) : Type 0 where

@@ -22,7 +22,7 @@ pub struct Places {
     pub uppers: usize,
     pub lower_marks: usize,
     pub upper_marks: usize,
-    pub rights: usize,
+    pub rhs: usize,
     pub ops: usize,
     pub amounts: usize,
     pub mults: usize,
@@ -46,16 +46,16 @@ pub fn layout(rows: usize, columns: usize) -> Places
     let sides = ceil(8 * rows);
     let costs = 1 + ceil(8 * (rows * columns));
     let lower_marks = costs + numbers + numbers + numbers;
-    let rights = lower_marks + marks + marks;
-    let amounts = rights + sides + ceil(rows);
+    let rhs = lower_marks + marks + marks;
+    let amounts = rhs + sides + ceil(rows);
     Places {
         costs: costs,
         lowers: costs + numbers,
         uppers: costs + numbers + numbers,
         lower_marks: lower_marks,
         upper_marks: lower_marks + marks,
-        rights: rights,
-        ops: rights + sides,
+        rhs: rhs,
+        ops: rhs + sides,
         amounts: amounts,
         mults: amounts + numbers,
         end: amounts + numbers + sides,
@@ -71,7 +71,7 @@ fn arrays_fine(file: &[u8], rows: usize, columns: usize) -> bool
     all_within(file, doubles::MAX_COST, p.costs, columns)
         & bounds_fine(file, p.lower_marks, p.lowers, columns)
         & bounds_fine(file, p.upper_marks, p.uppers, columns)
-        & all_within(file, doubles::MAX_RIGHT_SIDE, p.rights, rows)
+        & all_within(file, doubles::MAX_RIGHT_SIDE, p.rhs, rows)
         & ops_fine(file, p.ops, rows)
         & all_within(file, doubles::MAX_AMOUNT, p.amounts, columns)
         & all_within(file, doubles::MAX_MULTIPLIER, p.mults, rows)
@@ -111,19 +111,19 @@ pub fn take_plan(
     uppers: &mut [i64],
     lower_marks: &mut [u8],
     upper_marks: &mut [u8],
-    rights: &mut [i64],
+    rhs: &mut [i64],
     ops: &mut [u8],
     amounts: &mut [i64],
     mults: &mut [i64],
 )
     requires { ⌜ Whole rows columns (now file) × PlanSized
         (planOf rows columns (now coefs) (now costs) (now lowers) (now uppers) (now «lower_marks») (now «upper_marks»)
-        (now rights) (now ops) (now amounts) (now mults)) ⌝ }
+        (now rhs) (now ops) (now amounts) (now mults)) ⌝ }
     ensures { λ _. ⌜ planOf 0 0 (now (coefs .exit)) (now (costs .exit)) (now (lowers .exit)) (now (uppers .exit))
-        (now («lower_marks» .exit)) (now («upper_marks» .exit)) (now (rights .exit)) (now (ops .exit))
+        (now («lower_marks» .exit)) (now («upper_marks» .exit)) (now (rhs .exit)) (now (ops .exit))
         (now (amounts .exit)) (now (mults .exit)) ≡ overPlan (planAt (now (file .entry)) rows columns)
         (planOf 0 0 (now (coefs .entry)) (now (costs .entry)) (now (lowers .entry)) (now (uppers .entry))
-        (now («lower_marks» .entry)) (now («upper_marks» .entry)) (now (rights .entry)) (now (ops .entry))
+        (now («lower_marks» .entry)) (now («upper_marks» .entry)) (now (rhs .entry)) (now (ops .entry))
         (now (amounts .entry)) (now (mults .entry))) ⌝ }
 {
     let p = layout(rows, columns);
@@ -133,7 +133,7 @@ pub fn take_plan(
     take_numbers(file, p.uppers, columns, uppers);
     take_bytes(file, p.lower_marks, columns, lower_marks);
     take_bytes(file, p.upper_marks, columns, upper_marks);
-    take_numbers(file, p.rights, rows, rights);
+    take_numbers(file, p.rhs, rows, rhs);
     take_bytes(file, p.ops, rows, ops);
     take_numbers(file, p.amounts, columns, amounts);
     take_numbers(file, p.mults, rows, mults);

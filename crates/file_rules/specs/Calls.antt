@@ -43,7 +43,7 @@ readingOf (plan p) = Held (p .rows) (p .cols)
 
 unfoldable pub overPlan : Plan → Plan → Plan
 overPlan p l =
-    planOf (l .rows) (l .cols) (over (p .coefs) (l .coefs)) (over (p .costs) (l .costs)) (over (p .lowers) (l .lowers)) (over (p .uppers) (l .uppers)) (over (p .lowerMarks) (l .lowerMarks)) (over (p .upperMarks) (l .upperMarks)) (over (p .rights) (l .rights)) (over (p .ops) (l .ops)) (over (p .amounts) (l .amounts)) (over (p .mults) (l .mults))
+    planOf (l .rows) (l .cols) (over (p .coefs) (l .coefs)) (over (p .costs) (l .costs)) (over (p .lowers) (l .lowers)) (over (p .uppers) (l .uppers)) (over (p .lowerMarks) (l .lowerMarks)) (over (p .upperMarks) (l .upperMarks)) (over (p .rhs) (l .rhs)) (over (p .ops) (l .ops)) (over (p .amounts) (l .amounts)) (over (p .mults) (l .mults))
 
 unfoldable pub leftOf : Answer → Plan → Plan
 leftOf (refused n b) l = l

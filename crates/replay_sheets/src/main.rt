@@ -115,7 +115,7 @@ fn show_kept(
     uppers: &[i64; COLUMNS],
     lower_marks: &[u8; COLUMNS],
     upper_marks: &[u8; COLUMNS],
-    rights: &[i64; ROWS],
+    rhs: &[i64; ROWS],
     ops: &[u8; ROWS],
     amounts: &[i64; COLUMNS],
     mults: &[i64; ROWS],
@@ -144,7 +144,7 @@ fn show_kept(
         uppers,
         lower_marks,
         upper_marks,
-        rights,
+        rhs,
         ops,
         amounts,
         mults,
@@ -176,7 +176,7 @@ fn show_plan(
     uppers: &[i64; COLUMNS],
     lower_marks: &[u8; COLUMNS],
     upper_marks: &[u8; COLUMNS],
-    rights: &[i64; ROWS],
+    rhs: &[i64; ROWS],
     ops: &[u8; ROWS],
     amounts: &[i64; COLUMNS],
     mults: &[i64; ROWS],
@@ -195,7 +195,7 @@ fn show_plan(
     words::text(b" hasup");
     words::bytes(upper_marks, n_upper_marks);
     words::text(b" rhs");
-    cells(rights, n_rights);
+    cells(rhs, n_rights);
     words::text(b" ops");
     words::bytes(ops, n_ops);
     words::text(b" amount");
@@ -215,7 +215,7 @@ fn disturb(
     uppers: &mut [i64; COLUMNS],
     lower_marks: &mut [u8; COLUMNS],
     upper_marks: &mut [u8; COLUMNS],
-    rights: &mut [i64; ROWS],
+    rhs: &mut [i64; ROWS],
     ops: &mut [u8; ROWS],
     amounts: &mut [i64; COLUMNS],
     mults: &mut [i64; ROWS],
@@ -233,7 +233,7 @@ fn disturb(
     poke(uppers, which == 3, at, number);
     poke_byte(lower_marks, which == 4, at, byte);
     poke_byte(upper_marks, which == 5, at, byte);
-    poke(rights, which == 6, at, number);
+    poke(rhs, which == 6, at, number);
     poke_byte(ops, which == 7, at, byte);
     poke(amounts, which == 8, at, number);
     poke(mults, which == 9, at, number);
@@ -253,7 +253,7 @@ fn step(
     uppers: &mut [i64; COLUMNS],
     lower_marks: &mut [u8; COLUMNS],
     upper_marks: &mut [u8; COLUMNS],
-    rights: &mut [i64; ROWS],
+    rhs: &mut [i64; ROWS],
     ops: &mut [u8; ROWS],
     amounts: &mut [i64; COLUMNS],
     mults: &mut [i64; ROWS],
@@ -278,7 +278,7 @@ fn step(
         uppers,
         lower_marks,
         upper_marks,
-        rights,
+        rhs,
         ops,
         amounts,
         mults,
@@ -304,7 +304,7 @@ fn step(
         uppers,
         lower_marks,
         upper_marks,
-        rights,
+        rhs,
         ops,
         amounts,
         mults,
@@ -325,7 +325,7 @@ fn step(
         uppers,
         lower_marks,
         upper_marks,
-        rights,
+        rhs,
         ops,
         amounts,
         mults,
@@ -347,7 +347,7 @@ fn play(
     uppers: &mut [i64; COLUMNS],
     lower_marks: &mut [u8; COLUMNS],
     upper_marks: &mut [u8; COLUMNS],
-    rights: &mut [i64; ROWS],
+    rhs: &mut [i64; ROWS],
     ops: &mut [u8; ROWS],
     amounts: &mut [i64; COLUMNS],
     mults: &mut [i64; ROWS],
@@ -368,7 +368,7 @@ fn play(
             uppers,
             lower_marks,
             upper_marks,
-            rights,
+            rhs,
             ops,
             amounts,
             mults,
@@ -389,7 +389,7 @@ fn sheet() {
     let mut uppers = [0i64; COLUMNS];
     let mut lower_marks = [0u8; COLUMNS];
     let mut upper_marks = [0u8; COLUMNS];
-    let mut rights = [0i64; ROWS];
+    let mut rhs = [0i64; ROWS];
     let mut ops = [0u8; ROWS];
     let mut amounts = [0i64; COLUMNS];
     let mut mults = [0i64; ROWS];
@@ -407,7 +407,7 @@ fn sheet() {
     let n_uppers = read_signed(&mut uppers);
     let n_lower_marks = words::read_bytes(&mut lower_marks);
     let n_upper_marks = words::read_bytes(&mut upper_marks);
-    let n_rights = read_signed(&mut rights);
+    let n_rights = read_signed(&mut rhs);
     let n_ops = words::read_bytes(&mut ops);
     let n_amounts = read_signed(&mut amounts);
     let n_mults = read_signed(&mut mults);
@@ -420,7 +420,7 @@ fn sheet() {
         &uppers[..n_uppers],
         &lower_marks[..n_lower_marks],
         &upper_marks[..n_upper_marks],
-        &rights[..n_rights],
+        &rhs[..n_rights],
         &ops[..n_ops],
         &amounts[..n_amounts],
         &mults[..n_mults],
@@ -445,7 +445,7 @@ fn sheet() {
         &uppers,
         &lower_marks,
         &upper_marks,
-        &rights,
+        &rhs,
         &ops,
         &amounts,
         &mults,
@@ -465,7 +465,7 @@ fn sheet() {
         &mut uppers,
         &mut lower_marks,
         &mut upper_marks,
-        &mut rights,
+        &mut rhs,
         &mut ops,
         &mut amounts,
         &mut mults,
@@ -492,7 +492,7 @@ fn sheet() {
         &uppers,
         &lower_marks,
         &upper_marks,
-        &rights,
+        &rhs,
         &ops,
         &amounts,
         &mults,

@@ -21,7 +21,7 @@ pub fn open(
     uppers: &[i64],
     lower_marks: &[u8],
     upper_marks: &[u8],
-    rights: &[i64],
+    rhs: &[i64],
     ops: &[u8],
     amounts: &[i64],
     mults: &[i64],
@@ -32,11 +32,11 @@ pub fn open(
     counts: &mut [i64],
 ) -> usize
     ensures { λ z. ⌜ Opens (sheetOf (planOf rows columns (now (coefs .entry)) (now (costs .entry)) (now (lowers .entry))
-        (now (uppers .entry)) (now («lower_marks» .entry)) (now («upper_marks» .entry)) (now (rights .entry))
+        (now (uppers .entry)) (now («lower_marks» .entry)) (now («upper_marks» .entry)) (now (rhs .entry))
         (now (ops .entry)) (now (amounts .entry)) (now (mults .entry)))
         (keptOf (now (r .entry)) (now (d .entry)) (now (c .entry)) (now (b .entry)) (now (counts .entry)))) z
         (sheetOf (planOf rows columns (now (coefs .entry)) (now (costs .entry)) (now (lowers .entry))
-        (now (uppers .entry)) (now («lower_marks» .entry)) (now («upper_marks» .entry)) (now (rights .entry))
+        (now (uppers .entry)) (now («lower_marks» .entry)) (now («upper_marks» .entry)) (now (rhs .entry))
         (now (ops .entry)) (now (amounts .entry)) (now (mults .entry)))
         (keptOf (now (r .exit)) (now (d .exit)) (now (c .exit)) (now (b .exit)) (now (counts .exit)))) ⌝ }
 {
@@ -49,7 +49,7 @@ pub fn open(
         uppers,
         lower_marks,
         upper_marks,
-        rights,
+        rhs,
         ops,
         amounts,
         mults,
@@ -69,7 +69,7 @@ pub fn open(
             uppers,
             lower_marks,
             upper_marks,
-            rights,
+            rhs,
             ops,
             amounts,
             mults,
@@ -97,7 +97,7 @@ pub fn edit(
     uppers: &mut [i64],
     lower_marks: &mut [u8],
     upper_marks: &mut [u8],
-    rights: &mut [i64],
+    rhs: &mut [i64],
     ops: &[u8],
     amounts: &mut [i64],
     mults: &mut [i64],
@@ -108,12 +108,12 @@ pub fn edit(
     counts: &mut [i64],
 ) -> usize
     ensures { λ z. ⌜ Edits (sheetOf (planOf rows columns (now (coefs .entry)) (now (costs .entry)) (now (lowers .entry))
-        (now (uppers .entry)) (now («lower_marks» .entry)) (now («upper_marks» .entry)) (now (rights .entry))
+        (now (uppers .entry)) (now («lower_marks» .entry)) (now («upper_marks» .entry)) (now (rhs .entry))
         (now (ops .entry)) (now (amounts .entry)) (now (mults .entry)))
         (keptOf (now (r .entry)) (now (d .entry)) (now (c .entry)) (now (b .entry)) (now (counts .entry))))
         (record { kind = kind; row = row; column = column; number = number }) z
         (sheetOf (planOf rows columns (now (coefs .exit)) (now (costs .exit)) (now (lowers .exit)) (now (uppers .exit))
-        (now («lower_marks» .exit)) (now («upper_marks» .exit)) (now (rights .exit)) (now (ops .entry))
+        (now («lower_marks» .exit)) (now («upper_marks» .exit)) (now (rhs .exit)) (now (ops .entry))
         (now (amounts .exit)) (now (mults .exit)))
         (keptOf (now (r .exit)) (now (d .exit)) (now (c .exit)) (now (b .exit)) (now (counts .exit)))) ⌝ }
 {
@@ -133,7 +133,7 @@ pub fn edit(
         uppers,
         lower_marks,
         upper_marks,
-        rights,
+        rhs,
         ops,
         amounts,
         mults,
@@ -154,7 +154,7 @@ pub fn edit(
             uppers,
             lower_marks,
             upper_marks,
-            rights,
+            rhs,
             ops,
             amounts,
             mults,
@@ -189,7 +189,7 @@ pub fn verdict(
     uppers: &[i64],
     lower_marks: &[u8],
     upper_marks: &[u8],
-    rights: &[i64],
+    rhs: &[i64],
     ops: &[u8],
     amounts: &[i64],
     mults: &[i64],
@@ -201,7 +201,7 @@ pub fn verdict(
 ) -> Verdict
     ensures { λ z. ⌜ Judges (sheetOf (planOf rows columns (now (coefs .entry)) (now (costs .entry))
         (now (lowers .entry)) (now (uppers .entry)) (now («lower_marks» .entry)) (now («upper_marks» .entry))
-        (now (rights .entry)) (now (ops .entry)) (now (amounts .entry)) (now (mults .entry)))
+        (now (rhs .entry)) (now (ops .entry)) (now (amounts .entry)) (now (mults .entry)))
         (keptOf (now (r .entry)) (now (d .entry)) (now (c .entry)) (now (b .entry)) (now (counts .entry)))) z ⌝ }
 {
     if !sheet_tests::sizes_fine(
@@ -213,7 +213,7 @@ pub fn verdict(
         uppers,
         lower_marks,
         upper_marks,
-        rights,
+        rhs,
         ops,
         amounts,
         mults,

@@ -25,7 +25,7 @@ pub fn totals_after(
     uppers: &[i64],
     lower_marks: &[u8],
     upper_marks: &[u8],
-    rights: &[i64],
+    rhs: &[i64],
     ops: &[u8],
     amounts: &[i64],
     mults: &[i64],
@@ -36,11 +36,11 @@ pub fn totals_after(
     counts: &[i64],
 ) -> Totals
     requires { ⌜ Ready (sheetOf (planOf rows columns (now coefs) (now costs) (now lowers) (now uppers)
-        (now «lower_marks») (now «upper_marks») (now rights) (now ops) (now amounts) (now mults))
+        (now «lower_marks») (now «upper_marks») (now rhs) (now ops) (now amounts) (now mults))
         (keptOf (now r) (now d) (now c) (now b) (now counts))) e × Today e ⌝ }
     ensures { λ z. ⌜ z ≡ totalsAfter (sheetOf (planOf rows columns (now (coefs .entry)) (now (costs .entry))
         (now (lowers .entry)) (now (uppers .entry)) (now («lower_marks» .entry)) (now («upper_marks» .entry))
-        (now (rights .entry)) (now (ops .entry)) (now (amounts .entry)) (now (mults .entry)))
+        (now (rhs .entry)) (now (ops .entry)) (now (amounts .entry)) (now (mults .entry)))
         (keptOf (now (r .entry)) (now (d .entry)) (now (c .entry)) (now (b .entry)) (now (counts .entry)))) e ⌝ }
 {
     let t = sheet_change_totals::totals_now(c, b, counts);
@@ -55,10 +55,10 @@ pub fn totals_after(
         amounts,
         d,
     );
-    let y = sheet_change_totals::row_at(rows, e.row, rights, ops, r, mults);
+    let y = sheet_change_totals::row_at(rows, e.row, rhs, ops, r, mults);
     let kind = e.kind;
     match kind {
-        1 => sheet_change_totals::amount_totals(e, t, x, rows, columns, coefs, rights, ops, r),
+        1 => sheet_change_totals::amount_totals(e, t, x, rows, columns, coefs, rhs, ops, r),
         5 => sheet_change_totals::row_totals(e, t, y),
         6 => sheet_change_totals::coef_totals(e, t, x, y, coefs[e.row * columns + e.column]),
         7 => sheet_change_totals::mult_totals(
@@ -91,16 +91,16 @@ pub fn activity_after(
     uppers: &[i64],
     lower_marks: &[u8],
     upper_marks: &[u8],
-    rights: &[i64],
+    rhs: &[i64],
     ops: &[u8],
     amounts: &[i64],
     mults: &[i64],
 ) -> i64
     requires { ⌜ PlanReady (planOf rows columns (now coefs) (now costs) (now lowers) (now uppers) (now «lower_marks»)
-        (now «upper_marks») (now rights) (now ops) (now amounts) (now mults)) e × (i < rows) × (natAbs old ≤ maxR) ⌝ }
+        (now «upper_marks») (now rhs) (now ops) (now amounts) (now mults)) e × (i < rows) × (natAbs old ≤ maxR) ⌝ }
     ensures { λ z. ⌜ z ≡ old +ℤ rowChange (planOf rows columns (now (coefs .entry)) (now (costs .entry))
         (now (lowers .entry)) (now (uppers .entry)) (now («lower_marks» .entry)) (now («upper_marks» .entry))
-        (now (rights .entry)) (now (ops .entry)) (now (amounts .entry)) (now (mults .entry))) e i ⌝ }
+        (now (rhs .entry)) (now (ops .entry)) (now (amounts .entry)) (now (mults .entry))) e i ⌝ }
 {
     let kind = e.kind;
     let j = e.column;
@@ -130,16 +130,16 @@ pub fn price_after(
     uppers: &[i64],
     lower_marks: &[u8],
     upper_marks: &[u8],
-    rights: &[i64],
+    rhs: &[i64],
     ops: &[u8],
     amounts: &[i64],
     mults: &[i64],
 ) -> i64
     requires { ⌜ PlanReady (planOf rows columns (now coefs) (now costs) (now lowers) (now uppers) (now «lower_marks»)
-        (now «upper_marks») (now rights) (now ops) (now amounts) (now mults)) e × (j < columns) × (natAbs old ≤ maxD) ⌝ }
+        (now «upper_marks») (now rhs) (now ops) (now amounts) (now mults)) e × (j < columns) × (natAbs old ≤ maxD) ⌝ }
     ensures { λ z. ⌜ z ≡ old +ℤ priceChange (planOf rows columns (now (coefs .entry)) (now (costs .entry))
         (now (lowers .entry)) (now (uppers .entry)) (now («lower_marks» .entry)) (now («upper_marks» .entry))
-        (now (rights .entry)) (now (ops .entry)) (now (amounts .entry)) (now (mults .entry))) e j ⌝ }
+        (now (rhs .entry)) (now (ops .entry)) (now (amounts .entry)) (now (mults .entry))) e j ⌝ }
 {
     let kind = e.kind;
     let i = e.row;
@@ -174,7 +174,7 @@ fn activities_stay(
     uppers: &[i64],
     lower_marks: &[u8],
     upper_marks: &[u8],
-    rights: &[i64],
+    rhs: &[i64],
     ops: &[u8],
     amounts: &[i64],
     mults: &[i64],
@@ -185,11 +185,11 @@ fn activities_stay(
     counts: &[i64],
 ) -> bool
     requires { ⌜ Ready (sheetOf (planOf rows columns (now coefs) (now costs) (now lowers) (now uppers)
-        (now «lower_marks») (now «upper_marks») (now rights) (now ops) (now amounts) (now mults))
+        (now «lower_marks») (now «upper_marks») (now rhs) (now ops) (now amounts) (now mults))
         (keptOf (now r) (now d) (now c) (now b) (now counts))) e ⌝ }
     ensures { λ z. ⌜ z ≡ all rows (λ i. within maxR
         (movedR (sheetOf (planOf rows columns (now (coefs .entry)) (now (costs .entry)) (now (lowers .entry))
-        (now (uppers .entry)) (now («lower_marks» .entry)) (now («upper_marks» .entry)) (now (rights .entry))
+        (now (uppers .entry)) (now («lower_marks» .entry)) (now («upper_marks» .entry)) (now (rhs .entry))
         (now (ops .entry)) (now (amounts .entry)) (now (mults .entry)))
         (keptOf (now (r .entry)) (now (d .entry)) (now (c .entry)) (now (b .entry)) (now (counts .entry)))) e i)) ⌝ }
 {
@@ -207,7 +207,7 @@ fn activities_stay(
             uppers,
             lower_marks,
             upper_marks,
-            rights,
+            rhs,
             ops,
             amounts,
             mults,
@@ -232,7 +232,7 @@ fn prices_stay(
     uppers: &[i64],
     lower_marks: &[u8],
     upper_marks: &[u8],
-    rights: &[i64],
+    rhs: &[i64],
     ops: &[u8],
     amounts: &[i64],
     mults: &[i64],
@@ -243,11 +243,11 @@ fn prices_stay(
     counts: &[i64],
 ) -> bool
     requires { ⌜ Ready (sheetOf (planOf rows columns (now coefs) (now costs) (now lowers) (now uppers)
-        (now «lower_marks») (now «upper_marks») (now rights) (now ops) (now amounts) (now mults))
+        (now «lower_marks») (now «upper_marks») (now rhs) (now ops) (now amounts) (now mults))
         (keptOf (now r) (now d) (now c) (now b) (now counts))) e ⌝ }
     ensures { λ z. ⌜ z ≡ all columns (λ j. within maxD
         (movedD (sheetOf (planOf rows columns (now (coefs .entry)) (now (costs .entry)) (now (lowers .entry))
-        (now (uppers .entry)) (now («lower_marks» .entry)) (now («upper_marks» .entry)) (now (rights .entry))
+        (now (uppers .entry)) (now («lower_marks» .entry)) (now («upper_marks» .entry)) (now (rhs .entry))
         (now (ops .entry)) (now (amounts .entry)) (now (mults .entry)))
         (keptOf (now (r .entry)) (now (d .entry)) (now (c .entry)) (now (b .entry)) (now (counts .entry)))) e j)) ⌝ }
 {
@@ -265,7 +265,7 @@ fn prices_stay(
             uppers,
             lower_marks,
             upper_marks,
-            rights,
+            rhs,
             ops,
             amounts,
             mults,
@@ -290,7 +290,7 @@ pub fn moved_fine(
     uppers: &[i64],
     lower_marks: &[u8],
     upper_marks: &[u8],
-    rights: &[i64],
+    rhs: &[i64],
     ops: &[u8],
     amounts: &[i64],
     mults: &[i64],
@@ -301,11 +301,11 @@ pub fn moved_fine(
     counts: &[i64],
 ) -> bool
     requires { ⌜ Ready (sheetOf (planOf rows columns (now coefs) (now costs) (now lowers) (now uppers)
-        (now «lower_marks») (now «upper_marks») (now rights) (now ops) (now amounts) (now mults))
+        (now «lower_marks») (now «upper_marks») (now rhs) (now ops) (now amounts) (now mults))
         (keptOf (now r) (now d) (now c) (now b) (now counts))) e × Today e ⌝ }
     ensures { λ z. ⌜ z ≡ movedFine (sheetOf (planOf rows columns (now (coefs .entry)) (now (costs .entry))
         (now (lowers .entry)) (now (uppers .entry)) (now («lower_marks» .entry)) (now («upper_marks» .entry))
-        (now (rights .entry)) (now (ops .entry)) (now (amounts .entry)) (now (mults .entry)))
+        (now (rhs .entry)) (now (ops .entry)) (now (amounts .entry)) (now (mults .entry)))
         (keptOf (now (r .entry)) (now (d .entry)) (now (c .entry)) (now (b .entry)) (now (counts .entry)))) e ⌝ }
 {
     let t = totals_after(
@@ -318,7 +318,7 @@ pub fn moved_fine(
         uppers,
         lower_marks,
         upper_marks,
-        rights,
+        rhs,
         ops,
         amounts,
         mults,
@@ -338,7 +338,7 @@ pub fn moved_fine(
         uppers,
         lower_marks,
         upper_marks,
-        rights,
+        rhs,
         ops,
         amounts,
         mults,
@@ -358,7 +358,7 @@ pub fn moved_fine(
             uppers,
             lower_marks,
             upper_marks,
-            rights,
+            rhs,
             ops,
             amounts,
             mults,

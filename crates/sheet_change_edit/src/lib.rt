@@ -102,13 +102,13 @@ fn index_fine(
     uppers: &[i64],
     lower_marks: &[u8],
     upper_marks: &[u8],
-    rights: &[i64],
+    rhs: &[i64],
     ops: &[u8],
     amounts: &[i64],
     mults: &[i64],
 ) -> bool
     ensures { λ z. ⌜ z ≡ indexFine (planOf rows columns (now (coefs .entry)) (now (costs .entry)) (now (lowers .entry))
-        (now (uppers .entry)) (now («lower_marks» .entry)) (now («upper_marks» .entry)) (now (rights .entry))
+        (now (uppers .entry)) (now («lower_marks» .entry)) (now («upper_marks» .entry)) (now (rhs .entry))
         (now (ops .entry)) (now (amounts .entry)) (now (mults .entry))) e ⌝ }
 {
     (!uses_column(e.kind) | (e.column < columns)) & (!uses_row(e.kind) | (e.row < rows))
@@ -125,7 +125,7 @@ fn both_fine(
     uppers: &[i64],
     lower_marks: &[u8],
     upper_marks: &[u8],
-    rights: &[i64],
+    rhs: &[i64],
     ops: &[u8],
     amounts: &[i64],
     mults: &[i64],
@@ -136,12 +136,12 @@ fn both_fine(
     counts: &[i64],
 ) -> bool
     requires { ⌜ Sized (sheetOf (planOf rows columns (now coefs) (now costs) (now lowers) (now uppers)
-        (now «lower_marks») (now «upper_marks») (now rights) (now ops) (now amounts) (now mults))
+        (now «lower_marks») (now «upper_marks») (now rhs) (now ops) (now amounts) (now mults))
         (keptOf (now r) (now d) (now c) (now b) (now counts))) × Index
         (planOf rows columns (now coefs) (now costs) (now lowers) (now uppers) (now «lower_marks») (now «upper_marks»)
-        (now rights) (now ops) (now amounts) (now mults)) e × NumberIn e ⌝ }
+        (now rhs) (now ops) (now amounts) (now mults)) e × NumberIn e ⌝ }
     ensures { λ z. ⌜ z ≡ bothFine (planOf rows columns (now (coefs .entry)) (now (costs .entry)) (now (lowers .entry))
-        (now (uppers .entry)) (now («lower_marks» .entry)) (now («upper_marks» .entry)) (now (rights .entry))
+        (now (uppers .entry)) (now («lower_marks» .entry)) (now («upper_marks» .entry)) (now (rhs .entry))
         (now (ops .entry)) (now (amounts .entry)) (now (mults .entry))) e ⌝ }
 {
     let kind = e.kind;
@@ -166,15 +166,15 @@ fn column_fine(
     uppers: &[i64],
     lower_marks: &[u8],
     upper_marks: &[u8],
-    rights: &[i64],
+    rhs: &[i64],
     ops: &[u8],
     amounts: &[i64],
     mults: &[i64],
 ) -> bool
     requires { ⌜ PlanSized (planOf rows columns (now coefs) (now costs) (now lowers) (now uppers) (now «lower_marks»)
-        (now «upper_marks») (now rights) (now ops) (now amounts) (now mults)) × (column < columns) ⌝ }
+        (now «upper_marks») (now rhs) (now ops) (now amounts) (now mults)) × (column < columns) ⌝ }
     ensures { λ z. ⌜ z ≡ columnFine (planOf rows columns (now (coefs .entry)) (now (costs .entry)) (now (lowers .entry))
-        (now (uppers .entry)) (now («lower_marks» .entry)) (now («upper_marks» .entry)) (now (rights .entry))
+        (now (uppers .entry)) (now («lower_marks» .entry)) (now («upper_marks» .entry)) (now (rhs .entry))
         (now (ops .entry)) (now (amounts .entry)) (now (mults .entry))) column ⌝ }
 {
     let mut i = 0;
@@ -198,15 +198,15 @@ fn row_fine(
     uppers: &[i64],
     lower_marks: &[u8],
     upper_marks: &[u8],
-    rights: &[i64],
+    rhs: &[i64],
     ops: &[u8],
     amounts: &[i64],
     mults: &[i64],
 ) -> bool
     requires { ⌜ PlanSized (planOf rows columns (now coefs) (now costs) (now lowers) (now uppers) (now «lower_marks»)
-        (now «upper_marks») (now rights) (now ops) (now amounts) (now mults)) × (row < rows) ⌝ }
+        (now «upper_marks») (now rhs) (now ops) (now amounts) (now mults)) × (row < rows) ⌝ }
     ensures { λ z. ⌜ z ≡ rowFine (planOf rows columns (now (coefs .entry)) (now (costs .entry)) (now (lowers .entry))
-        (now (uppers .entry)) (now («lower_marks» .entry)) (now («upper_marks» .entry)) (now (rights .entry))
+        (now (uppers .entry)) (now («lower_marks» .entry)) (now («upper_marks» .entry)) (now (rhs .entry))
         (now (ops .entry)) (now (amounts .entry)) (now (mults .entry))) row ⌝ }
 {
     let mut j = 0;
@@ -230,18 +230,18 @@ fn column_sound(
     uppers: &[i64],
     lower_marks: &[u8],
     upper_marks: &[u8],
-    rights: &[i64],
+    rhs: &[i64],
     ops: &[u8],
     amounts: &[i64],
     mults: &[i64],
 ) -> bool
     requires { ⌜ PlanSized (planOf rows columns (now coefs) (now costs) (now lowers) (now uppers) (now «lower_marks»)
-        (now «upper_marks») (now rights) (now ops) (now amounts) (now mults)) × Index
+        (now «upper_marks») (now rhs) (now ops) (now amounts) (now mults)) × Index
         (planOf rows columns (now coefs) (now costs) (now lowers) (now uppers) (now «lower_marks») (now «upper_marks»)
-        (now rights) (now ops) (now amounts) (now mults)) e ⌝ }
+        (now rhs) (now ops) (now amounts) (now mults)) e ⌝ }
     ensures { λ z. ⌜ z ≡ (not (usesColumn (e .kind)) || columnFine
         (planOf rows columns (now (coefs .entry)) (now (costs .entry)) (now (lowers .entry)) (now (uppers .entry))
-        (now («lower_marks» .entry)) (now («upper_marks» .entry)) (now (rights .entry)) (now (ops .entry))
+        (now («lower_marks» .entry)) (now («upper_marks» .entry)) (now (rhs .entry)) (now (ops .entry))
         (now (amounts .entry)) (now (mults .entry))) (e .column)) ⌝ }
 {
     if uses_column(e.kind) {
@@ -255,7 +255,7 @@ fn column_sound(
             uppers,
             lower_marks,
             upper_marks,
-            rights,
+            rhs,
             ops,
             amounts,
             mults,
@@ -274,18 +274,18 @@ fn row_sound(
     uppers: &[i64],
     lower_marks: &[u8],
     upper_marks: &[u8],
-    rights: &[i64],
+    rhs: &[i64],
     ops: &[u8],
     amounts: &[i64],
     mults: &[i64],
 ) -> bool
     requires { ⌜ PlanSized (planOf rows columns (now coefs) (now costs) (now lowers) (now uppers) (now «lower_marks»)
-        (now «upper_marks») (now rights) (now ops) (now amounts) (now mults)) × Index
+        (now «upper_marks») (now rhs) (now ops) (now amounts) (now mults)) × Index
         (planOf rows columns (now coefs) (now costs) (now lowers) (now uppers) (now «lower_marks») (now «upper_marks»)
-        (now rights) (now ops) (now amounts) (now mults)) e ⌝ }
+        (now rhs) (now ops) (now amounts) (now mults)) e ⌝ }
     ensures { λ z. ⌜ z ≡ (not (usesRow (e .kind)) || rowFine
         (planOf rows columns (now (coefs .entry)) (now (costs .entry)) (now (lowers .entry)) (now (uppers .entry))
-        (now («lower_marks» .entry)) (now («upper_marks» .entry)) (now (rights .entry)) (now (ops .entry))
+        (now («lower_marks» .entry)) (now («upper_marks» .entry)) (now (rhs .entry)) (now (ops .entry))
         (now (amounts .entry)) (now (mults .entry))) (e .row)) ⌝ }
 {
     if uses_row(e.kind) {
@@ -299,7 +299,7 @@ fn row_sound(
             uppers,
             lower_marks,
             upper_marks,
-            rights,
+            rhs,
             ops,
             amounts,
             mults,
@@ -319,7 +319,7 @@ fn sound(
     uppers: &[i64],
     lower_marks: &[u8],
     upper_marks: &[u8],
-    rights: &[i64],
+    rhs: &[i64],
     ops: &[u8],
     amounts: &[i64],
     mults: &[i64],
@@ -330,13 +330,13 @@ fn sound(
     counts: &[i64],
 ) -> bool
     requires { ⌜ Sized (sheetOf (planOf rows columns (now coefs) (now costs) (now lowers) (now uppers)
-        (now «lower_marks») (now «upper_marks») (now rights) (now ops) (now amounts) (now mults))
+        (now «lower_marks») (now «upper_marks») (now rhs) (now ops) (now amounts) (now mults))
         (keptOf (now r) (now d) (now c) (now b) (now counts))) × Index
         (planOf rows columns (now coefs) (now costs) (now lowers) (now uppers) (now «lower_marks») (now «upper_marks»)
-        (now rights) (now ops) (now amounts) (now mults)) e ⌝ }
+        (now rhs) (now ops) (now amounts) (now mults)) e ⌝ }
     ensures { λ z. ⌜ z ≡ soundAt e (sheetOf (planOf rows columns (now (coefs .entry)) (now (costs .entry))
         (now (lowers .entry)) (now (uppers .entry)) (now («lower_marks» .entry)) (now («upper_marks» .entry))
-        (now (rights .entry)) (now (ops .entry)) (now (amounts .entry)) (now (mults .entry)))
+        (now (rhs .entry)) (now (ops .entry)) (now (amounts .entry)) (now (mults .entry)))
         (keptOf (now (r .entry)) (now (d .entry)) (now (c .entry)) (now (b .entry)) (now (counts .entry)))) ⌝ }
 {
     sheet_tests::arrays_fine(
@@ -348,7 +348,7 @@ fn sound(
         uppers,
         lower_marks,
         upper_marks,
-        rights,
+        rhs,
         ops,
         amounts,
         mults,
@@ -363,7 +363,7 @@ fn sound(
             uppers,
             lower_marks,
             upper_marks,
-            rights,
+            rhs,
             ops,
             amounts,
             mults,
@@ -378,7 +378,7 @@ fn sound(
             uppers,
             lower_marks,
             upper_marks,
-            rights,
+            rhs,
             ops,
             amounts,
             mults,
@@ -398,17 +398,17 @@ pub fn old_cell(
     uppers: &[i64],
     lower_marks: &[u8],
     upper_marks: &[u8],
-    rights: &[i64],
+    rhs: &[i64],
     ops: &[u8],
     amounts: &[i64],
     mults: &[i64],
 ) -> Cell
     requires { ⌜ PlanSized (planOf rows columns (now coefs) (now costs) (now lowers) (now uppers) (now «lower_marks»)
-        (now «upper_marks») (now rights) (now ops) (now amounts) (now mults)) × Index
+        (now «upper_marks») (now rhs) (now ops) (now amounts) (now mults)) × Index
         (planOf rows columns (now coefs) (now costs) (now lowers) (now uppers) (now «lower_marks») (now «upper_marks»)
-        (now rights) (now ops) (now amounts) (now mults)) e ⌝ }
+        (now rhs) (now ops) (now amounts) (now mults)) e ⌝ }
     ensures { λ z. ⌜ z ≡ cellAt (planOf rows columns (now (coefs .entry)) (now (costs .entry)) (now (lowers .entry))
-        (now (uppers .entry)) (now («lower_marks» .entry)) (now («upper_marks» .entry)) (now (rights .entry))
+        (now (uppers .entry)) (now («lower_marks» .entry)) (now («upper_marks» .entry)) (now (rhs .entry))
         (now (ops .entry)) (now (amounts .entry)) (now (mults .entry))) e ⌝ }
 {
     let kind = e.kind;
@@ -432,7 +432,7 @@ pub fn old_cell(
             mark: upper_marks[j],
         },
         5 => Cell {
-            number: rights[i],
+            number: rhs[i],
             mark: 1,
         },
         6 => Cell {
@@ -466,7 +466,7 @@ pub fn edit_refusal(
     uppers: &[i64],
     lower_marks: &[u8],
     upper_marks: &[u8],
-    rights: &[i64],
+    rhs: &[i64],
     ops: &[u8],
     amounts: &[i64],
     mults: &[i64],
@@ -478,7 +478,7 @@ pub fn edit_refusal(
 ) -> usize
     ensures { λ z. ⌜ z ≡ editRefusal (sheetOf (planOf rows columns (now (coefs .entry)) (now (costs .entry))
         (now (lowers .entry)) (now (uppers .entry)) (now («lower_marks» .entry)) (now («upper_marks» .entry))
-        (now (rights .entry)) (now (ops .entry)) (now (amounts .entry)) (now (mults .entry)))
+        (now (rhs .entry)) (now (ops .entry)) (now (amounts .entry)) (now (mults .entry)))
         (keptOf (now (r .entry)) (now (d .entry)) (now (c .entry)) (now (b .entry)) (now (counts .entry)))) e ⌝ }
 {
     let rule = kind_rule(e.kind);
@@ -494,7 +494,7 @@ pub fn edit_refusal(
         uppers,
         lower_marks,
         upper_marks,
-        rights,
+        rhs,
         ops,
         amounts,
         mults,
@@ -516,7 +516,7 @@ pub fn edit_refusal(
         uppers,
         lower_marks,
         upper_marks,
-        rights,
+        rhs,
         ops,
         amounts,
         mults,
@@ -536,7 +536,7 @@ pub fn edit_refusal(
         uppers,
         lower_marks,
         upper_marks,
-        rights,
+        rhs,
         ops,
         amounts,
         mults,
@@ -558,7 +558,7 @@ pub fn edit_refusal(
         uppers,
         lower_marks,
         upper_marks,
-        rights,
+        rhs,
         ops,
         amounts,
         mults,
@@ -580,7 +580,7 @@ pub fn edit_refusal(
         uppers,
         lower_marks,
         upper_marks,
-        rights,
+        rhs,
         ops,
         amounts,
         mults,

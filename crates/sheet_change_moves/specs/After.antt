@@ -33,7 +33,7 @@ pub record RowSmall (m n i : ℕ) (coefs : List ℤ) : Type 0 where
 
 -- the change in the first count when every R moves by its coefficient of column j times z
 abbrev pub brokenChange : (m n j : ℕ) → ℤ → List ℤ → List ℤ → List ℕ → List ℤ → ℤ
-brokenChange m n j z coefs rights ops r = sum m (λ i. bit (not (holds (ops # i) (r ‼ i +ℤ coefs ‼ (i * n + j) *ℤ z) (rights ‼ i))) -ℤ bit (not (holds (ops # i) (r ‼ i) (rights ‼ i))))
+brokenChange m n j z coefs rhs ops r = sum m (λ i. bit (not (holds (ops # i) (r ‼ i +ℤ coefs ‼ (i * n + j) *ℤ z) (rhs ‼ i))) -ℤ bit (not (holds (ops # i) (r ‼ i) (rhs ‼ i))))
 
 -- in the columns' part of B and in the last count when every D falls by its coefficient of row i times z
 abbrev pub termsChange : (n i : ℕ) → ℤ → List ℤ → List ℤ → List ℤ → List ℕ → List ℕ → List ℤ → ℤ

@@ -50,20 +50,20 @@ pub fn broken_change(
     column: usize,
     by: i64,
     coefs: &[i64],
-    rights: &[i64],
+    rhs: &[i64],
     ops: &[u8],
     r: &[i64],
 ) -> i64
-    requires { ⌜ (rows ≤ maxRows) × ColumnSmall rows columns column (now coefs) × (rows ≤ length (now rights)) ×
+    requires { ⌜ (rows ≤ maxRows) × ColumnSmall rows columns column (now coefs) × (rows ≤ length (now rhs)) ×
         (rows ≤ length (now ops)) × Small maxR rows (now r) × (natAbs by ≤ 2 * maxAmount) ⌝ }
-    ensures { λ z. ⌜ z ≡ brokenChange rows columns column by (now (coefs .entry)) (now (rights .entry))
+    ensures { λ z. ⌜ z ≡ brokenChange rows columns column by (now (coefs .entry)) (now (rhs .entry))
         (now (ops .entry)) (now (r .entry)) ⌝ }
 {
     let mut total: i64 = 0;
     let mut i = 0;
     while i < rows {
         let new = r[i] + coefs[i * columns + column] * by;
-        total += broken(ops[i], new, rights[i]) - broken(ops[i], r[i], rights[i]);
+        total += broken(ops[i], new, rhs[i]) - broken(ops[i], r[i], rhs[i]);
         i += 1;
     }
     total

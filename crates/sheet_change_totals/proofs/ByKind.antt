@@ -68,7 +68,7 @@ module _ (s : Sheet) (e : Edit) (g : Ready s e) where
   column = columnAt (p .cols) j (p .costs) (p .lowers) (p .uppers) (p .lowerMarks) (p .upperMarks) (p .amounts) (k .D)
 
   abbrev pub row : Row
-  row = rowAt (p .rows) i (p .rights) (p .ops) (k .R) (p .mults)
+  row = rowAt (p .rows) i (p .rhs) (p .ops) (k .R) (p .mults)
 
   -- the edit's column and row in a plan
   abbrev columnIn : Plan → ℤ → Column
@@ -129,21 +129,21 @@ module _ (s : Sheet) (e : Edit) (g : Ready s e) where
     unfolding totalsAfter touches
     column-law n1 = column-moves ∙ (λ h. totalsOf (movedC s e) (movedB s e) (stays (movedBroken s e) (k .counts ‼ 0) (broken-still s e (g .index) (rw (n1, n5, n6))) h) (movedOutside s e) (movedWrong s e) (movedAbsent s e))
 
-  pub amount-law : e .kind ≡ 1 → withBroken (columnTotals e totals column) (brokenChange (p .rows) (p .cols) j (v -ℤ column .amount) (p .coefs) (p .rights) (p .ops) (k .R)) ≡ totalsAfter s e
+  pub amount-law : e .kind ≡ 1 → withBroken (columnTotals e totals column) (brokenChange (p .rows) (p .cols) j (v -ℤ column .amount) (p .coefs) (p .rhs) (p .ops) (k .R)) ≡ totalsAfter s e
   unfolding totalsAfter movedBroken edited put
   amount-law w =
       let l : j < p .cols = g .index .column-in (rw w) in
-      let rights : (r : ℕ) → rhs p r ≡ rhs q r = λ r. rw w in
-      let rows : brokenChange (p .rows) (p .cols) j (v -ℤ column .amount) (p .coefs) (p .rights) (p .ops) (k .R) ≡ sum (p .rows) (λ r. bit (brokenAt q r (movedR s e r)) -ℤ bit (brokenAt p r (k .R ‼ r))) =
-      ap (λ (y : Column). brokenChange (p .rows) (p .cols) j (v -ℤ y .amount) (p .coefs) (p .rights) (p .ops) (k .R)) (column-there l)
-      ∙ sum-ext (p .rows) _ _ (λ r m. ap₂ (λ (y b : ℤ). bit (not (holds (op p r) y b)) -ℤ bit (brokenAt p r (k .R ‼ r))) (sym (amount-R s e (g .sized) (g .index) w r)) (rights r)) in
+      let rhs : (r : ℕ) → rhs p r ≡ rhs q r = λ r. rw w in
+      let rows : brokenChange (p .rows) (p .cols) j (v -ℤ column .amount) (p .coefs) (p .rhs) (p .ops) (k .R) ≡ sum (p .rows) (λ r. bit (brokenAt q r (movedR s e r)) -ℤ bit (brokenAt p r (k .R ‼ r))) =
+      ap (λ (y : Column). brokenChange (p .rows) (p .cols) j (v -ℤ y .amount) (p .coefs) (p .rhs) (p .ops) (k .R)) (column-there l)
+      ∙ sum-ext (p .rows) _ _ (λ r m. ap₂ (λ (y b : ℤ). bit (not (holds (op p r) y b)) -ℤ bit (brokenAt p r (k .R ‼ r))) (sym (amount-R s e (g .sized) (g .index) w r)) (rhs r)) in
       (λ h. withBroken (column-moves (rw w) (rw w) (rw w) h) (rows h)) ∙ (λ h. totalsOf (movedC s e) (movedB s e) (+ℤ-idr (k .counts ‼ 0) h +ℤ sum (p .rows) (λ r. bit (brokenAt q r (movedR s e r)) -ℤ bit (brokenAt p r (k .R ‼ r)))) (movedOutside s e) (movedWrong s e) (movedAbsent s e))
 
   -- ---- kinds 5 and 7: all but the columns' part of B and the last count
   module _ (n1 : eqb (e .kind) 1 ≡ false) (n6 : eqb (e .kind) 6 ≡ false) (l : i < p .rows) (same-C : touches s e (C 0) ≡ false) (same-outside : touches s e (count 1) ≡ false) where
     row-is : rowAfter e (rowIn p (k .R ‼ i)) ≡ rowIn q (movedR s e i)
     unfolding rowAfter edited touches
-    row-is = λ h. rowOf (put-at (eqb (e .kind) 5) i v (pos 0) (p .rights) (lt-of-lt-of-le l (g .sized .rights-fit)) h) (op p i) (sym (R-still s e (g .index) i l (rw (n1, n6))) h) (put-at (eqb (e .kind) 7) i v (pos 0) (p .mults) (lt-of-lt-of-le l (g .sized .mults-fit)) h)
+    row-is = λ h. rowOf (put-at (eqb (e .kind) 5) i v (pos 0) (p .rhs) (lt-of-lt-of-le l (g .sized .rhs-fit)) h) (op p i) (sym (R-still s e (g .index) i l (rw (n1, n6))) h) (put-at (eqb (e .kind) 7) i v (pos 0) (p .mults) (lt-of-lt-of-le l (g .sized .mults-fit)) h)
 
     row-moves : rowTotals e totals row ≡ totalsOf (movedC s e) (k .B ‼ 0 +ℤ (Y q i *ℤ rhs q i -ℤ Y p i *ℤ rhs p i)) (movedBroken s e) (movedOutside s e) (movedWrong s e) (k .counts ‼ 3 +ℤ pos 0)
     unfolding movedTotals rowPart totalsNow movedWrong

@@ -38,7 +38,7 @@ module _ (s : Sheet) (e : Edit) (g : Ready s e) where
 
   pub row-small : SmallRow (row s e g)
   unfolding rowAt
-  row-small = picked SmallRow (ltb (e .row) (s .plan .rows)) _ _ (λ w. let l = ltb-true _ _ w in record { right-in = g .sound .arrays-in .rights-in (e .row) l; mult-in = g .sound .arrays-in .mults-in (e .row) l }) (record { right-in = lit≤ tt; mult-in = lit≤ tt })
+  row-small = picked SmallRow (ltb (e .row) (s .plan .rows)) _ _ (λ w. let l = ltb-true _ _ w in record { right-in = g .sound .arrays-in .rhs-in (e .row) l; mult-in = g .sound .arrays-in .mults-in (e .row) l }) (record { right-in = lit≤ tt; mult-in = lit≤ tt })
 
   pub activity-small : natAbs (row s e g .activity) ≤ maxR
   unfolding rowAt

@@ -94,14 +94,14 @@ pub fn column_at(
 }
 
 // Nor do kinds 1 to 4, 8 and 9 read a row.
-pub fn row_at(rows: usize, i: usize, rights: &[i64], ops: &[u8], r: &[i64], mults: &[i64]) -> Row
-    requires { ⌜ (rows ≤ length (now rights)) × (rows ≤ length (now ops)) × (rows ≤ length (now r)) ×
+pub fn row_at(rows: usize, i: usize, rhs: &[i64], ops: &[u8], r: &[i64], mults: &[i64]) -> Row
+    requires { ⌜ (rows ≤ length (now rhs)) × (rows ≤ length (now ops)) × (rows ≤ length (now r)) ×
         (rows ≤ length (now mults)) ⌝ }
-    ensures { λ z. ⌜ z ≡ rowAt rows i (now (rights .entry)) (now (ops .entry)) (now (r .entry)) (now (mults .entry)) ⌝ }
+    ensures { λ z. ⌜ z ≡ rowAt rows i (now (rhs .entry)) (now (ops .entry)) (now (r .entry)) (now (mults .entry)) ⌝ }
 {
     if i < rows {
         return Row {
-            right: rights[i],
+            right: rhs[i],
             op: ops[i],
             activity: r[i],
             mult: mults[i],
@@ -262,18 +262,18 @@ pub fn amount_totals(
     rows: usize,
     columns: usize,
     coefs: &[i64],
-    rights: &[i64],
+    rhs: &[i64],
     ops: &[u8],
     r: &[i64],
 ) -> Totals
     requires { ⌜ (e .kind ≡ 1) × NumberIn e × Whole t × SmallColumn maxD x × (rows ≤ maxRows) × ColumnSmall rows columns
-        (e .column) (now coefs) × (rows ≤ length (now rights)) × (rows ≤ length (now ops)) × Small maxR rows (now r) ⌝ }
+        (e .column) (now coefs) × (rows ≤ length (now rhs)) × (rows ≤ length (now ops)) × Small maxR rows (now r) ⌝ }
     ensures { λ z. ⌜ z ≡ withBroken (columnTotals e t x)
-        (brokenChange rows columns (e .column) (e .number -ℤ x .amount) (now (coefs .entry)) (now (rights .entry))
+        (brokenChange rows columns (e .column) (e .number -ℤ x .amount) (now (coefs .entry)) (now (rhs .entry))
         (now (ops .entry)) (now (r .entry))) ⌝ }
 {
     let by = e.number - x.amount;
-    let n = broken_change(rows, columns, e.column, by, coefs, rights, ops, r);
+    let n = broken_change(rows, columns, e.column, by, coefs, rhs, ops, r);
     let z = column_totals(e, t, x);
     Totals {
         broken: z.broken + n,

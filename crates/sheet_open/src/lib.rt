@@ -65,7 +65,7 @@ fn write_totals(
     uppers: &[i64],
     lower_marks: &[u8],
     upper_marks: &[u8],
-    rights: &[i64],
+    rhs: &[i64],
     ops: &[u8],
     amounts: &[i64],
     mults: &[i64],
@@ -74,23 +74,23 @@ fn write_totals(
     b: &mut [i64],
 )
     requires { ⌜ PlanSized (planOf rows columns (now coefs) (now costs) (now lowers) (now uppers) (now «lower_marks»)
-        (now «upper_marks») (now rights) (now ops) (now amounts) (now mults)) × Fine
+        (now «upper_marks») (now rhs) (now ops) (now amounts) (now mults)) × Fine
         (planOf rows columns (now coefs) (now costs) (now lowers) (now uppers) (now «lower_marks») (now «upper_marks»)
-        (now rights) (now ops) (now amounts) (now mults)) × Small maxD columns (now d) × (1 ≤ length (now c)) ×
+        (now rhs) (now ops) (now amounts) (now mults)) × Small maxD columns (now d) × (1 ≤ length (now c)) ×
         (1 ≤ length (now b)) ⌝ }
     ensures { λ _. ⌜ (now (c .exit) ≡ over (cost (planOf rows columns (now (coefs .entry)) (now (costs .entry))
         (now (lowers .entry)) (now (uppers .entry)) (now («lower_marks» .entry)) (now («upper_marks» .entry))
-        (now (rights .entry)) (now (ops .entry)) (now (amounts .entry)) (now (mults .entry)))
+        (now (rhs .entry)) (now (ops .entry)) (now (amounts .entry)) (now (mults .entry)))
         (x (planOf rows columns (now (coefs .entry)) (now (costs .entry)) (now (lowers .entry)) (now (uppers .entry))
-        (now («lower_marks» .entry)) (now («upper_marks» .entry)) (now (rights .entry)) (now (ops .entry))
+        (now («lower_marks» .entry)) (now («upper_marks» .entry)) (now (rhs .entry)) (now (ops .entry))
         (now (amounts .entry)) (now (mults .entry)))) ∷ []) (now (c .entry))) ×
         (now (b .exit) ≡ over (floorAt (planOf rows columns (now (coefs .entry)) (now (costs .entry))
         (now (lowers .entry)) (now (uppers .entry)) (now («lower_marks» .entry)) (now («upper_marks» .entry))
-        (now (rights .entry)) (now (ops .entry)) (now (amounts .entry)) (now (mults .entry))) (now (d .entry)) ∷ [])
+        (now (rhs .entry)) (now (ops .entry)) (now (amounts .entry)) (now (mults .entry))) (now (d .entry)) ∷ [])
         (now (b .entry))) ⌝ }
 {
     c[0] = sheet_sums::dot(columns, costs, amounts);
-    let sides = sheet_sums::dot(rows, mults, rights);
+    let sides = sheet_sums::dot(rows, mults, rhs);
     b[0] = sides + sheet_sums::column_terms(columns, lowers, uppers, lower_marks, upper_marks, d);
 }
 
@@ -104,7 +104,7 @@ fn write_counts(
     uppers: &[i64],
     lower_marks: &[u8],
     upper_marks: &[u8],
-    rights: &[i64],
+    rhs: &[i64],
     ops: &[u8],
     amounts: &[i64],
     mults: &[i64],
@@ -113,14 +113,14 @@ fn write_counts(
     counts: &mut [i64],
 )
     requires { ⌜ PlanSized (planOf rows columns (now coefs) (now costs) (now lowers) (now uppers) (now «lower_marks»)
-        (now «upper_marks») (now rights) (now ops) (now amounts) (now mults)) × (rows ≤ length (now r)) ×
+        (now «upper_marks») (now rhs) (now ops) (now amounts) (now mults)) × (rows ≤ length (now r)) ×
         (columns ≤ length (now d)) × (4 ≤ length (now counts)) ⌝ }
     ensures { λ _. ⌜ now (counts .exit) ≡ over (countsAt
         (planOf rows columns (now (coefs .entry)) (now (costs .entry)) (now (lowers .entry)) (now (uppers .entry))
-        (now («lower_marks» .entry)) (now («upper_marks» .entry)) (now (rights .entry)) (now (ops .entry))
+        (now («lower_marks» .entry)) (now («upper_marks» .entry)) (now (rhs .entry)) (now (ops .entry))
         (now (amounts .entry)) (now (mults .entry))) (now (r .entry)) (now (d .entry))) (now (counts .entry)) ⌝ }
 {
-    counts[0] = sheet_sums::broken_rows(rows, rights, ops, r);
+    counts[0] = sheet_sums::broken_rows(rows, rhs, ops, r);
     counts[1] = sheet_sums::outside_amounts(
         columns,
         lowers,
@@ -143,7 +143,7 @@ pub fn write_kept(
     uppers: &[i64],
     lower_marks: &[u8],
     upper_marks: &[u8],
-    rights: &[i64],
+    rhs: &[i64],
     ops: &[u8],
     amounts: &[i64],
     mults: &[i64],
@@ -154,13 +154,13 @@ pub fn write_kept(
     counts: &mut [i64],
 )
     requires { ⌜ Sized (sheetOf (planOf rows columns (now coefs) (now costs) (now lowers) (now uppers)
-        (now «lower_marks») (now «upper_marks») (now rights) (now ops) (now amounts) (now mults))
+        (now «lower_marks») (now «upper_marks») (now rhs) (now ops) (now amounts) (now mults))
         (keptOf (now r) (now d) (now c) (now b) (now counts))) × Limits
         (planOf rows columns (now coefs) (now costs) (now lowers) (now uppers) (now «lower_marks») (now «upper_marks»)
-        (now rights) (now ops) (now amounts) (now mults)) ⌝ }
+        (now rhs) (now ops) (now amounts) (now mults)) ⌝ }
     ensures { λ _. ⌜ keptOf (now (r .exit)) (now (d .exit)) (now (c .exit)) (now (b .exit)) (now (counts .exit)) ≡
         overKept (fresh (planOf rows columns (now (coefs .entry)) (now (costs .entry)) (now (lowers .entry))
-        (now (uppers .entry)) (now («lower_marks» .entry)) (now («upper_marks» .entry)) (now (rights .entry))
+        (now (uppers .entry)) (now («lower_marks» .entry)) (now («upper_marks» .entry)) (now (rhs .entry))
         (now (ops .entry)) (now (amounts .entry)) (now (mults .entry))))
         (keptOf (now (r .entry)) (now (d .entry)) (now (c .entry)) (now (b .entry)) (now (counts .entry))) ⌝ }
 {
@@ -175,7 +175,7 @@ pub fn write_kept(
         uppers,
         lower_marks,
         upper_marks,
-        rights,
+        rhs,
         ops,
         amounts,
         mults,
@@ -192,7 +192,7 @@ pub fn write_kept(
         uppers,
         lower_marks,
         upper_marks,
-        rights,
+        rhs,
         ops,
         amounts,
         mults,
@@ -212,7 +212,7 @@ pub fn opening(
     uppers: &[i64],
     lower_marks: &[u8],
     upper_marks: &[u8],
-    rights: &[i64],
+    rhs: &[i64],
     ops: &[u8],
     amounts: &[i64],
     mults: &[i64],
@@ -224,7 +224,7 @@ pub fn opening(
 ) -> usize
     ensures { λ z. ⌜ z ≡ opening (sheetOf (planOf rows columns (now (coefs .entry)) (now (costs .entry))
         (now (lowers .entry)) (now (uppers .entry)) (now («lower_marks» .entry)) (now («upper_marks» .entry))
-        (now (rights .entry)) (now (ops .entry)) (now (amounts .entry)) (now (mults .entry)))
+        (now (rhs .entry)) (now (ops .entry)) (now (amounts .entry)) (now (mults .entry)))
         (keptOf (now (r .entry)) (now (d .entry)) (now (c .entry)) (now (b .entry)) (now (counts .entry)))) ⌝ }
 {
     if !sheet_tests::sizes_fine(
@@ -236,7 +236,7 @@ pub fn opening(
         uppers,
         lower_marks,
         upper_marks,
-        rights,
+        rhs,
         ops,
         amounts,
         mults,
@@ -257,7 +257,7 @@ pub fn opening(
         uppers,
         lower_marks,
         upper_marks,
-        rights,
+        rhs,
         ops,
         amounts,
         mults,
@@ -273,7 +273,7 @@ pub fn opening(
         uppers,
         lower_marks,
         upper_marks,
-        rights,
+        rhs,
         ops,
         amounts,
         mults,

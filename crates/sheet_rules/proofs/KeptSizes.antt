@@ -54,7 +54,7 @@ module _ (p : Plan) (r : p .rows ≤ maxRows) (n : p .cols ≤ maxColumns) (l : 
   B-size = omega (
     arith,
     abs-add (sum (p .rows) (λ i. Y p i *ℤ rhs p i)) (sum (p .cols) (λ j. termAt p j (price p j))),
-    up-to maxRows (maxMultiplier * maxRightSide) (p .rows) (λ i. Y p i *ℤ rhs p i) r (λ i h. mul-size (Y p i) (rhs p i) maxMultiplier maxRightSide (l .arrays-in .mults-in i h) (l .arrays-in .rights-in i h)),
+    up-to maxRows (maxMultiplier * maxRightSide) (p .rows) (λ i. Y p i *ℤ rhs p i) r (λ i h. mul-size (Y p i) (rhs p i) maxMultiplier maxRightSide (l .arrays-in .mults-in i h) (l .arrays-in .rhs-in i h)),
     up-to maxColumns (maxPrice * maxBound) (p .cols) (λ j. termAt p j (price p j)) n (λ j h. term-size maxPrice maxBound (price p j) (lower p j) (upper p j) _ _ (price-size j h) (l .arrays-in .lowers-in j h .small) (l .arrays-in .uppers-in j h .small)),
   )
 

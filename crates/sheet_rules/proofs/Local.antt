@@ -87,7 +87,7 @@ module _ (p : Plan) (e : Edit) where
 
   pub rhs-still : (i : ℕ) → (i ≡ e .row → ⊥) → rhs (edited p e) i ≡ rhs p i
   unfolding edited
-  rhs-still i ne = put-other _ (e .row) i _ (pos 0) (p .rights) ne
+  rhs-still i ne = put-other _ (e .row) i _ (pos 0) (p .rhs) ne
 
   pub Y-still : (i : ℕ) → (i ≡ e .row → ⊥) → Y (edited p e) i ≡ Y p i
   unfolding edited

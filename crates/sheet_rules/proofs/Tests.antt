@@ -81,7 +81,7 @@ sizes-decide s = record {
     le-leb (s .plan .cols) (length (s .plan .uppers)) (z .uppers-fit),
     le-leb (s .plan .cols) (length (s .plan .lowerMarks)) (z .lowerMarks-fit),
     le-leb (s .plan .cols) (length (s .plan .upperMarks)) (z .upperMarks-fit),
-    le-leb (s .plan .rows) (length (s .plan .rights)) (z .rights-fit),
+    le-leb (s .plan .rows) (length (s .plan .rhs)) (z .rhs-fit),
     le-leb (s .plan .rows) (length (s .plan .ops)) (z .ops-fit),
     le-leb (s .plan .cols) (length (s .plan .amounts)) (z .amounts-fit),
     le-leb (s .plan .rows) (length (s .plan .mults)) (z .mults-fit),
@@ -120,7 +120,7 @@ sizes-decide s = record {
           uppers-fit = leb-true _ _ (e5 .1);
           lowerMarks-fit = leb-true _ _ (e6 .1);
           upperMarks-fit = leb-true _ _ (e7 .1);
-          rights-fit = leb-true _ _ (e8 .1);
+          rhs-fit = leb-true _ _ (e8 .1);
           ops-fit = leb-true _ _ (e9 .1);
           amounts-fit = leb-true _ _ (e10 .1);
           mults-fit = leb-true _ _ (e11 .1);
@@ -153,12 +153,12 @@ arrays-decide p =
     (and-decides _ _
     (and-decides _ _ (within-decides _ _ (p .costs)) (all-decides (p .cols) _ (λ j. bound-decides (lowerMark p j) (lower p j))))
     (all-decides (p .cols) _ (λ j. bound-decides (upperMark p j) (upper p j))))
-    (within-decides _ _ (p .rights)))
+    (within-decides _ _ (p .rhs)))
     (all-decides (p .rows) _ (λ i. leb-decides (op p i) 2)))
     (within-decides _ _ (p .amounts)))
     (within-decides _ _ (p .mults)))
-    (λ h. record { costs-in = h .0 .0 .0 .0 .0 .0; lowers-in = h .0 .0 .0 .0 .0 .1; uppers-in = h .0 .0 .0 .0 .1; rights-in = h .0 .0 .0 .1; ops-in = h .0 .0 .1; amounts-in = h .0 .1; mults-in = h .1 })
-    (λ r. ((((((r .costs-in, r .lowers-in), r .uppers-in), r .rights-in), r .ops-in), r .amounts-in), r .mults-in))
+    (λ h. record { costs-in = h .0 .0 .0 .0 .0 .0; lowers-in = h .0 .0 .0 .0 .0 .1; uppers-in = h .0 .0 .0 .0 .1; rhs-in = h .0 .0 .0 .1; ops-in = h .0 .0 .1; amounts-in = h .0 .1; mults-in = h .1 })
+    (λ r. ((((((r .costs-in, r .lowers-in), r .uppers-in), r .rhs-in), r .ops-in), r .amounts-in), r .mults-in))
 
 pub numbers-decide : (p : Plan) → Decides (numbersFine p) (Limits p)
 unfolding numbersFine

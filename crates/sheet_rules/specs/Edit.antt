@@ -33,7 +33,7 @@ edited p e =
     (put (eqb k 9) j (pos 0) (put (eqb k 4) j z (p .uppers)))
     (put (eqb k 8) j 0 (put (eqb k 3) j 1 (p .lowerMarks)))
     (put (eqb k 9) j 0 (put (eqb k 4) j 1 (p .upperMarks)))
-    (put (eqb k 5) i z (p .rights))
+    (put (eqb k 5) i z (p .rhs))
     (p .ops)
     (put (eqb k 1) j z (p .amounts))
     (put (eqb k 7) i z (p .mults))

@@ -36,7 +36,7 @@ sizesFine s =
     let n = p .cols in
     leb m maxRows && leb n maxColumns && leb (m * n) (length (p .coefs))
     && leb n (length (p .costs)) && leb n (length (p .lowers)) && leb n (length (p .uppers)) && leb n (length (p .lowerMarks)) && leb n (length (p .upperMarks))
-    && leb m (length (p .rights)) && leb m (length (p .ops)) && leb n (length (p .amounts)) && leb m (length (p .mults))
+    && leb m (length (p .rhs)) && leb m (length (p .ops)) && leb n (length (p .amounts)) && leb m (length (p .mults))
     && leb m (length (k .R)) && leb n (length (k .D)) && leb 1 (length (k .C)) && leb 1 (length (k .B)) && leb 4 (length (k .counts))
 
 -- ---- 12. Limits are inclusive
@@ -65,7 +65,7 @@ arraysFine p =
     allWithin maxCost (p .cols) (p .costs)
     && boundsFine (p .cols) (p .lowerMarks) (p .lowers)
     && boundsFine (p .cols) (p .upperMarks) (p .uppers)
-    && allWithin maxRightSide (p .rows) (p .rights)
+    && allWithin maxRightSide (p .rows) (p .rhs)
     && opsFine (p .rows) (p .ops)
     && allWithin maxAmount (p .cols) (p .amounts)
     && allWithin maxMultiplier (p .rows) (p .mults)

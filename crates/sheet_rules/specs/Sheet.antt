@@ -22,7 +22,7 @@ pub record Plan : Type 0 where
   pub uppers : List ℤ
   pub lowerMarks : List ℕ
   pub upperMarks : List ℕ
-  pub rights : List ℤ
+  pub rhs : List ℤ
   pub ops : List ℕ
   pub amounts : List ℤ
   pub mults : List ℤ
@@ -49,7 +49,7 @@ planOf m n co c l u lm um r o x y = record {
   uppers = u;
   lowerMarks = lm;
   upperMarks = um;
-  rights = r;
+  rhs = r;
   ops = o;
   amounts = x;
   mults = y;
@@ -82,7 +82,7 @@ module _ (p : Plan) where
   upperMark j = p .upperMarks # j
 
   abbrev pub rhs : ℕ → ℤ
-  rhs i = p .rights ‼ i
+  rhs i = p .rhs ‼ i
 
   abbrev pub op : ℕ → ℕ
   op i = p .ops # i

@@ -25,7 +25,7 @@ pub record Sized (s : Sheet) : Type 0 where
   pub uppers-fit : s .plan .cols ≤ length (s .plan .uppers)
   pub lowerMarks-fit : s .plan .cols ≤ length (s .plan .lowerMarks)
   pub upperMarks-fit : s .plan .cols ≤ length (s .plan .upperMarks)
-  pub rights-fit : s .plan .rows ≤ length (s .plan .rights)
+  pub rhs-fit : s .plan .rows ≤ length (s .plan .rhs)
   pub ops-fit : s .plan .rows ≤ length (s .plan .ops)
   pub amounts-fit : s .plan .cols ≤ length (s .plan .amounts)
   pub mults-fit : s .plan .rows ≤ length (s .plan .mults)
@@ -50,7 +50,7 @@ pub record Arrays (p : Plan) : Type 0 where
   pub costs-in : Within maxCost (p .cols) (p .costs)
   pub lowers-in : (j : ℕ) → j < p .cols → Bound (lowerMark p j) (lower p j)
   pub uppers-in : (j : ℕ) → j < p .cols → Bound (upperMark p j) (upper p j)
-  pub rights-in : Within maxRightSide (p .rows) (p .rights)
+  pub rhs-in : Within maxRightSide (p .rows) (p .rhs)
   pub ops-in : (i : ℕ) → i < p .rows → op p i ≤ 2
   pub amounts-in : Within maxAmount (p .cols) (p .amounts)
   pub mults-in : Within maxMultiplier (p .rows) (p .mults)

@@ -18,7 +18,7 @@ fn move_kept(
     uppers: &[i64],
     lower_marks: &[u8],
     upper_marks: &[u8],
-    rights: &[i64],
+    rhs: &[i64],
     ops: &[u8],
     amounts: &[i64],
     mults: &[i64],
@@ -29,11 +29,11 @@ fn move_kept(
     counts: &mut [i64],
 )
     requires { ⌜ Ready (sheetOf (planOf rows columns (now coefs) (now costs) (now lowers) (now uppers)
-        (now «lower_marks») (now «upper_marks») (now rights) (now ops) (now amounts) (now mults))
+        (now «lower_marks») (now «upper_marks») (now rhs) (now ops) (now amounts) (now mults))
         (keptOf (now r) (now d) (now c) (now b) (now counts))) e × Today e ⌝ }
     ensures { λ _. ⌜ keptOf (now (r .exit)) (now (d .exit)) (now (c .exit)) (now (b .exit)) (now (counts .exit)) ≡
         overKept (moved (sheetOf (planOf rows columns (now (coefs .entry)) (now (costs .entry)) (now (lowers .entry))
-        (now (uppers .entry)) (now («lower_marks» .entry)) (now («upper_marks» .entry)) (now (rights .entry))
+        (now (uppers .entry)) (now («lower_marks» .entry)) (now («upper_marks» .entry)) (now (rhs .entry))
         (now (ops .entry)) (now (amounts .entry)) (now (mults .entry)))
         (keptOf (now (r .entry)) (now (d .entry)) (now (c .entry)) (now (b .entry)) (now (counts .entry)))) e)
         (keptOf (now (r .entry)) (now (d .entry)) (now (c .entry)) (now (b .entry)) (now (counts .entry))) ⌝ }
@@ -48,7 +48,7 @@ fn move_kept(
         uppers,
         lower_marks,
         upper_marks,
-        rights,
+        rhs,
         ops,
         amounts,
         mults,
@@ -67,7 +67,7 @@ fn move_kept(
         uppers,
         lower_marks,
         upper_marks,
-        rights,
+        rhs,
         ops,
         amounts,
         mults,
@@ -83,7 +83,7 @@ fn move_kept(
         uppers,
         lower_marks,
         upper_marks,
-        rights,
+        rhs,
         ops,
         amounts,
         mults,
@@ -104,7 +104,7 @@ pub fn apply_edit(
     uppers: &mut [i64],
     lower_marks: &mut [u8],
     upper_marks: &mut [u8],
-    rights: &mut [i64],
+    rhs: &mut [i64],
     ops: &[u8],
     amounts: &mut [i64],
     mults: &mut [i64],
@@ -115,14 +115,14 @@ pub fn apply_edit(
     counts: &mut [i64],
 )
     requires { ⌜ Ready (sheetOf (planOf rows columns (now coefs) (now costs) (now lowers) (now uppers)
-        (now «lower_marks») (now «upper_marks») (now rights) (now ops) (now amounts) (now mults))
+        (now «lower_marks») (now «upper_marks») (now rhs) (now ops) (now amounts) (now mults))
         (keptOf (now r) (now d) (now c) (now b) (now counts))) e × Today e ⌝ }
     ensures { λ _. ⌜ sheetOf (planOf rows columns (now (coefs .exit)) (now (costs .exit)) (now (lowers .exit))
-        (now (uppers .exit)) (now («lower_marks» .exit)) (now («upper_marks» .exit)) (now (rights .exit))
+        (now (uppers .exit)) (now («lower_marks» .exit)) (now («upper_marks» .exit)) (now (rhs .exit))
         (now (ops .entry)) (now (amounts .exit)) (now (mults .exit)))
         (keptOf (now (r .exit)) (now (d .exit)) (now (c .exit)) (now (b .exit)) (now (counts .exit))) ≡ applied
         (sheetOf (planOf rows columns (now (coefs .entry)) (now (costs .entry)) (now (lowers .entry))
-        (now (uppers .entry)) (now («lower_marks» .entry)) (now («upper_marks» .entry)) (now (rights .entry))
+        (now (uppers .entry)) (now («lower_marks» .entry)) (now («upper_marks» .entry)) (now (rhs .entry))
         (now (ops .entry)) (now (amounts .entry)) (now (mults .entry)))
         (keptOf (now (r .entry)) (now (d .entry)) (now (c .entry)) (now (b .entry)) (now (counts .entry)))) e ⌝ }
 {
@@ -136,7 +136,7 @@ pub fn apply_edit(
         uppers,
         lower_marks,
         upper_marks,
-        rights,
+        rhs,
         ops,
         amounts,
         mults,
@@ -156,7 +156,7 @@ pub fn apply_edit(
         uppers,
         lower_marks,
         upper_marks,
-        rights,
+        rhs,
         ops,
         amounts,
         mults,

@@ -37,7 +37,7 @@ module _ (p : Plan) (e : Edit) (v : ℤ) (is : v ≡ e .number) where
       → u ≡ put (eqb (e .kind) 9) j (pos 0) (put (eqb (e .kind) 4) j v (p .uppers))
       → lm ≡ put (eqb (e .kind) 8) j 0 (put (eqb (e .kind) 3) j 1 (p .lowerMarks))
       → um ≡ put (eqb (e .kind) 9) j 0 (put (eqb (e .kind) 4) j 1 (p .upperMarks))
-      → r ≡ put (eqb (e .kind) 5) i v (p .rights)
+      → r ≡ put (eqb (e .kind) 5) i v (p .rhs)
       → x ≡ put (eqb (e .kind) 1) j v (p .amounts)
       → y ≡ put (eqb (e .kind) 7) i v (p .mults)
       → planOf (p .rows) (p .cols) co c l u lm um r (p .ops) x y ≡ edited p e

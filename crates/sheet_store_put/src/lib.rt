@@ -67,20 +67,20 @@ pub fn put_cell(
     uppers: &mut [i64],
     lower_marks: &mut [u8],
     upper_marks: &mut [u8],
-    rights: &mut [i64],
+    rhs: &mut [i64],
     ops: &[u8],
     amounts: &mut [i64],
     mults: &mut [i64],
 )
     requires { ⌜ PlanSized (planOf rows columns (now coefs) (now costs) (now lowers) (now uppers) (now «lower_marks»)
-        (now «upper_marks») (now rights) (now ops) (now amounts) (now mults)) × Index
+        (now «upper_marks») (now rhs) (now ops) (now amounts) (now mults)) × Index
         (planOf rows columns (now coefs) (now costs) (now lowers) (now uppers) (now «lower_marks») (now «upper_marks»)
-        (now rights) (now ops) (now amounts) (now mults)) e ⌝ }
+        (now rhs) (now ops) (now amounts) (now mults)) e ⌝ }
     ensures { λ _. ⌜ planOf rows columns (now (coefs .exit)) (now (costs .exit)) (now (lowers .exit))
-        (now (uppers .exit)) (now («lower_marks» .exit)) (now («upper_marks» .exit)) (now (rights .exit))
+        (now (uppers .exit)) (now («lower_marks» .exit)) (now («upper_marks» .exit)) (now (rhs .exit))
         (now (ops .entry)) (now (amounts .exit)) (now (mults .exit)) ≡ edited
         (planOf rows columns (now (coefs .entry)) (now (costs .entry)) (now (lowers .entry)) (now (uppers .entry))
-        (now («lower_marks» .entry)) (now («upper_marks» .entry)) (now (rights .entry)) (now (ops .entry))
+        (now («lower_marks» .entry)) (now («upper_marks» .entry)) (now (rhs .entry)) (now (ops .entry))
         (now (amounts .entry)) (now (mults .entry))) e ⌝ }
 {
     let kind = e.kind;
@@ -90,7 +90,7 @@ pub fn put_cell(
     put_number(kind == 2, j, e.number, costs);
     put_bound(kind == 3, kind == 8, j, e.number, lowers, lower_marks);
     put_bound(kind == 4, kind == 9, j, e.number, uppers, upper_marks);
-    put_number(kind == 5, i, e.number, rights);
+    put_number(kind == 5, i, e.number, rhs);
     put_number(kind == 1, j, e.number, amounts);
     put_number(kind == 7, i, e.number, mults);
 }

@@ -46,7 +46,7 @@ pub fn move_activities(
     uppers: &[i64],
     lower_marks: &[u8],
     upper_marks: &[u8],
-    rights: &[i64],
+    rhs: &[i64],
     ops: &[u8],
     amounts: &[i64],
     mults: &[i64],
@@ -54,10 +54,10 @@ pub fn move_activities(
     r: &mut [i64],
 )
     requires { ⌜ PlanReady (planOf rows columns (now coefs) (now costs) (now lowers) (now uppers) (now «lower_marks»)
-        (now «upper_marks») (now rights) (now ops) (now amounts) (now mults)) e × Small maxR rows (now r) ⌝ }
+        (now «upper_marks») (now rhs) (now ops) (now amounts) (now mults)) e × Small maxR rows (now r) ⌝ }
     ensures { λ _. ⌜ now (r .exit) ≡ over (table rows
         (movedR (sheetOf (planOf rows columns (now (coefs .entry)) (now (costs .entry)) (now (lowers .entry))
-        (now (uppers .entry)) (now («lower_marks» .entry)) (now («upper_marks» .entry)) (now (rights .entry))
+        (now (uppers .entry)) (now («lower_marks» .entry)) (now («upper_marks» .entry)) (now (rhs .entry))
         (now (ops .entry)) (now (amounts .entry)) (now (mults .entry))) (keptOf (now (r .entry)) [] [] [] [])) e))
         (now (r .entry)) ⌝ }
 {
@@ -78,7 +78,7 @@ pub fn move_activities(
             uppers,
             lower_marks,
             upper_marks,
-            rights,
+            rhs,
             ops,
             amounts,
             mults,
@@ -97,7 +97,7 @@ pub fn move_prices(
     uppers: &[i64],
     lower_marks: &[u8],
     upper_marks: &[u8],
-    rights: &[i64],
+    rhs: &[i64],
     ops: &[u8],
     amounts: &[i64],
     mults: &[i64],
@@ -105,10 +105,10 @@ pub fn move_prices(
     d: &mut [i64],
 )
     requires { ⌜ PlanReady (planOf rows columns (now coefs) (now costs) (now lowers) (now uppers) (now «lower_marks»)
-        (now «upper_marks») (now rights) (now ops) (now amounts) (now mults)) e × Small maxD columns (now d) ⌝ }
+        (now «upper_marks») (now rhs) (now ops) (now amounts) (now mults)) e × Small maxD columns (now d) ⌝ }
     ensures { λ _. ⌜ now (d .exit) ≡ over (table columns
         (movedD (sheetOf (planOf rows columns (now (coefs .entry)) (now (costs .entry)) (now (lowers .entry))
-        (now (uppers .entry)) (now («lower_marks» .entry)) (now («upper_marks» .entry)) (now (rights .entry))
+        (now (uppers .entry)) (now («lower_marks» .entry)) (now («upper_marks» .entry)) (now (rhs .entry))
         (now (ops .entry)) (now (amounts .entry)) (now (mults .entry))) (keptOf [] (now (d .entry)) [] [] [])) e))
         (now (d .entry)) ⌝ }
 {
@@ -129,7 +129,7 @@ pub fn move_prices(
             uppers,
             lower_marks,
             upper_marks,
-            rights,
+            rhs,
             ops,
             amounts,
             mults,

@@ -68,15 +68,15 @@ pub fn column_terms(
 }
 
 // The rows that their activities r break.
-pub fn broken_rows(rows: usize, rights: &[i64], ops: &[u8], r: &[i64]) -> i64
-    requires { ⌜ (rows ≤ maxRows) × (rows ≤ length (now rights)) × (rows ≤ length (now ops)) × (rows ≤ length (now r)) ⌝ }
+pub fn broken_rows(rows: usize, rhs: &[i64], ops: &[u8], r: &[i64]) -> i64
+    requires { ⌜ (rows ≤ maxRows) × (rows ≤ length (now rhs)) × (rows ≤ length (now ops)) × (rows ≤ length (now r)) ⌝ }
     ensures { λ z. ⌜ z ≡ count rows (λ i. not (holds (now (ops .entry) # i) (now (r .entry) ‼ i)
-        (now (rights .entry) ‼ i))) ⌝ }
+        (now (rhs .entry) ‼ i))) ⌝ }
 {
     let mut total: i64 = 0;
     let mut i = 0;
     while i < rows {
-        total += bit(!holds(ops[i], r[i], rights[i]));
+        total += bit(!holds(ops[i], r[i], rhs[i]));
         i += 1;
     }
     total

@@ -23,7 +23,7 @@ plan-sized s z = record {
   uppers-long = z .uppers-fit;
   lower-marks-long = z .lowerMarks-fit;
   upper-marks-long = z .upperMarks-fit;
-  rights-long = z .rights-fit;
+  rhs-long = z .rhs-fit;
   ops-long = z .ops-fit;
   amounts-long = z .amounts-fit;
   mults-long = z .mults-fit;
@@ -45,7 +45,7 @@ fine p z a = record {
   costs-small = record { there = z .costs-long; at = a .costs-in };
   lowers-small = record { there = z .lowers-long; at = λ j l. a .lowers-in j l .small };
   uppers-small = record { there = z .uppers-long; at = λ j l. a .uppers-in j l .small };
-  rights-small = record { there = z .rights-long; at = a .rights-in };
+  rhs-small = record { there = z .rhs-long; at = a .rhs-in };
   amounts-small = record { there = z .amounts-long; at = a .amounts-in };
   mults-small = record { there = z .mults-long; at = a .mults-in };
 }

@@ -16,7 +16,7 @@ pub record PlanSized (p : Plan) : Type 0 where
   pub uppers-long : p .cols ≤ length (p .uppers)
   pub lower-marks-long : p .cols ≤ length (p .lowerMarks)
   pub upper-marks-long : p .cols ≤ length (p .upperMarks)
-  pub rights-long : p .rows ≤ length (p .rights)
+  pub rhs-long : p .rows ≤ length (p .rhs)
   pub ops-long : p .rows ≤ length (p .ops)
   pub amounts-long : p .cols ≤ length (p .amounts)
   pub mults-long : p .rows ≤ length (p .mults)
@@ -36,7 +36,7 @@ pub record Fine (p : Plan) : Type 0 where
   pub costs-small : Small maxCost (p .cols) (p .costs)
   pub lowers-small : Small maxBound (p .cols) (p .lowers)
   pub uppers-small : Small maxBound (p .cols) (p .uppers)
-  pub rights-small : Small maxRightSide (p .rows) (p .rights)
+  pub rhs-small : Small maxRightSide (p .rows) (p .rhs)
   pub amounts-small : Small maxAmount (p .cols) (p .amounts)
   pub mults-small : Small maxMultiplier (p .rows) (p .mults)
 

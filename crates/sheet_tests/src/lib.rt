@@ -84,7 +84,7 @@ pub fn sizes_fine(
     uppers: &[i64],
     lower_marks: &[u8],
     upper_marks: &[u8],
-    rights: &[i64],
+    rhs: &[i64],
     ops: &[u8],
     amounts: &[i64],
     mults: &[i64],
@@ -96,7 +96,7 @@ pub fn sizes_fine(
 ) -> bool
     ensures { λ z. ⌜ z ≡ sizesFine (sheetOf (planOf rows columns (now (coefs .entry)) (now (costs .entry))
         (now (lowers .entry)) (now (uppers .entry)) (now («lower_marks» .entry)) (now («upper_marks» .entry))
-        (now (rights .entry)) (now (ops .entry)) (now (amounts .entry)) (now (mults .entry)))
+        (now (rhs .entry)) (now (ops .entry)) (now (amounts .entry)) (now (mults .entry)))
         (keptOf (now (r .entry)) (now (d .entry)) (now (c .entry)) (now (b .entry)) (now (counts .entry)))) ⌝ }
 {
     if (rows <= doubles::MAX_ROWS) & (columns <= doubles::MAX_COLUMNS) {
@@ -107,7 +107,7 @@ pub fn sizes_fine(
             & (columns <= uppers.len())
             & (columns <= lower_marks.len())
             & (columns <= upper_marks.len())
-            & (rows <= rights.len())
+            & (rows <= rhs.len())
             & (rows <= ops.len())
             & (columns <= amounts.len())
             & (rows <= mults.len())
@@ -130,21 +130,21 @@ pub fn arrays_fine(
     uppers: &[i64],
     lower_marks: &[u8],
     upper_marks: &[u8],
-    rights: &[i64],
+    rhs: &[i64],
     ops: &[u8],
     amounts: &[i64],
     mults: &[i64],
 ) -> bool
     requires { ⌜ PlanSized (planOf rows columns (now coefs) (now costs) (now lowers) (now uppers) (now «lower_marks»)
-        (now «upper_marks») (now rights) (now ops) (now amounts) (now mults)) ⌝ }
+        (now «upper_marks») (now rhs) (now ops) (now amounts) (now mults)) ⌝ }
     ensures { λ z. ⌜ z ≡ arraysFine (planOf rows columns (now (coefs .entry)) (now (costs .entry)) (now (lowers .entry))
-        (now (uppers .entry)) (now («lower_marks» .entry)) (now («upper_marks» .entry)) (now (rights .entry))
+        (now (uppers .entry)) (now («lower_marks» .entry)) (now («upper_marks» .entry)) (now (rhs .entry))
         (now (ops .entry)) (now (amounts .entry)) (now (mults .entry))) ⌝ }
 {
     all_within(doubles::MAX_COST, columns, costs)
         & bounds_fine(columns, lower_marks, lowers)
         & bounds_fine(columns, upper_marks, uppers)
-        & all_within(doubles::MAX_RIGHT_SIDE, rows, rights)
+        & all_within(doubles::MAX_RIGHT_SIDE, rows, rhs)
         & ops_fine(rows, ops)
         & all_within(doubles::MAX_AMOUNT, columns, amounts)
         & all_within(doubles::MAX_MULTIPLIER, rows, mults)
@@ -160,16 +160,16 @@ pub fn numbers_fine(
     uppers: &[i64],
     lower_marks: &[u8],
     upper_marks: &[u8],
-    rights: &[i64],
+    rhs: &[i64],
     ops: &[u8],
     amounts: &[i64],
     mults: &[i64],
 ) -> bool
     requires { ⌜ PlanSized (planOf rows columns (now coefs) (now costs) (now lowers) (now uppers) (now «lower_marks»)
-        (now «upper_marks») (now rights) (now ops) (now amounts) (now mults)) ⌝ }
+        (now «upper_marks») (now rhs) (now ops) (now amounts) (now mults)) ⌝ }
     ensures { λ z. ⌜ z ≡ numbersFine (planOf rows columns (now (coefs .entry)) (now (costs .entry))
         (now (lowers .entry)) (now (uppers .entry)) (now («lower_marks» .entry)) (now («upper_marks» .entry))
-        (now (rights .entry)) (now (ops .entry)) (now (amounts .entry)) (now (mults .entry))) ⌝ }
+        (now (rhs .entry)) (now (ops .entry)) (now (amounts .entry)) (now (mults .entry))) ⌝ }
 {
     all_within(doubles::MAX_COEFFICIENT, rows * columns, coefs)
         & arrays_fine(
@@ -181,7 +181,7 @@ pub fn numbers_fine(
             uppers,
             lower_marks,
             upper_marks,
-            rights,
+            rhs,
             ops,
             amounts,
             mults,
@@ -205,15 +205,15 @@ pub fn uncrossed(
     uppers: &[i64],
     lower_marks: &[u8],
     upper_marks: &[u8],
-    rights: &[i64],
+    rhs: &[i64],
     ops: &[u8],
     amounts: &[i64],
     mults: &[i64],
 ) -> bool
     requires { ⌜ PlanSized (planOf rows columns (now coefs) (now costs) (now lowers) (now uppers) (now «lower_marks»)
-        (now «upper_marks») (now rights) (now ops) (now amounts) (now mults)) ⌝ }
+        (now «upper_marks») (now rhs) (now ops) (now amounts) (now mults)) ⌝ }
     ensures { λ z. ⌜ z ≡ uncrossed (planOf rows columns (now (coefs .entry)) (now (costs .entry)) (now (lowers .entry))
-        (now (uppers .entry)) (now («lower_marks» .entry)) (now («upper_marks» .entry)) (now (rights .entry))
+        (now (uppers .entry)) (now («lower_marks» .entry)) (now («upper_marks» .entry)) (now (rhs .entry))
         (now (ops .entry)) (now (amounts .entry)) (now (mults .entry))) ⌝ }
 {
     let mut j = 0;

@@ -13,14 +13,14 @@ pub extern "C" fn tevalumi_write_plan(
     uppers: &[i64],
     lower_marks: &[u8],
     upper_marks: &[u8],
-    rights: &[i64],
+    rhs: &[i64],
     ops: &[u8],
     amounts: &[i64],
     mults: &[i64],
     file: &mut [u8],
 ) -> file_face::TevalumiWritten
     ensures { λ r. ⌜ WritesNumbers (planOf rows columns (now (coefs .entry)) (now (costs .entry)) (now (lowers .entry))
-        (now (uppers .entry)) (now («lower_marks» .entry)) (now («upper_marks» .entry)) (now (rights .entry))
+        (now (uppers .entry)) (now («lower_marks» .entry)) (now («upper_marks» .entry)) (now (rhs .entry))
         (now (ops .entry)) (now (amounts .entry)) (now (mults .entry))) (now (file .entry)) r (now (file .exit)) ⌝ }
 {
     let w = file::write_plan(
@@ -32,7 +32,7 @@ pub extern "C" fn tevalumi_write_plan(
         uppers,
         lower_marks,
         upper_marks,
-        rights,
+        rhs,
         ops,
         amounts,
         mults,
@@ -50,17 +50,17 @@ pub extern "C" fn tevalumi_read_plan(
     uppers: &mut [i64],
     lower_marks: &mut [u8],
     upper_marks: &mut [u8],
-    rights: &mut [i64],
+    rhs: &mut [i64],
     ops: &mut [u8],
     amounts: &mut [i64],
     mults: &mut [i64],
 ) -> file_face::TevalumiRead
     ensures { λ r. ⌜ ReadsNumbers (now (file .entry))
         (planOf 0 0 (now (coefs .entry)) (now (costs .entry)) (now (lowers .entry)) (now (uppers .entry))
-        (now («lower_marks» .entry)) (now («upper_marks» .entry)) (now (rights .entry)) (now (ops .entry))
+        (now («lower_marks» .entry)) (now («upper_marks» .entry)) (now (rhs .entry)) (now (ops .entry))
         (now (amounts .entry)) (now (mults .entry))) r
         (planOf 0 0 (now (coefs .exit)) (now (costs .exit)) (now (lowers .exit)) (now (uppers .exit))
-        (now («lower_marks» .exit)) (now («upper_marks» .exit)) (now (rights .exit)) (now (ops .exit))
+        (now («lower_marks» .exit)) (now («upper_marks» .exit)) (now (rhs .exit)) (now (ops .exit))
         (now (amounts .exit)) (now (mults .exit))) ⌝ }
 {
     let a = file::read_plan(
@@ -71,7 +71,7 @@ pub extern "C" fn tevalumi_read_plan(
         uppers,
         lower_marks,
         upper_marks,
-        rights,
+        rhs,
         ops,
         amounts,
         mults,

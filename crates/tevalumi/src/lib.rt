@@ -200,7 +200,7 @@ pub extern "C" fn tevalumi_open(
     uppers: &[i64],
     lower_marks: &[u8],
     upper_marks: &[u8],
-    rights: &[i64],
+    rhs: &[i64],
     ops: &[u8],
     amounts: &[i64],
     mults: &[i64],
@@ -211,11 +211,11 @@ pub extern "C" fn tevalumi_open(
     counts: &mut [i64],
 ) -> usize
     ensures { λ z. ⌜ Opens (sheetOf (planOf rows columns (now (coefs .entry)) (now (costs .entry)) (now (lowers .entry))
-        (now (uppers .entry)) (now («lower_marks» .entry)) (now («upper_marks» .entry)) (now (rights .entry))
+        (now (uppers .entry)) (now («lower_marks» .entry)) (now («upper_marks» .entry)) (now (rhs .entry))
         (now (ops .entry)) (now (amounts .entry)) (now (mults .entry)))
         (keptOf (now (r .entry)) (now (d .entry)) (now (c .entry)) (now (b .entry)) (now (counts .entry)))) z
         (sheetOf (planOf rows columns (now (coefs .entry)) (now (costs .entry)) (now (lowers .entry))
-        (now (uppers .entry)) (now («lower_marks» .entry)) (now («upper_marks» .entry)) (now (rights .entry))
+        (now (uppers .entry)) (now («lower_marks» .entry)) (now («upper_marks» .entry)) (now (rhs .entry))
         (now (ops .entry)) (now (amounts .entry)) (now (mults .entry)))
         (keptOf (now (r .exit)) (now (d .exit)) (now (c .exit)) (now (b .exit)) (now (counts .exit)))) ⌝ }
 {
@@ -228,7 +228,7 @@ pub extern "C" fn tevalumi_open(
         uppers,
         lower_marks,
         upper_marks,
-        rights,
+        rhs,
         ops,
         amounts,
         mults,
@@ -255,7 +255,7 @@ pub extern "C" fn tevalumi_edit(
     uppers: &mut [i64],
     lower_marks: &mut [u8],
     upper_marks: &mut [u8],
-    rights: &mut [i64],
+    rhs: &mut [i64],
     ops: &[u8],
     amounts: &mut [i64],
     mults: &mut [i64],
@@ -266,12 +266,12 @@ pub extern "C" fn tevalumi_edit(
     counts: &mut [i64],
 ) -> usize
     ensures { λ z. ⌜ Edits (sheetOf (planOf rows columns (now (coefs .entry)) (now (costs .entry)) (now (lowers .entry))
-        (now (uppers .entry)) (now («lower_marks» .entry)) (now («upper_marks» .entry)) (now (rights .entry))
+        (now (uppers .entry)) (now («lower_marks» .entry)) (now («upper_marks» .entry)) (now (rhs .entry))
         (now (ops .entry)) (now (amounts .entry)) (now (mults .entry)))
         (keptOf (now (r .entry)) (now (d .entry)) (now (c .entry)) (now (b .entry)) (now (counts .entry))))
         (record { kind = kind; row = row; column = column; number = number }) z
         (sheetOf (planOf rows columns (now (coefs .exit)) (now (costs .exit)) (now (lowers .exit)) (now (uppers .exit))
-        (now («lower_marks» .exit)) (now («upper_marks» .exit)) (now (rights .exit)) (now (ops .entry))
+        (now («lower_marks» .exit)) (now («upper_marks» .exit)) (now (rhs .exit)) (now (ops .entry))
         (now (amounts .exit)) (now (mults .exit)))
         (keptOf (now (r .exit)) (now (d .exit)) (now (c .exit)) (now (b .exit)) (now (counts .exit)))) ⌝ }
 {
@@ -288,7 +288,7 @@ pub extern "C" fn tevalumi_edit(
         uppers,
         lower_marks,
         upper_marks,
-        rights,
+        rhs,
         ops,
         amounts,
         mults,
@@ -311,7 +311,7 @@ pub extern "C" fn tevalumi_verdict(
     uppers: &[i64],
     lower_marks: &[u8],
     upper_marks: &[u8],
-    rights: &[i64],
+    rhs: &[i64],
     ops: &[u8],
     amounts: &[i64],
     mults: &[i64],
@@ -323,7 +323,7 @@ pub extern "C" fn tevalumi_verdict(
 ) -> face::SheetVerdict
     ensures { λ z. ⌜ sheetNumbers z ≡ verdictNumbers
         (verdict (sheetOf (planOf rows columns (now (coefs .entry)) (now (costs .entry)) (now (lowers .entry))
-        (now (uppers .entry)) (now («lower_marks» .entry)) (now («upper_marks» .entry)) (now (rights .entry))
+        (now (uppers .entry)) (now («lower_marks» .entry)) (now («upper_marks» .entry)) (now (rhs .entry))
         (now (ops .entry)) (now (amounts .entry)) (now (mults .entry)))
         (keptOf (now (r .entry)) (now (d .entry)) (now (c .entry)) (now (b .entry)) (now (counts .entry))))) ⌝ }
 {
@@ -336,7 +336,7 @@ pub extern "C" fn tevalumi_verdict(
         uppers,
         lower_marks,
         upper_marks,
-        rights,
+        rhs,
         ops,
         amounts,
         mults,

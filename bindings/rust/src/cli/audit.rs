@@ -46,8 +46,8 @@ pub fn figures(plan: &Plan, costs: Costs) -> Result<Figures, String> {
         Costs::Own => whole(x, limits::SHEET_COST, || column("cost", j)),
         Costs::Zero => Ok(0),
     });
-    let rights = plan.rhs[..rows].iter().enumerate();
-    let rights = rights.map(|(i, &x)| {
+    let rhs = plan.rhs[..rows].iter().enumerate();
+    let rhs = rhs.map(|(i, &x)| {
         whole(x, limits::SHEET_RIGHT, || {
             format!("the right side of row {}", plan.row_name(i))
         })
@@ -64,7 +64,7 @@ pub fn figures(plan: &Plan, costs: Costs) -> Result<Figures, String> {
         costs: costs.collect::<Result<_, _>>()?,
         lowers: bounds("lower bound", &plan.lowers)?,
         uppers: bounds("upper bound", &plan.uppers)?,
-        rights: rights.collect::<Result<_, _>>()?,
+        rhs: rhs.collect::<Result<_, _>>()?,
         ops: ops.collect(),
         ..Figures::default()
     })

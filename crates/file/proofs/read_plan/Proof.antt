@@ -9,7 +9,7 @@ use Rattle.file.proofs.read_plan.Statement.{statement}
 use Rattle.file.proofs.read_plan.Tie as tie
 
 abbrev lent : tie.Start → Plan
-lent s = planOf 0 0 (s .args .coefs .now) (s .args .costs .now) (s .args .lowers .now) (s .args .uppers .now) (s .args .lower-marks .now) (s .args .upper-marks .now) (s .args .rights .now) (s .args .ops .now) (s .args .amounts .now) (s .args .mults .now)
+lent s = planOf 0 0 (s .args .coefs .now) (s .args .costs .now) (s .args .lowers .now) (s .args .uppers .now) (s .args .lower-marks .now) (s .args .upper-marks .now) (s .args .rhs .now) (s .args .ops .now) (s .args .amounts .now) (s .args .mults .now)
 
 judge-requires : tie.Need-judge-requires
 judge-requires c κs = search needs

@@ -10,7 +10,7 @@ use Rattle.file.proofs.write_plan.Statement.{statement}
 use Rattle.file.proofs.write_plan.Tie as tie
 
 abbrev given : tie.Start → Plan
-given s = planOf (s .args .rows) (s .args .columns) (s .args .coefs .now) (s .args .costs .now) (s .args .lowers .now) (s .args .uppers .now) (s .args .lower-marks .now) (s .args .upper-marks .now) (s .args .rights .now) (s .args .ops .now) (s .args .amounts .now) (s .args .mults .now)
+given s = planOf (s .args .rows) (s .args .columns) (s .args .coefs .now) (s .args .costs .now) (s .args .lowers .now) (s .args .uppers .now) (s .args .lower-marks .now) (s .args .upper-marks .now) (s .args .rhs .now) (s .args .ops .now) (s .args .amounts .now) (s .args .mults .now)
 
 write-refusal-requires : tie.Need-write-refusal-requires
 write-refusal-requires c κs = search needs

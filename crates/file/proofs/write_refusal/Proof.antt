@@ -19,7 +19,7 @@ use Rattle.file.proofs.write_refusal.Statement.{statement}
 use Rattle.file.proofs.write_refusal.Tie as tie
 
 abbrev given : tie.Start → Plan
-given s = planOf (s .args .rows) (s .args .columns) (s .args .coefs .now) (s .args .costs .now) (s .args .lowers .now) (s .args .uppers .now) (s .args .lower-marks .now) (s .args .upper-marks .now) (s .args .rights .now) (s .args .ops .now) (s .args .amounts .now) (s .args .mults .now)
+given s = planOf (s .args .rows) (s .args .columns) (s .args .coefs .now) (s .args .costs .now) (s .args .lowers .now) (s .args .uppers .now) (s .args .lower-marks .now) (s .args .upper-marks .now) (s .args .rhs .now) (s .args .ops .now) (s .args .amounts .now) (s .args .mults .now)
 
 plan-sized-requires : tie.Need-plan-sized-requires
 plan-sized-requires c κs = search needs

@@ -24,7 +24,7 @@ bounds-fine-requires-2 : tie.Need-bounds-fine-requires-2
 bounds-fine-requires-2 c κs = let l : tie.After-layout = search in (in-file l .upperMarks-in, in-file l .uppers-in)
 
 all-within-requires-2 : tie.Need-all-within-requires-2
-all-within-requires-2 c κs = let l : tie.After-layout = search in in-file l .rights-in
+all-within-requires-2 c κs = let l : tie.After-layout = search in in-file l .rhs-in
 
 ops-fine-requires : tie.Need-ops-fine-requires
 ops-fine-requires c κs = let l : tie.After-layout = search in in-file l .ops-in

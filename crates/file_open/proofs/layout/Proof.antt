@@ -42,11 +42,11 @@ add-lower-marks-2 c = let s : tie.Start = search in omega (arith, few (s .args .
 add-lower-marks-3 : tie.Need-add-lower-marks-3
 add-lower-marks-3 c = let s : tie.Start = search in omega (arith, few (s .args .rows) (s .args .columns) (s .pre .0) (s .pre .1))
 
-add-rights : tie.Need-add-rights
-add-rights c = let s : tie.Start = search in omega (arith, few (s .args .rows) (s .args .columns) (s .pre .0) (s .pre .1))
+add-rhs : tie.Need-add-rhs
+add-rhs c = let s : tie.Start = search in omega (arith, few (s .args .rows) (s .args .columns) (s .pre .0) (s .pre .1))
 
-add-rights-2 : tie.Need-add-rights-2
-add-rights-2 c = let s : tie.Start = search in omega (arith, few (s .args .rows) (s .args .columns) (s .pre .0) (s .pre .1))
+add-rhs-2 : tie.Need-add-rhs-2
+add-rhs-2 c = let s : tie.Start = search in omega (arith, few (s .args .rows) (s .args .columns) (s .pre .0) (s .pre .1))
 
 add-amounts : tie.Need-add-amounts
 add-amounts c = let s : tie.Start = search in omega (arith, few (s .args .rows) (s .args .columns) (s .pre .0) (s .pre .1))
@@ -106,8 +106,8 @@ layout-spec =
     add-lower-marks
     add-lower-marks-2
     add-lower-marks-3
-    add-rights
-    add-rights-2
+    add-rhs
+    add-rhs-2
     add-amounts
     ceil-requires-5
     add-amounts-2

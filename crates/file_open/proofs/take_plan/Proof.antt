@@ -36,7 +36,7 @@ take-bytes-requires-2 : tie.Need-take-bytes-requires-2
 take-bytes-requires-2 c κs = (in-file (c .before .before .before .before .before .before .before .before .before .before .before .before .before .before .before .before .before) .upperMarks-in, (c .before .before .before .before .before .before .before .before .before .before .before .before .before .before .before .before .before .before .before .before .before .before) .pre .1 .upper-marks-long)
 
 take-numbers-requires-5 : tie.Need-take-numbers-requires-5
-take-numbers-requires-5 c κs = (in-file (c .before .before .before .before .before .before .before .before .before .before .before .before .before .before .before .before .before .before .before .before .before) .rights-in, (c .before .before .before .before .before .before .before .before .before .before .before .before .before .before .before .before .before .before .before .before .before .before .before .before .before .before) .pre .1 .rights-long)
+take-numbers-requires-5 c κs = (in-file (c .before .before .before .before .before .before .before .before .before .before .before .before .before .before .before .before .before .before .before .before .before) .rhs-in, (c .before .before .before .before .before .before .before .before .before .before .before .before .before .before .before .before .before .before .before .before .before .before .before .before .before .before) .pre .1 .rhs-long)
 
 take-bytes-requires-3 : tie.Need-take-bytes-requires-3
 take-bytes-requires-3 c κs = (in-file (c .before .before .before .before .before .before .before .before .before .before .before .before .before .before .before .before .before .before .before .before .before .before .before .before) .ops-in, (c .before .before .before .before .before .before .before .before .before .before .before .before .before .before .before .before .before .before .before .before .before .before .before .before .before .before .before .before .before) .pre .1 .ops-long)

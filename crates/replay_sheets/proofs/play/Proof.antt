@@ -4,11 +4,11 @@ use Rattle.replay_sheets.proofs.play.Statement.{statement}
 use Rattle.replay_sheets.proofs.play.Tie as tie
 
 abbrev Inv-loop : tie.InvT-loop
-Inv-loop steps rows columns coefs₀ costs₀ lowers₀ uppers₀ lower-marks₀ upper-marks₀ rights₀ ops₀ amounts₀ mults₀ r₀ d₀ c₀ b₀ counts₀ left₀ coefs costs lowers uppers lower-marks upper-marks rights ops amounts mults r d c b counts left =
+Inv-loop steps rows columns coefs₀ costs₀ lowers₀ uppers₀ lower-marks₀ upper-marks₀ rights₀ ops₀ amounts₀ mults₀ r₀ d₀ c₀ b₀ counts₀ left₀ coefs costs lowers uppers lower-marks upper-marks rhs ops amounts mults r d c b counts left =
     Unit {0}
 
 abbrev μ-loop : tie.MeasureT-loop
-μ-loop steps rows columns coefs₀ costs₀ lowers₀ uppers₀ lower-marks₀ upper-marks₀ rights₀ ops₀ amounts₀ mults₀ r₀ d₀ c₀ b₀ counts₀ left₀ coefs costs lowers uppers lower-marks upper-marks rights ops amounts mults r d c b counts left =
+μ-loop steps rows columns coefs₀ costs₀ lowers₀ uppers₀ lower-marks₀ upper-marks₀ rights₀ ops₀ amounts₀ mults₀ r₀ d₀ c₀ b₀ counts₀ left₀ coefs costs lowers uppers lower-marks upper-marks rhs ops amounts mults r d c b counts left =
     left
 
 loop-holds : tie.Need-loop-holds Inv-loop μ-loop

@@ -38,7 +38,7 @@ else4 c = c .before .before .before .before
 abbrev sheet : tie.Else1 → Sheet
 sheet c =
     let a = start c .args in
-    sheetOf (planOf (a .rows) (a .columns) (a .coefs .now) (a .costs .now) (a .lowers .now) (a .uppers .now) (a .lower-marks .now) (a .upper-marks .now) (a .rights .now) (a .ops .now) (a .amounts .now) (a .mults .now))
+    sheetOf (planOf (a .rows) (a .columns) (a .coefs .now) (a .costs .now) (a .lowers .now) (a .uppers .now) (a .lower-marks .now) (a .upper-marks .now) (a .rhs .now) (a .ops .now) (a .amounts .now) (a .mults .now))
     (keptOf (a .r .now) (a .d .now) (a .c .now) (a .b .now) (a .counts .now))
 
 -- ---- what each test that is passed says

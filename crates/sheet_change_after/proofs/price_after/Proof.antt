@@ -15,7 +15,7 @@ use Rattle.sheet_change_after.proofs.price_after.Statement.{statement}
 use Rattle.sheet_change_after.proofs.price_after.Tie as tie
 
 abbrev plan : tie.Start → Plan
-plan s = planOf (s .args .rows) (s .args .columns) (s .args .coefs .now) (s .args .costs .now) (s .args .lowers .now) (s .args .uppers .now) (s .args .lower-marks .now) (s .args .upper-marks .now) (s .args .rights .now) (s .args .ops .now) (s .args .amounts .now) (s .args .mults .now)
+plan s = planOf (s .args .rows) (s .args .columns) (s .args .coefs .now) (s .args .costs .now) (s .args .lowers .now) (s .args .uppers .now) (s .args .lower-marks .now) (s .args .upper-marks .now) (s .args .rhs .now) (s .args .ops .now) (s .args .amounts .now) (s .args .mults .now)
 
 -- kind 2, at its column
 module _ (c : tie.Then1) where

@@ -24,7 +24,7 @@ use Rattle.sheet_change_after.proofs.totals_after.Statement.{statement}
 use Rattle.sheet_change_after.proofs.totals_after.Tie as tie
 
 abbrev sheet : tie.Start → Sheet
-sheet s = sheetOf (planOf (s .args .rows) (s .args .columns) (s .args .coefs .now) (s .args .costs .now) (s .args .lowers .now) (s .args .uppers .now) (s .args .lower-marks .now) (s .args .upper-marks .now) (s .args .rights .now) (s .args .ops .now) (s .args .amounts .now) (s .args .mults .now)) (keptOf (s .args .r .now) (s .args .d .now) (s .args .c .now) (s .args .b .now) (s .args .counts .now))
+sheet s = sheetOf (planOf (s .args .rows) (s .args .columns) (s .args .coefs .now) (s .args .costs .now) (s .args .lowers .now) (s .args .uppers .now) (s .args .lower-marks .now) (s .args .upper-marks .now) (s .args .rhs .now) (s .args .ops .now) (s .args .amounts .now) (s .args .mults .now)) (keptOf (s .args .r .now) (s .args .d .now) (s .args .c .now) (s .args .b .now) (s .args .counts .now))
 
 -- what was read
 module _ (c : tie.After-row-at) where
@@ -92,7 +92,7 @@ amount-totals-requires c κs =
     let m = c .before in
     let g = s m .pre .0 in
     let w = c .match .keys1 in
-    (w, g .number, t-whole m, x-small m, g .sized .rows-fit, record { column-in = g .index .column-in (rw w); there = g .sized .coefs-fit; at = g .sound .column-in (rw w) }, g .sized .rights-fit, g .sized .ops-fit, record { there = g .sized .R-fits; at = g .sound .kept-in .R-in })
+    (w, g .number, t-whole m, x-small m, g .sized .rows-fit, record { column-in = g .index .column-in (rw w); there = g .sized .coefs-fit; at = g .sound .column-in (rw w) }, g .sized .rhs-fit, g .sized .ops-fit, record { there = g .sized .R-fits; at = g .sound .kept-in .R-in })
 
 row-totals-requires : tie.Need-row-totals-requires
 row-totals-requires c κs = let m = c .before in (s m .pre .0 .number, t-whole m, y-small m)
@@ -133,7 +133,7 @@ returns c =
     let m = c .before .before in
     let s = s m in
     c .amount-totals .ensures
-    ∙ ap₂ (λ (t : Totals) (x : Column). withBroken (columnTotals (s .args .e) t x) (brokenChange (s .args .rows) (s .args .columns) (s .args .e .column) (s .args .e .number -ℤ x .amount) (s .args .coefs .now) (s .args .rights .now) (s .args .ops .now) (s .args .r .now))) (t-is m) (x-is m)
+    ∙ ap₂ (λ (t : Totals) (x : Column). withBroken (columnTotals (s .args .e) t x) (brokenChange (s .args .rows) (s .args .columns) (s .args .e .column) (s .args .e .number -ℤ x .amount) (s .args .coefs .now) (s .args .rhs .now) (s .args .ops .now) (s .args .r .now))) (t-is m) (x-is m)
     ∙ amount-law (sheet s) (s .args .e) (s .pre .0) (c .before .match .keys1)
 
 returns-2 : tie.Need-returns-2

@@ -18,10 +18,10 @@ use Rattle.sheet_change_edit.proofs.column_fine.Statement.{statement}
 use Rattle.sheet_change_edit.proofs.column_fine.Tie as tie
 
 abbrev Inv-loop : tie.InvT-loop
-Inv-loop column rows columns coefs costs lowers uppers lower-marks upper-marks rights ops amounts mults i₀ i = (i ≤ rows) × (all i (λ k. within maxCoefficient (coefs ‼ (k * columns + column))) ≡ true)
+Inv-loop column rows columns coefs costs lowers uppers lower-marks upper-marks rhs ops amounts mults i₀ i = (i ≤ rows) × (all i (λ k. within maxCoefficient (coefs ‼ (k * columns + column))) ≡ true)
 
 abbrev μ-loop : tie.MeasureT-loop
-μ-loop column rows columns coefs costs lowers uppers lower-marks upper-marks rights ops amounts mults i₀ i = rows - i
+μ-loop column rows columns coefs costs lowers uppers lower-marks upper-marks rhs ops amounts mults i₀ i = rows - i
 
 -- this turn's coefficient
 module _ (c : tie.In-loop Inv-loop μ-loop) where

@@ -19,7 +19,7 @@ abbrev cell : ℤ → ℕ → Cell
 cell z m = record { number = z; mark = m }
 
 abbrev p : tie.Start → Plan
-p s = planOf (s .args .rows) (s .args .columns) (s .args .coefs .now) (s .args .costs .now) (s .args .lowers .now) (s .args .uppers .now) (s .args .lower-marks .now) (s .args .upper-marks .now) (s .args .rights .now) (s .args .ops .now) (s .args .amounts .now) (s .args .mults .now)
+p s = planOf (s .args .rows) (s .args .columns) (s .args .coefs .now) (s .args .costs .now) (s .args .lowers .now) (s .args .uppers .now) (s .args .lower-marks .now) (s .args .upper-marks .now) (s .args .rhs .now) (s .args .ops .now) (s .args .amounts .now) (s .args .mults .now)
 
 abbrev e : tie.Start → Edit
 e s = s .args .e
@@ -59,10 +59,10 @@ shared-slice-read-t33 : tie.Need-shared-slice-read-t33
 shared-slice-read-t33 c = omega (arith, (c .before .before .before) .pre .1 .column-in (rw ((c .before .before) .match .keys4)), (c .before .before .before) .pre .0 .upper-marks-long)
 
 mul-t34 : tie.Need-mul-t34
-mul-t34 c = omega (arith, (c .before) .pre .1 .row-in (rw (c .match .keys5)), (c .before) .pre .0 .rights-long)
+mul-t34 c = omega (arith, (c .before) .pre .1 .row-in (rw (c .match .keys5)), (c .before) .pre .0 .rhs-long)
 
 shared-slice-copy-out-t36 : tie.Need-shared-slice-copy-out-t36
-shared-slice-copy-out-t36 c = omega (arith, (c .before) .pre .1 .row-in (rw (c .match .keys5)), (c .before) .pre .0 .rights-long)
+shared-slice-copy-out-t36 c = omega (arith, (c .before) .pre .1 .row-in (rw (c .match .keys5)), (c .before) .pre .0 .rhs-long)
 
 mul-t37 : tie.Need-mul-t37
 mul-t37 c = omega (arith, place (c .before) (c .match .keys6))
@@ -113,7 +113,7 @@ returns-4 : tie.Need-returns-4
 returns-4 c = let s = (c .before .before .before) in (λ h. cell (result (s .args .uppers .now ‼ e s .column) ((c .before) .t31 .given) h) (s .args .upper-marks .now # e s .column)) ∙ cell-is (p s) (e s) 4 ((c .before .before) .match .keys4)
 
 returns-5 : tie.Need-returns-5
-returns-5 c = let s = (c .before .before) in (λ h. cell (result (s .args .rights .now ‼ e s .row) (c .t36 .given) h) 1) ∙ cell-is (p s) (e s) 5 ((c .before) .match .keys5)
+returns-5 c = let s = (c .before .before) in (λ h. cell (result (s .args .rhs .now ‼ e s .row) (c .t36 .given) h) 1) ∙ cell-is (p s) (e s) 5 ((c .before) .match .keys5)
 
 returns-6 : tie.Need-returns-6
 returns-6 c = let s = (c .before .before) in (λ h. cell (result (s .args .coefs .now ‼ (e s .row * s .args .columns + e s .column)) (c .t41 .given) h) 1) ∙ cell-is (p s) (e s) 6 ((c .before) .match .keys6)

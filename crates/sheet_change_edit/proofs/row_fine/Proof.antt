@@ -18,10 +18,10 @@ use Rattle.sheet_change_edit.proofs.row_fine.Statement.{statement}
 use Rattle.sheet_change_edit.proofs.row_fine.Tie as tie
 
 abbrev Inv-loop : tie.InvT-loop
-Inv-loop row rows columns coefs costs lowers uppers lower-marks upper-marks rights ops amounts mults j₀ j = (j ≤ columns) × (all j (λ k. within maxCoefficient (coefs ‼ (row * columns + k))) ≡ true)
+Inv-loop row rows columns coefs costs lowers uppers lower-marks upper-marks rhs ops amounts mults j₀ j = (j ≤ columns) × (all j (λ k. within maxCoefficient (coefs ‼ (row * columns + k))) ≡ true)
 
 abbrev μ-loop : tie.MeasureT-loop
-μ-loop row rows columns coefs costs lowers uppers lower-marks upper-marks rights ops amounts mults j₀ j = columns - j
+μ-loop row rows columns coefs costs lowers uppers lower-marks upper-marks rhs ops amounts mults j₀ j = columns - j
 
 -- this turn's coefficient
 module _ (c : tie.In-loop Inv-loop μ-loop) where

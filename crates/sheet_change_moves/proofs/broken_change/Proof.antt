@@ -20,14 +20,14 @@ use Rattle.sheet_change_moves.proofs.broken_change.Statement.{statement
 use Rattle.sheet_change_moves.proofs.broken_change.Tie as tie
 
 abbrev Inv-loop : tie.InvT-loop
-Inv-loop rows columns column by coefs rights ops r total₀ i₀ total i = (i ≤ rows) × (toZ w64 total ≡ sum i (λ k. bit (not (holds (ops # k) (r ‼ k +ℤ coefs ‼ (k * columns + column) *ℤ toZ w64 by) (rights ‼ k))) -ℤ bit (not (holds (ops # k) (r ‼ k) (rights ‼ k)))))
+Inv-loop rows columns column by coefs rhs ops r total₀ i₀ total i = (i ≤ rows) × (toZ w64 total ≡ sum i (λ k. bit (not (holds (ops # k) (r ‼ k +ℤ coefs ‼ (k * columns + column) *ℤ toZ w64 by) (rhs ‼ k))) -ℤ bit (not (holds (ops # k) (r ‼ k) (rhs ‼ k)))))
 
 abbrev μ-loop : tie.MeasureT-loop
-μ-loop rows columns column by coefs rights ops r total₀ i₀ total i = rows - i
+μ-loop rows columns column by coefs rhs ops r total₀ i₀ total i = rows - i
 
 -- the terms, when the move is b
 abbrev terms : tie.Start Inv-loop μ-loop → ℤ → ℕ → ℤ
-terms s b k = bit (not (holds (s .args .ops .now # k) (s .args .r .now ‼ k +ℤ s .args .coefs .now ‼ (k * s .args .columns + s .args .column) *ℤ b) (s .args .rights .now ‼ k))) -ℤ bit (not (holds (s .args .ops .now # k) (s .args .r .now ‼ k) (s .args .rights .now ‼ k)))
+terms s b k = bit (not (holds (s .args .ops .now # k) (s .args .r .now ‼ k +ℤ s .args .coefs .now ‼ (k * s .args .columns + s .args .column) *ℤ b) (s .args .rhs .now ‼ k))) -ℤ bit (not (holds (s .args .ops .now # k) (s .args .r .now ‼ k) (s .args .rhs .now ‼ k)))
 
 module _ (c : tie.In-loop Inv-loop μ-loop) where
   abbrev s : tie.Start Inv-loop μ-loop
@@ -50,11 +50,11 @@ module _ (c : tie.After-broken2 Inv-loop μ-loop) where
   o = (c .before .before .before .before .before .before .before .before .before)
 
   -- the new term and the old
-  first : (c .before .before .before .before) .broken .result ≡ bit (not (holds (s o .args .ops .now # i o) (s o .args .r .now ‼ i o +ℤ s o .args .coefs .now ‼ (i o * s o .args .columns + s o .args .column) *ℤ s o .args .by) (s o .args .rights .now ‼ i o)))
-  first = c .before .before .before .before .broken .ensures ∙ rw (exact (new o) tt, result (s o .args .rights .now ‼ i o) (c .before .before .before .before .before .broken-arg .given))
+  first : (c .before .before .before .before) .broken .result ≡ bit (not (holds (s o .args .ops .now # i o) (s o .args .r .now ‼ i o +ℤ s o .args .coefs .now ‼ (i o * s o .args .columns + s o .args .column) *ℤ s o .args .by) (s o .args .rhs .now ‼ i o)))
+  first = c .before .before .before .before .broken .ensures ∙ rw (exact (new o) tt, result (s o .args .rhs .now ‼ i o) (c .before .before .before .before .before .broken-arg .given))
 
-  second : c .broken2 .result ≡ bit (not (holds (s o .args .ops .now # i o) (s o .args .r .now ‼ i o) (s o .args .rights .now ‼ i o)))
-  second = c .broken2 .ensures ∙ rw (result (s o .args .r .now ‼ i o) (c .before .before .broken-arg2 .given), result (s o .args .rights .now ‼ i o) (c .before .broken-arg3 .given))
+  second : c .broken2 .result ≡ bit (not (holds (s o .args .ops .now # i o) (s o .args .r .now ‼ i o) (s o .args .rhs .now ‼ i o)))
+  second = c .broken2 .ensures ∙ rw (result (s o .args .r .now ‼ i o) (c .before .before .broken-arg2 .given), result (s o .args .rhs .now ‼ i o) (c .before .broken-arg3 .given))
 
   abbrev change : E
   change = sub (num (c .before .before .before .before .broken .result) 1 (rw first (bit-size _))) (num (c .broken2 .result) 1 (rw second (bit-size _)))

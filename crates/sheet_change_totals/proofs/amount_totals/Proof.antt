@@ -17,7 +17,7 @@ abbrev by : tie.Start → E
 by s = sub (num (s .args .e .number) maxAmount (s .pre .1 .amount-in (s .pre .0))) (num (s .args .x .amount) maxAmount (s .pre .3 .amount-in))
 
 abbrev change : tie.Start → ℤ → ℤ
-change s z = brokenChange (s .args .rows) (s .args .columns) (s .args .e .column) z (s .args .coefs .now) (s .args .rights .now) (s .args .ops .now) (s .args .r .now)
+change s z = brokenChange (s .args .rows) (s .args .columns) (s .args .e .column) z (s .args .coefs .now) (s .args .rhs .now) (s .args .ops .now) (s .args .r .now)
 
 abbrev start : tie.After-broken-change → tie.Start
 start c = c .before .before .before .before .before .before

@@ -8,7 +8,7 @@ use Rattle.sheet_open.proofs.write_kept.Statement.{statement}
 use Rattle.sheet_open.proofs.write_kept.Tie as tie
 
 abbrev p : tie.Start → Plan
-p s = planOf (s .args .rows) (s .args .columns) (s .args .coefs .now) (s .args .costs .now) (s .args .lowers .now) (s .args .uppers .now) (s .args .lower-marks .now) (s .args .upper-marks .now) (s .args .rights .now) (s .args .ops .now) (s .args .amounts .now) (s .args .mults .now)
+p s = planOf (s .args .rows) (s .args .columns) (s .args .coefs .now) (s .args .costs .now) (s .args .lowers .now) (s .args .uppers .now) (s .args .lower-marks .now) (s .args .upper-marks .now) (s .args .rhs .now) (s .args .ops .now) (s .args .amounts .now) (s .args .mults .now)
 
 abbrev k : tie.Start → Kept
 k s = keptOf (s .args .r .now) (s .args .d .now) (s .args .c .now) (s .args .b .now) (s .args .counts .now)

@@ -17,14 +17,14 @@ use Rattle.sheet_open.proofs.write_totals.Statement.{statement}
 use Rattle.sheet_open.proofs.write_totals.Tie as tie
 
 abbrev p : tie.Start → Plan
-p s = planOf (s .args .rows) (s .args .columns) (s .args .coefs .now) (s .args .costs .now) (s .args .lowers .now) (s .args .uppers .now) (s .args .lower-marks .now) (s .args .upper-marks .now) (s .args .rights .now) (s .args .ops .now) (s .args .amounts .now) (s .args .mults .now)
+p s = planOf (s .args .rows) (s .args .columns) (s .args .coefs .now) (s .args .costs .now) (s .args .lowers .now) (s .args .uppers .now) (s .args .lower-marks .now) (s .args .upper-marks .now) (s .args .rhs .now) (s .args .ops .now) (s .args .amounts .now) (s .args .mults .now)
 
 -- B, as the machine adds it up
 abbrev whole : tie.After-column-terms → E
 whole c =
     let s = (c .before .before .before .before .before .before) in
     add
-    (num (c .before .dot2 .result) (maxColumns * (maxMultiplier * maxRightSide)) (rw (c .before .dot2 .ensures) (dot-small maxMultiplier maxRightSide (s .args .rows) (s .args .rows) _ _ (le-trans (s .pre .0 .rows-few) (lit≤ tt)) (s .pre .1 .mults-small) (s .pre .1 .rights-small) (le-refl (s .args .rows)))))
+    (num (c .before .dot2 .result) (maxColumns * (maxMultiplier * maxRightSide)) (rw (c .before .dot2 .ensures) (dot-small maxMultiplier maxRightSide (s .args .rows) (s .args .rows) _ _ (le-trans (s .pre .0 .rows-few) (lit≤ tt)) (s .pre .1 .mults-small) (s .pre .1 .rhs-small) (le-refl (s .args .rows)))))
     (num (c .column-terms .result) (maxColumns * (farD * maxBound)) (rw (c .column-terms .ensures) (terms-small (p s) (s .args .d .now) (s .pre .0) (s .pre .1) (s .pre .2))))
 
 dot-requires : tie.Need-dot-requires

@@ -6,7 +6,7 @@ use Rattle.sheet_store_apply.proofs.apply_edit.Statement.{statement}
 use Rattle.sheet_store_apply.proofs.apply_edit.Tie as tie
 
 abbrev sheet : tie.Start → Sheet
-sheet s = sheetOf (planOf (s .args .rows) (s .args .columns) (s .args .coefs .now) (s .args .costs .now) (s .args .lowers .now) (s .args .uppers .now) (s .args .lower-marks .now) (s .args .upper-marks .now) (s .args .rights .now) (s .args .ops .now) (s .args .amounts .now) (s .args .mults .now)) (keptOf (s .args .r .now) (s .args .d .now) (s .args .c .now) (s .args .b .now) (s .args .counts .now))
+sheet s = sheetOf (planOf (s .args .rows) (s .args .columns) (s .args .coefs .now) (s .args .costs .now) (s .args .lowers .now) (s .args .uppers .now) (s .args .lower-marks .now) (s .args .upper-marks .now) (s .args .rhs .now) (s .args .ops .now) (s .args .amounts .now) (s .args .mults .now)) (keptOf (s .args .r .now) (s .args .d .now) (s .args .c .now) (s .args .b .now) (s .args .counts .now))
 
 -- the way back: from before a call, or from the end, to where the call before it left off
 abbrev before-kept : tie.After-move-kept-arg14 → tie.Start

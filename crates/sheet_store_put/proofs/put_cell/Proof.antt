@@ -15,7 +15,7 @@ use Rattle.sheet_store_put.proofs.put_cell.Statement.{statement}
 use Rattle.sheet_store_put.proofs.put_cell.Tie as tie
 
 abbrev p : tie.Start → Plan
-p s = planOf (s .args .rows) (s .args .columns) (s .args .coefs .now) (s .args .costs .now) (s .args .lowers .now) (s .args .uppers .now) (s .args .lower-marks .now) (s .args .upper-marks .now) (s .args .rights .now) (s .args .ops .now) (s .args .amounts .now) (s .args .mults .now)
+p s = planOf (s .args .rows) (s .args .columns) (s .args .coefs .now) (s .args .costs .now) (s .args .lowers .now) (s .args .uppers .now) (s .args .lower-marks .now) (s .args .upper-marks .now) (s .args .rhs .now) (s .args .ops .now) (s .args .amounts .now) (s .args .mults .now)
 
 abbrev e : tie.Start → Edit
 e s = s .args .e
@@ -59,7 +59,7 @@ put-number-requires-2 : tie.Need-put-number-requires-2
 put-number-requires-2 c κs =
     let x : tie.After-slice-known3 = search in
     let s = entry-at-slice-known3 x in
-    λ t. omega (arith, row s 5 refl t, s .pre .0 .rights-long)
+    λ t. omega (arith, row s 5 refl t, s .pre .0 .rhs-long)
 
 put-number-requires-3 : tie.Need-put-number-requires-3
 put-number-requires-3 c κs =

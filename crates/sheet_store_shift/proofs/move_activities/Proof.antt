@@ -16,13 +16,13 @@ use Rattle.sheet_store_shift.proofs.move_activities.Statement.{statemen
 use Rattle.sheet_store_shift.proofs.move_activities.Tie as tie
 
 abbrev Inv-loop : tie.InvT-loop
-Inv-loop rows columns coefs costs lowers uppers lower-marks upper-marks rights ops amounts mults e r₀ kind end i₀ r i = (i ≤ end) × Filled (λ k. r₀ ‼ k +ℤ rowChange (planOf rows columns coefs costs lowers uppers lower-marks upper-marks rights ops amounts mults) e k) r₀ i r
+Inv-loop rows columns coefs costs lowers uppers lower-marks upper-marks rhs ops amounts mults e r₀ kind end i₀ r i = (i ≤ end) × Filled (λ k. r₀ ‼ k +ℤ rowChange (planOf rows columns coefs costs lowers uppers lower-marks upper-marks rhs ops amounts mults) e k) r₀ i r
 
 abbrev μ-loop : tie.MeasureT-loop
-μ-loop rows columns coefs costs lowers uppers lower-marks upper-marks rights ops amounts mults e r₀ kind end i₀ r i = end - i
+μ-loop rows columns coefs costs lowers uppers lower-marks upper-marks rhs ops amounts mults e r₀ kind end i₀ r i = end - i
 
 abbrev plan : tie.Start Inv-loop μ-loop → Plan
-plan s = planOf (s .args .rows) (s .args .columns) (s .args .coefs .now) (s .args .costs .now) (s .args .lowers .now) (s .args .uppers .now) (s .args .lower-marks .now) (s .args .upper-marks .now) (s .args .rights .now) (s .args .ops .now) (s .args .amounts .now) (s .args .mults .now)
+plan s = planOf (s .args .rows) (s .args .columns) (s .args .coefs .now) (s .args .costs .now) (s .args .lowers .now) (s .args .uppers .now) (s .args .lower-marks .now) (s .args .upper-marks .now) (s .args .rhs .now) (s .args .ops .now) (s .args .amounts .now) (s .args .mults .now)
 
 -- the places gone through
 module _ (c : tie.After-touched-span Inv-loop μ-loop) where

@@ -19,10 +19,10 @@ use Rattle.sheet_sums.proofs.broken_rows.Statement.{statement}
 use Rattle.sheet_sums.proofs.broken_rows.Tie as tie
 
 abbrev Inv-loop : tie.InvT-loop
-Inv-loop rows rights ops r total₀ i₀ total i = (i ≤ rows) × (toZ w64 total ≡ sum i (λ k. bit (not (holds (ops # k) (r ‼ k) (rights ‼ k)))))
+Inv-loop rows rhs ops r total₀ i₀ total i = (i ≤ rows) × (toZ w64 total ≡ sum i (λ k. bit (not (holds (ops # k) (r ‼ k) (rhs ‼ k)))))
 
 abbrev μ-loop : tie.MeasureT-loop
-μ-loop rows rights ops r total₀ i₀ total i = rows - i
+μ-loop rows rhs ops r total₀ i₀ total i = rows - i
 
 module _ (c : tie.After-bit Inv-loop μ-loop) where
   abbrev s : tie.Start Inv-loop μ-loop
@@ -33,11 +33,11 @@ module _ (c : tie.After-bit Inv-loop μ-loop) where
 
   -- the terms
   abbrev at : ℕ → ℤ
-  at k = bit (not (holds (s .args .ops .now # k) (s .args .r .now ‼ k) (s .args .rights .now ‼ k)))
+  at k = bit (not (holds (s .args .ops .now # k) (s .args .r .now ‼ k) (s .args .rhs .now ‼ k)))
 
   -- this turn's, as the machine has it
   now-is : word (c .bit .result) ≡ at i
-  now-is = let h : c .before .holds .result ≡ holds (s .args .ops .now # i) (s .args .r .now ‼ i) (s .args .rights .now ‼ i) = c .before .holds .ensures ∙ rw (result (s .args .r .now ‼ i) (c .before .before .before .holds-arg .given), result (s .args .rights .now ‼ i) (c .before .before .holds-arg2 .given)) in result (c .bit .result) (c .bit .ok) ∙ c .bit .ensures ∙ ap (λ (t : Bool). bit (not t)) h
+  now-is = let h : c .before .holds .result ≡ holds (s .args .ops .now # i) (s .args .r .now ‼ i) (s .args .rhs .now ‼ i) = c .before .holds .ensures ∙ rw (result (s .args .r .now ‼ i) (c .before .before .before .holds-arg .given), result (s .args .rhs .now ‼ i) (c .before .before .holds-arg2 .given)) in result (c .bit .result) (c .bit .ok) ∙ c .bit .ensures ∙ ap (λ (t : Bool). bit (not t)) h
 
   step : Turn at i (toZ w64 (c .before .before .before .before .before .before .loop .total)) (word (c .bit .result))
   step = turn maxRows 1 (s .args .rows) at i _ _ tt (s .pre .0) (c .before .before .before .before .before .loop-test .taken) (λ k _. bit-size _) (c .before .before .before .before .before .before .loop .inv .1) now-is

@@ -15,10 +15,10 @@ use Rattle.sheet_tests.proofs.uncrossed.Statement.{statement}
 use Rattle.sheet_tests.proofs.uncrossed.Tie as tie
 
 abbrev Inv-loop : tie.InvT-loop
-Inv-loop rows columns coefs costs lowers uppers lower-marks upper-marks rights ops amounts mults j₀ j = (j ≤ columns) × (all j (λ k. not (crosses (lowers ‼ k) (uppers ‼ k) (lower-marks # k) (upper-marks # k))) ≡ true)
+Inv-loop rows columns coefs costs lowers uppers lower-marks upper-marks rhs ops amounts mults j₀ j = (j ≤ columns) × (all j (λ k. not (crosses (lowers ‼ k) (uppers ‼ k) (lower-marks # k) (upper-marks # k))) ≡ true)
 
 abbrev μ-loop : tie.MeasureT-loop
-μ-loop rows columns coefs costs lowers uppers lower-marks upper-marks rights ops amounts mults j₀ j = columns - j
+μ-loop rows columns coefs costs lowers uppers lower-marks upper-marks rhs ops amounts mults j₀ j = columns - j
 
 abbrev low : tie.After-crosses Inv-loop μ-loop → ℤ
 low c = c .before .before .before .before .before .before .before .before .before .before .args .lowers .now ‼ c .before .before .before .before .before .before .loop .j
