@@ -9,7 +9,7 @@ use Rattle.doubles.specs.Loop.{run}
 use Rattle.doubles.specs.Lists.{_!_, _#_}
 use Rattle.doubles.proofs.Loops.{keeps}
 use Rattle.sparse.specs.Scattered.{Sv, Good, Within}
-use Rattle.sparse.proofs.Laws.{good-putAt}
+use Rattle.sparse.proofs.Laws.{good-putAt, good-takeOff}
 use Rattle.rules.specs.Plan.{Etas, Problem, State, mOf}
 use Rattle.rules.specs.Basis.{etaRowsOf, etaCoeffsOf, etaTurn, etaTurnTransp, factorSolve}
 use Rattle.rules.specs.Invariant.{ProblemFits, Fits}
