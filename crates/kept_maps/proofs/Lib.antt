@@ -1,0 +1,6 @@
+-- What the test means.
+--     it passes exactly when the rows are the plan's and the two maps are each other's inverse     Exact   fine-exactly
+--     it fails exactly when 41's words hold                                                        Exact   broken-exactly
+pub mod Laws
+pub mod Onto
+pub mod Exact
