@@ -1,21 +1,36 @@
 -- The tests as the code puts them together. Assumes nothing.
 use mathlib.Core.Path.{_≡_, refl, sym, ap, _∙_}
+use mathlib.Core.Logic.{⊎-elim}
 use mathlib.Core.Bool.{Bool, true, false, _&&_}
 use mathlib.Core.List.{List, [], _++_}
 use Prim.Native.Nat.{ℕ, _+_, _<_, _≤_}
 use native.Mathlib.Omega.{arith}
 use lib.Dec.{ltb, eqb}
-use lib.ListN.{length, drop, List·getD-append}
+use lib.ListN.{length, drop, List·getD-append, length-append}
 use lib.Ieee.{Float}
 use borrow.Author.Tests.{eqb-true, eq-eqb, ne-eqb}
 use Rattle.doubles.specs.Num.{f0}
 use Rattle.doubles.specs.Loop.{all}
 use Rattle.doubles.specs.Lists.{_#_, over}
-use Rattle.doubles.proofs.Loops.{all-same, both-true}
-use Rattle.rules.specs.Plan.{Plan, Memory, Workspace, keptRows}
+use Rattle.doubles.proofs.Loops.{keeps, all-same, both-true}
+use Rattle.rules.specs.Plan.{Plan, Memory, Workspace, keptRows, keptTurn, isEmpty}
+use Rattle.rules.proofs.Lists.{length-snoc}
+use Rattle.doubles.proofs.Bools.{truth}
 use Rattle.rules.specs.Parts.{planOf}
 use Rattle.plan.specs.Lent.{Front, rowsOf}
 use Rattle.kept_maps.specs.Maps.{rowsFine, leadsBack, cellsFine, mapsFine}
+
+-- ---- the plan keeps no more rows than it has
+pub kept-few : (p : Plan) → length (keptRows p) ≤ p .rows
+unfolding keptRows
+kept-few p = keeps (keptTurn p) [] (λ k ks. length ks ≤ k) (p .rows) turn (omega arith) (p .rows) (omega arith)
+  where
+    turn : (k : ℕ) (ks : List ℕ) → k < p .rows → length ks ≤ k → length (keptTurn p k ks) ≤ k + 1
+    turn k ks l h =
+        ⊎-elim
+        (λ (e : isEmpty p k ≡ true). rw (e, keptTurn) (omega arith))
+        (λ (e : isEmpty p k ≡ false). rw (e, keptTurn) (omega (arith, length-snoc ks k)))
+        (truth (isEmpty p k))
 
 -- ---- rows, against those that were found anew
 module _ {ks l : List ℕ} {k : ℕ} {mine : List ℕ} (f : Front ks l k mine) (count : ℕ) (kept : List ℕ) where
@@ -30,7 +45,7 @@ module _ {ks l : List ℕ} {k : ℕ} {mine : List ℕ} (f : Front ks l k mine) (
       (all-same _ _ (length ks) (λ r q. ap (λ (x : ℕ). eqb (kept # r) x) (List·getD-append ks (drop (length ks) l) 0 r q)))
 
   pub found-long : k ≤ length mine
-  found-long = ?
+  found-long = omega (arith, f .counted, ap length (f .cells), length-append ks (drop (length ks) l))
 
 pub rows-count : (ks : List ℕ) (count : ℕ) (kept : List ℕ) → rowsFine ks count kept ≡ true → count ≡ length ks
 unfolding rowsFine
@@ -47,3 +62,13 @@ cells-are n m w e f g =
   where
     from : (k : ℕ) → 0 + k ≡ k
     from k = omega arith
+
+-- ---- the whole
+pub other-rows : (p : Plan) (m : Memory) {b : Bool} → b ≡ rowsFine (keptRows p) (m .counts # 0) (m .kept) → b ≡ false → false ≡ mapsFine p m
+unfolding mapsFine
+other-rows p m e h = rw (← e, h)
+
+pub same-rows : (p : Plan) (m : Memory) {b : Bool} → b ≡ rowsFine (keptRows p) (m .counts # 0) (m .kept) → b ≡ true
+    → cellsFine (p .columns) (m .counts # 0) (m .ws) ≡ mapsFine p m
+unfolding mapsFine
+same-rows p m e h = let q : m .counts # 0 ≡ length (keptRows p) = rows-count (keptRows p) (m .counts # 0) (m .kept) (sym e ∙ h) in rw (← e, h, q)

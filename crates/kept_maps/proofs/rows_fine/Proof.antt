@@ -1,42 +1,37 @@
+-- `kept_maps::rows_fine`: against the rows found anew. Assumes nothing.
+use mathlib.Core.Path.{_∙_}
+use mathlib.Core.List.{[]}
 use borrow.Author.Needs.{needs}
+use native.Mathlib.Omega.{arith}
+use Rattle.plan.specs.Lent.{rowsOf}
+use Rattle.kept_maps.proofs.Laws.{kept-few, other-count, rows-are, found-long}
 use Rattle.kept_maps.proofs.rows_fine.Statement.{statement}
 use Rattle.kept_maps.proofs.rows_fine.Tie as tie
-use Rattle.kept_maps.proofs.rows_fine.Reads as reads
-use Rattle.kept_maps.proofs.rows_fine.Lts as lts
-use Rattle.kept_maps.proofs.same.Reads as same-reads
-use Rattle.plan.proofs.keep_rows.Reads as keep-rows-reads
 
--- src/lib.rt:38:43
 slice-aggregate-keep-rows : tie.Need-slice-aggregate-keep-rows
 slice-aggregate-keep-rows c = search needs
 
--- src/lib.rt:38:9
 keep-rows-requires : tie.Need-keep-rows-requires
 keep-rows-requires c κs = search needs
 
--- src/lib.rt:40:9
 returns : tie.Need-returns
-returns c = ?
+returns c = let k : tie.After-keep-rows = search in
+    other-count (k .keep-rows .ensures) _ _ (c .if1 .taken)
 
--- src/lib.rt:42:19
 slice-aggregate-same : tie.Need-slice-aggregate-same
 slice-aggregate-same c = search needs
 
--- src/lib.rt:42:5
 same-requires : tie.Need-same-requires
-same-requires c κs = ?
+same-requires c κs =
+    let k : tie.After-keep-rows = search in
+    let s : tie.Start = search in
+    (omega (arith, k .keep-rows .ensures .counted, kept-few (rowsOf 0 (s .args .rows) (s .args .starts .now) []), s .pre), found-long (k .keep-rows .ensures) 0 [])
 
--- src/lib.rt:33:1
 returns-2 : tie.Need-returns-2
-returns-2 c = ?
+returns-2 c = let k : tie.After-keep-rows = search in
+    let e : tie.Else1 = search in
+    c .same .ensures ∙ rows-are (k .keep-rows .ensures) _ _ (e .if1 .left)
 
 pub rows-fine-spec : {M : Type 1} → statement M
 rows-fine-spec =
-    tie.close
-    (tie.spec
-    slice-aggregate-keep-rows
-    keep-rows-requires
-    returns
-    slice-aggregate-same
-    same-requires
-    returns-2)
+    tie.close (tie.spec slice-aggregate-keep-rows keep-rows-requires returns slice-aggregate-same same-requires returns-2)
