@@ -10,7 +10,7 @@ use lib.ListN.{length, drop, List·getD-append, length-append}
 use lib.Ieee.{Float}
 use borrow.Author.Tests.{eqb-true, eq-eqb, ne-eqb}
 use Rattle.doubles.specs.Num.{f0}
-use Rattle.doubles.specs.Loop.{all}
+use Rattle.doubles.specs.Loop.{run, all}
 use Rattle.doubles.specs.Lists.{_#_, over}
 use Rattle.doubles.proofs.Loops.{keeps, all-same, both-true}
 use Rattle.rules.specs.Plan.{Plan, Memory, Workspace, keptRows, keptTurn, isEmpty}
@@ -20,17 +20,20 @@ use Rattle.rules.specs.Parts.{planOf}
 use Rattle.plan.specs.Lent.{Front, rowsOf}
 use Rattle.kept_maps.specs.Maps.{rowsFine, leadsBack, cellsFine, mapsFine}
 
--- ---- the plan keeps no more rows than it has
-pub kept-few : (p : Plan) → length (keptRows p) ≤ p .rows
-unfolding keptRows
-kept-few p = keeps (keptTurn p) [] (λ k ks. length ks ≤ k) (p .rows) turn (omega arith) (p .rows) (omega arith)
+-- ---- of the first i rows no more than i are kept
+pub few-before : (p : Plan) (i : ℕ) → length (run (keptTurn p) i []) ≤ i
+few-before p i = keeps (keptTurn p) [] (λ k ks. length ks ≤ k) i turn (omega arith) i (omega arith)
   where
-    turn : (k : ℕ) (ks : List ℕ) → k < p .rows → length ks ≤ k → length (keptTurn p k ks) ≤ k + 1
+    turn : (k : ℕ) (ks : List ℕ) → k < i → length ks ≤ k → length (keptTurn p k ks) ≤ k + 1
     turn k ks l h =
         ⊎-elim
         (λ (e : isEmpty p k ≡ true). rw (e, keptTurn) (omega arith))
         (λ (e : isEmpty p k ≡ false). rw (e, keptTurn) (omega (arith, length-snoc ks k)))
         (truth (isEmpty p k))
+
+pub kept-few : (p : Plan) → length (keptRows p) ≤ p .rows
+unfolding keptRows
+kept-few p = few-before p (p .rows)
 
 -- ---- rows, against those that were found anew
 module _ {ks l : List ℕ} {k : ℕ} {mine : List ℕ} (f : Front ks l k mine) (count : ℕ) (kept : List ℕ) where

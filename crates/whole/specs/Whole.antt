@@ -88,6 +88,18 @@ rightSign op NotANumber = NotANumber
 unfoldable pub multiplierOf : ℕ → Float → Rounded
 multiplierOf op x = rightSign op (scaledOf x)
 
+-- ---- of an answer
+unfoldable pub isWhole : Rounded → Bool
+isWhole (Whole w) = true
+isWhole (Beyond x) = false
+isWhole NotANumber = false
+
+-- the whole number, 0 where there is none
+unfoldable pub numberOf : Rounded → ℤ
+numberOf (Whole w) = w
+numberOf (Beyond x) = pos 0
+numberOf NotANumber = pos 0
+
 -- ---- of a double from 0 up, for `nearest`
 pub record Nearby (a : Float) (r : ℕ) : Type 0 where
   pub is : r ≡ closest (num a) (den a)

@@ -6,7 +6,7 @@ ghost use lib.IntN.{pos};
 ghost use lib.Dec.{T};
 ghost use lib.Ieee.{fin, lt};
 ghost use Rattle.doubles.specs.Num.{size};
-ghost use Rattle.whole.specs.Whole.{Nearby, roundEven, amountOf, rightSign, multiplierOf};
+ghost use Rattle.whole.specs.Whole.{Nearby, roundEven, amountOf, rightSign, multiplierOf, isWhole, numberOf};
 
 // 02: "Whole, or Beyond with the double that wouldn't fit the sheet's limit, or NotANumber".
 pub enum Rounded {
@@ -84,4 +84,25 @@ pub fn multiplier(op: u8, price: f64) -> Rounded
 {
     let r = round_even(price * -1024.0, doubles::MAX_MULTIPLIER as i64);
     right_sign(op, r)
+}
+
+pub fn is_whole(r: Rounded) -> bool
+    ensures { λ z. ⌜ z ≡ isWhole r ⌝ }
+{
+    match r {
+        Rounded::Whole(_) => true,
+        Rounded::Beyond(_) => false,
+        Rounded::NotANumber => false,
+    }
+}
+
+// The whole number, 0 where there is none.
+pub fn number_of(r: Rounded) -> i64
+    ensures { λ z. ⌜ z ≡ numberOf r ⌝ }
+{
+    match r {
+        Rounded::Whole(w) => w,
+        Rounded::Beyond(_) => 0,
+        Rounded::NotANumber => 0,
+    }
 }
