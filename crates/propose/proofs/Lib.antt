@@ -1,0 +1,2 @@
+-- What a proposal means. The theorems:
+pub mod Laws
