@@ -8,7 +8,7 @@ use native.Mathlib.Omega.{arith}
 use lib.ListN.{length}
 use lib.IntN.{ℤ}
 use lib.Ieee.{Float}
-use borrow.Author.Tests.{leb-true, ltb-true, lt-ltb, le-ltb, eq-eqb, ne-eqb}
+use borrow.Author.Tests.{leb-true, ltb-true, le-leb, lt-ltb, le-ltb, eq-eqb, ne-eqb}
 use Rattle.doubles.specs.Limits.{countCells}
 use Rattle.doubles.specs.Lists.{_!_, _#_, over}
 use Rattle.doubles.proofs.Bools.{truth}
@@ -24,6 +24,7 @@ use Rattle.kept_maps.specs.Maps.{rowsFine, cellsFine, mapsFine}
 use Rattle.row_multipliers.specs.Rows.{slackPrice, multiplierAt, firstMultiplier, multipliers, rowsOf, Long}
 use Rattle.propose.specs.declared.Proposal.{Proposal}
 use Rattle.propose.specs.declared.Proposal.the-variants.{Proposed, Nothing, Refused, AmountNotWhole, MultiplierNotWhole}
+use Rattle.propose.specs.Words.{Enough}
 use Rattle.propose.specs.Propose.{Lent, memory, lentFine, firstAmount, amountsOf, firstNotWhole, statusOf, proposal, isProposed, Handed, handed, proposed}
 
 -- ---- the values are no part of rows, maps and prices
@@ -62,12 +63,6 @@ module _ (p : Plan) (m : Memory) {j : ℕ} (e : j ≡ firstAmount (p .columns) (
     all-whole l = rw (le-ltb _ (p .columns) (rw e at g), firstNotWhole) (rw (le-ltb _ (p .rows) (rw f at l)))
 
 -- ---- what has passed 1
-pub record Enough (l : Lent) : Type 0 where
-  pub long : Long (l .plan .columns) (l .plan .rows) (l .plan .starts) (l .plan .ops) (l .numbers) (l .doubles)
-  pub values-long : l .plan .columns ≤ length (l .values)
-  pub amounts-long : l .plan .columns ≤ length (l .amounts)
-  pub mults-long : l .plan .rows ≤ length (l .mults)
-
 pub enough : (l : Lent) → lentFine l ≡ true → Enough l
 unfolding lentFine
 enough l h =
@@ -92,6 +87,21 @@ enough l h =
       amounts-long = leb-true _ _ (b .1);
       mults-long = leb-true _ _ (a .1);
     }
+
+pub fine-enough : (l : Lent) → Enough l → lentFine l ≡ true
+unfolding lentFine
+fine-enough l e =
+    rw (
+      le-leb _ _ (e .long .columns-fit),
+      le-leb _ _ (e .long .rows-fit),
+      lt-ltb _ _ (e .long .starts-long),
+      le-leb _ _ (e .long .ops-long),
+      le-leb _ _ (e .values-long),
+      le-leb _ _ (e .long .numbers-long),
+      le-leb _ _ (e .long .doubles-long),
+      le-leb _ _ (e .amounts-long),
+      le-leb _ _ (e .mults-long),
+    )
 
 -- ---- the answer
 module _ (l : Lent) where

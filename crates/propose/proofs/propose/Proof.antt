@@ -3,7 +3,8 @@ use mathlib.Core.Path.{_≡_, sym, ap, _∙_}
 use mathlib.Core.Bool.{true}
 use Rattle.doubles.specs.Lists.{over}
 use Rattle.propose.specs.Propose.{Lent, lentOf, isProposed, proposal}
-use Rattle.propose.proofs.Laws.{same-all, Enough, enough, proposed-fine, writes, stays}
+use Rattle.propose.specs.Words.{Enough}
+use Rattle.propose.proofs.Laws.{same-all, enough, proposed-fine, writes, stays}
 use borrow.Author.Needs.{needs}
 use Rattle.propose.proofs.propose.Statement.{statement}
 use Rattle.propose.proofs.propose.Tie as tie
