@@ -17,7 +17,6 @@ use Rattle.rules.specs.Pivot.{newNorm, exchangeFinite, exchanged}
 use Rattle.rules.specs.Step.{Outcome, moved, stopped, unless, exchange}
 use Rattle.rules.specs.Invariant.{Vector}
 use Rattle.rules.specs.declared.Entering.{Entering}
-use Rattle.rules.specs.declared.PivotInfo.{PivotInfo}
 use Rattle.rules.specs.declared.PivotInfo.the-variants.{Exchange as Exchanges}
 use Rattle.rules.specs.declared.Stop.{Stop}
 use Rattle.rules.specs.declared.Stop.the-variants.{StoreFull, NotFinite}
@@ -26,7 +25,7 @@ use Rattle.eta.proofs.Laws.{fits-readable}
 use Rattle.rows.specs.Lent.{Fresh}
 use Rattle.rows.proofs.Parts.{fresh-blank, fits-rows, vector-listed}
 use Rattle.new_numbers.specs.Lent.{Listing}
-use Rattle.new_numbers.proofs.Parts.{vector-listing, exchange-finite-part}
+use Rattle.new_numbers.proofs.Parts.{vector-listing}
 use Rattle.pivot.specs.Lent.{Swaps}
 use Rattle.cells.proofs.Parts.{boundsOf}
 use Rattle.pivot.proofs.Parts.{fits-swaps, exchanged-part}
@@ -35,7 +34,9 @@ use Rattle.state.specs.Packed.{packed, stateAt}
 use Rattle.state.specs.declared.Tally.{Tally}
 use Rattle.state.specs.declared.Exchange.{Exchange}
 use Rattle.exchange.specs.Left.{on, off, after, stepped}
-use Rattle.exchange.specs.Decided.{Decision, goes, ends, decision, decided}
+use Rattle.exchange.specs.Decided.{Decision, goes, ends, decision, decided, decidedBy}
+use Rattle.exchange.specs.declared.Decided.{Decided}
+use Rattle.exchange.specs.declared.Decided.the-variants.{Goes, Stops}
 use Rattle.exchange.specs.Lent.{Ready, Solved}
 
 -- ---- what the calls ask
@@ -102,57 +103,65 @@ module _ (P : Problem) (s : State) (e : Entering) (c : Sv) (x : Exchange) where
 
   module _ (q : etaFits s (c .pat .count) ≡ true) (r h : Sv) (er : r ≡ rowCoeffsOf P s (x .row)) (eh : h ≡ helperOf P s c) (b : Bool)
       (eb : b ≡ (listedFinite r && listedFinite h && exchangeFinite P s e c r h (x .value) (x .diff) (x .row) (x .pivot) (x .leaving))) where
-    by-tests : decision true b r (h .vals) ≡ decided P s e c x
+    tested : decision true b r (h .vals) ≡ decided P s e c x
     unfolding decided
-    by-tests = rw (q, ← er, ← eh, ← eb) refl
+    tested = rw (q, ← er, ← eh, ← eb) refl
 
     pub decided-bad : b ≡ false → ends NotFinite ≡ decided P s e c x
     unfolding decision
-    decided-bad f = rw f at by-tests
+    decided-bad f = rw f at tested
 
     pub decided-goes : b ≡ true → goes r (h .vals) ≡ decided P s e c x
     unfolding decision
-    decided-goes f = rw f at by-tests
+    decided-goes f = rw f at tested
 
-  -- one that goes on has room for its eta column, and its row is the definition's
-  pub goes-fits : (r : Sv) (h : List Float) → goes r h ≡ decided P s e c x → (etaFits s (c .pat .count) ≡ true) × (r ≡ rowCoeffsOf P s (x .row))
-  unfolding decided
-  goes-fits r h q = go _ _ _ _ q
-    where
-      go : (a b : Bool) (u : Sv) (v : List Float) → goes r h ≡ decision a b u v → (a ≡ true) × (r ≡ u)
-      unfolding decision
-      go false b u v q = absurd (let z : _≡_ {A = ℕ} 0 1 = cc in omega arith)
-      go true false u v q = absurd (let z : _≡_ {A = ℕ} 0 1 = cc in omega arith)
-      go true true u v q = (refl, cc)
+-- one that goes on has passed the first test, and has the row
+goes-passed : {r : Sv} {h : List Float} (a b : Bool) (u : Sv) (v : List Float) → goes r h ≡ decision a b u v → (a ≡ true) × (r ≡ u)
+unfolding decision
+goes-passed false b u v q = absurd (let z : _≡_ {A = ℕ} 0 1 = cc in omega arith)
+goes-passed true false u v q = absurd (let z : _≡_ {A = ℕ} 0 1 = cc in omega arith)
+goes-passed true true u v q = (refl, cc)
 
 -- ---- how it ends
 module _ (Q : Problem) (s : State) (e : Entering) (c : Sv) (x : Exchange) where
   abbrev pub rowsOf : Problem
   rowsOf = rowed (nOf Q) (Q .plan .starts) (Q .plan .cols) (Q .plan .coeffs) (Q .kept)
 
-  abbrev left : Sv → List Float → State
-  left r h = exchanged Q s e c r (svOf h (blank .pat)) (x .value) (x .diff) (x .row) (x .pivot) (x .leaving)
+  abbrev left : Sv → Sv → State
+  left r h = exchanged Q s e c r h (x .value) (x .diff) (x .row) (x .pivot) (x .leaving)
+
+  abbrev whole : Outcome
+  whole = exchange Q s e c (x .value) (x .diff) (x .row) (x .pivot) (x .leaving)
 
   abbrev byDecision : Decision → Outcome
-  byDecision (goes r h) = moved (Exchanges (x .value) (x .diff) (x .row) (x .pivot) (x .leaving)) (left r h)
+  byDecision (goes r h) = moved (Exchanges (x .value) (x .diff) (x .row) (x .pivot) (x .leaving)) (left r (svOf h (blank .pat)))
   byDecision (ends w) = stopped w
 
-  is-decided : exchange Q s e c (x .value) (x .diff) (x .row) (x .pivot) (x .leaving) ≡ byDecision (decided rowsOf s e c x)
-  unfolding exchange decided rowCoeffsOf helperOf combine addRow exchangeFinite exchanged newNorm
-  is-decided = go _ _ _ _
-    where
-      go : (a b : Bool) (u : Sv) (v : Sv) → unless a StoreFull (unless b NotFinite (moved (Exchanges (x .value) (x .diff) (x .row) (x .pivot) (x .leaving)) (exchanged Q s e c u v (x .value) (x .diff) (x .row) (x .pivot) (x .leaving)))) ≡ byDecision (decision a b u (v .vals))
-      unfolding decision
-      go false b u v = refl
-      go true false u v = refl
-      go true true u v = refl
+  -- of the helper its values alone are stored
+  by-tests : (a b : Bool) (u v : Sv) → unless a StoreFull (unless b NotFinite (moved (Exchanges (x .value) (x .diff) (x .row) (x .pivot) (x .leaving)) (left u v))) ≡ byDecision (decision a b u (v .vals))
+  unfolding decision exchanged newNorm
+  by-tests false b u v = refl
+  by-tests true false u v = refl
+  by-tests true true u v = refl
 
-  pub exchange-ends : (w : Stop) → ends w ≡ decided rowsOf s e c x → off w (s .ws) ≡ after s (exchange Q s e c (x .value) (x .diff) (x .row) (x .pivot) (x .leaving))
-  unfolding after
-  exchange-ends w q = sym (ap (after s) (is-decided ∙ ap byDecision (sym q)))
+  is-decided : whole ≡ byDecision (decided rowsOf s e c x)
+  unfolding exchange decided rowCoeffsOf helperOf combine addRow exchangeFinite
+  is-decided = by-tests _ _ _ _
 
-  pub exchange-goes : (r : Sv) (h : List Float) → goes r h ≡ decided rowsOf s e c x
-      → (t : State) → t ≡ exchanged (boundsOf Q) s e c r (svOf h (blank .pat)) (x .value) (x .diff) (x .row) (x .pivot) (x .leaving)
-      → on t ≡ after s (exchange Q s e c (x .value) (x .diff) (x .row) (x .pivot) (x .leaving))
-  unfolding after
-  exchange-goes r h q t et = ap on (et ∙ exchanged-part Q s e c (x .value) (x .diff) r (svOf h (blank .pat)) (x .row) (x .pivot) (x .leaving)) ∙ sym (ap (after s) (is-decided ∙ ap byDecision (sym q)))
+  -- what the code decided, with the vectors as it left them
+  module _ (d : Decided) (v : List Float) (m : List Bool) (l : List ℕ) (h : List Float) (q : decidedBy d v m l h ≡ decided rowsOf s e c x) where
+    pub exchange-ends : (w : Stop) → d ≡ Stops w → off w (s .ws) ≡ after s whole
+    unfolding after
+    exchange-ends w f = let g : ends w ≡ decided rowsOf s e c x = rw f at q in sym (ap (after s) (is-decided ∙ ap byDecision (sym g)))
+
+    module _ (k : ℕ) (f : d ≡ Goes k) where
+      gone : goes (sv v m l k) h ≡ decided rowsOf s e c x
+      gone = rw f at q
+
+      pub goes-asks : (etaFits s (c .pat .count) ≡ true) × (sv v m l k ≡ rowCoeffsOf rowsOf s (x .row))
+      unfolding decided
+      goes-asks = goes-passed _ _ _ _ gone
+
+      pub exchange-goes : (t : State) → t ≡ exchanged (boundsOf Q) s e c (sv v m l k) (svOf h (blank .pat)) (x .value) (x .diff) (x .row) (x .pivot) (x .leaving) → on t ≡ after s whole
+      unfolding after
+      exchange-goes t et = ap on (et ∙ exchanged-part Q s e c (x .value) (x .diff) (sv v m l k) (svOf h (blank .pat)) (x .row) (x .pivot) (x .leaving)) ∙ sym (ap (after s) (is-decided ∙ ap byDecision (sym gone)))

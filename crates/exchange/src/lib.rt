@@ -42,7 +42,7 @@ fn numbers_finite(
     row_values: &[f64; doubles::PLACES],
     row_list: &[usize; doubles::PLACES],
     row_count: usize,
-    helper: &[f64; doubles::PLACES],
+    helper_values: &[f64; doubles::PLACES],
     helper_list: &[usize; doubles::PLACES],
     helper_count: usize,
     sq: f64,
@@ -52,15 +52,15 @@ fn numbers_finite(
     requires { ⌜ (length (now doubles) ≡ objectiveAt) × Listing maxRows count (now list) × Listing maxColumns «row_count» (now «row_list») ⌝ }
     requires { ⌜ Squares (now values) (now list) count sq × («helper_count» ≤ places) × Within places «helper_count» (now «helper_list») ⌝ }
     ensures { λ r. ⌜ ((P : Problem) (N : List ℕ) (m rm hm : List Bool) → r ≡ (listedFinite (sv (now («row_values» .entry)) rm (now («row_list» .entry)) «row_count»)
-        && listedFinite (sv (now (helper .entry)) hm (now («helper_list» .entry)) «helper_count»)
+        && listedFinite (sv (now («helper_values» .entry)) hm (now («helper_list» .entry)) «helper_count»)
         && exchangeFinite P (stateAt N (now (doubles .entry)) at) e (sv (now (values .entry)) m (now (list .entry)) count)
-        (sv (now («row_values» .entry)) rm (now («row_list» .entry)) «row_count») (sv (now (helper .entry)) hm (now («helper_list» .entry)) «helper_count»)
+        (sv (now («row_values» .entry)) rm (now («row_list» .entry)) «row_count») (sv (now («helper_values» .entry)) hm (now («helper_list» .entry)) «helper_count»)
         (x .value) (x .diff) (x .row) (x .pivot) (x .leaving))) ⌝ }
 {
     if !rows::listed_finite(row_values, row_list, row_count) {
         return false;
     }
-    if !rows::listed_finite(helper, helper_list, helper_count) {
+    if !rows::listed_finite(helper_values, helper_list, helper_count) {
         return false;
     }
     step_reads::exchange_finite(
@@ -72,7 +72,7 @@ fn numbers_finite(
         row_values,
         row_list,
         row_count,
-        helper,
+        helper_values,
         sq,
         e,
         x,
@@ -84,7 +84,7 @@ fn decide(
     row_values: &mut [f64; doubles::PLACES],
     row_marks: &mut [bool; doubles::PLACES],
     row_list: &mut [usize; doubles::PLACES],
-    helper: &mut [f64; doubles::PLACES],
+    helper_values: &mut [f64; doubles::PLACES],
     helper_marks: &mut [bool; doubles::PLACES],
     helper_list: &mut [usize; doubles::PLACES],
     numbers: &[usize],
@@ -102,10 +102,10 @@ fn decide(
     e: rules::Entering,
     x: state::Exchange,
 ) -> Decided
-    requires { ⌜ Fresh (sv (now «row_values») (now «row_marks») (now «row_list») 0) × Fresh (sv (now helper) (now «helper_marks») (now «helper_list») 0) ⌝ }
+    requires { ⌜ Fresh (sv (now «row_values») (now «row_marks») (now «row_list») 0) × Fresh (sv (now «helper_values») (now «helper_marks») (now «helper_list») 0) ⌝ }
     requires { ⌜ Solving n (now starts) (now cols) (now coeffs) (now kept) (now numbers) (now doubles) at
         × Solved (length (now kept)) (now values) (now list) count × Squares (now values) (now list) count sq × (x .row < length (now kept)) ⌝ }
-    ensures { λ r. ⌜ ((m : List Bool) → decidedBy r (now («row_values» .exit)) (now («row_marks» .exit)) (now («row_list» .exit)) (now (helper .exit))
+    ensures { λ r. ⌜ ((m : List Bool) → decidedBy r (now («row_values» .exit)) (now («row_marks» .exit)) (now («row_list» .exit)) (now («helper_values» .exit))
         ≡ decided (rowed n (now (starts .entry)) (now (cols .entry)) (now (coeffs .entry)) (now (kept .entry)))
         (stateAt (now (numbers .entry)) (now (doubles .entry)) at) e (sv (now (values .entry)) m (now (list .entry)) count) x) ⌝ }
 {
@@ -127,7 +127,7 @@ fn decide(
         x.row,
     );
     let helper_count = step_reads::helper(
-        helper,
+        helper_values,
         helper_marks,
         helper_list,
         values,
@@ -151,7 +151,7 @@ fn decide(
         row_values,
         row_list,
         row_count,
-        helper,
+        helper_values,
         helper_list,
         helper_count,
         sq,
@@ -192,7 +192,7 @@ pub fn exchange(
     let mut row_values = [0.0; doubles::PLACES];
     let mut row_marks = [false; doubles::PLACES];
     let mut row_list = [0usize; doubles::PLACES];
-    let mut helper = [0.0; doubles::PLACES];
+    let mut helper_values = [0.0; doubles::PLACES];
     let mut helper_marks = [false; doubles::PLACES];
     let mut helper_list = [0usize; doubles::PLACES];
     let sq = sparse::sq_norm(values, list, count);
@@ -200,7 +200,7 @@ pub fn exchange(
         &mut row_values,
         &mut row_marks,
         &mut row_list,
-        &mut helper,
+        &mut helper_values,
         &mut helper_marks,
         &mut helper_list,
         numbers,
@@ -238,7 +238,7 @@ pub fn exchange(
                 &row_values,
                 &row_list,
                 row_count,
-                &helper,
+                &helper_values,
                 sq,
                 e,
                 x,

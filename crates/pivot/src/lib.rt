@@ -167,11 +167,11 @@ pub fn store_flip(
     );
     doubles[state::NB_VAR_VALS + col] = value;
     numbers[state::FLAGS + col] = flags_at(n, lowers, uppers, ops, kept, var, value);
-    let steps = at.steps;
+    let steps = at.steps + 1;
     state::Tally {
         eta_count: at.eta_count,
         objective: new_numbers::new_objective(at.objective, e, diff),
-        steps: steps + 1,
+        steps,
     }
 }
 

@@ -44,25 +44,25 @@ pub fn optimize(
         ≡ runOf (stepped n (now (lowers .entry)) (now (uppers .entry)) (now (starts .entry)) (now (cols .entry)) (now (coeffs .entry)) (now (ops .entry)) (now (kept .entry)))
         (budget - at .steps) (stateAt (now (numbers .entry)) (now (doubles .entry)) at) ⌝ }
 {
-    let mut now = at;
+    let mut tally = at;
     loop {
         let choice = step_reads::choose(numbers, doubles, n, lowers, uppers, ops, kept);
         let rules::Choice::Enters(e) = choice else {
             return Ran {
                 why: rules::Stop::Finished,
-                at: now,
+                at: tally,
             };
         };
-        if now.steps >= budget {
+        if tally.steps >= budget {
             return Ran {
                 why: rules::Stop::Spent,
-                at: now,
+                at: tally,
             };
         }
         let went = step::step(
             numbers,
             doubles,
-            now,
+            tally,
             n,
             lowers,
             uppers,
@@ -78,10 +78,10 @@ pub fn optimize(
         );
         match went {
             exchange::Went::On(after) => {
-                now = after;
+                tally = after;
             }
             exchange::Went::Stops(why) => {
-                return Ran { why, at: now };
+                return Ran { why, at: tally };
             }
         }
     }

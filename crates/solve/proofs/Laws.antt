@@ -19,7 +19,7 @@ use Rattle.rules.proofs.Lengths.{memory-fits, lent-long}
 use Rattle.rules.proofs.Start.{start-fits, passed-fits}
 use Rattle.rules.proofs.Steps.{steps-fit, end-reached}
 use Rattle.state.specs.Packed.{packed, stateAt, keptAt, objectiveAt}
-use Rattle.state.specs.Memory.{numbersEnd, doublesEnd, memoryIn, Past, pastOf, handed, answered}
+use Rattle.state.specs.Memory.{numbersEnd, doublesEnd, memoryIn, Past, pastOf, Handed, handed, answered}
 use Rattle.state.proofs.Memory.{front-packed, front-sized, front-same, after-sized, after-long, after-memory, after-past}
 use Rattle.plan.specs.Lent.{rowsOf, Front}
 use Rattle.plan.specs.declared.Refusal.the-variants.{By, Nothing}
@@ -163,9 +163,8 @@ module _ (p : Plan) (v : List Float) (N : List ℕ) (D : List Float) (ok : Nothi
         unfolding close memoryAfter
         closed z = ap (λ (k : Memory). close P k z) (after-memory N D (long .0) (long .1) M E q x v)
 
-        pub solves : {a : Answer} {values : List Float} {L : List ℕ} {F : List Float}
-            → answered a values L F ≡ handed (close (checkedBy P) (memoryIn v M+ E+) (ended (r .why) (stateAt M+ E+ (r .at)))) (pastOf M+ E+)
-            → answered a values L F ≡ handed (solvePlan p m) (pastOf N D)
+        pub solves : {h : Handed} → h ≡ handed (close (checkedBy P) (memoryIn v M+ E+) (ended (r .why) (stateAt M+ E+ (r .at)))) (pastOf M+ E+)
+            → h ≡ handed (solvePlan p m) (pastOf N D)
         solves c =
             c
             ∙ ap (λ (t : Past). handed (close (checkedBy P) (memoryIn v M+ E+) (ended (r .why) (stateAt M+ E+ (r .at)))) t) (after-past N D (long .0) (long .1) M E q x)

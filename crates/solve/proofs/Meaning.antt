@@ -39,19 +39,20 @@ module _ (p : Plan) (v : List Float) (N : List ℕ) (D : List Float) where
   abbrev pub PromisedIn : Answer → List Float → List ℕ → List Float → Type 0
   PromisedIn a w M E = answered a w M E ≡ handed (solvePlan p (memoryIn v N D)) (pastOf N D)
 
-  pub in-memory : {a : Answer} {w : List Float} {M : List ℕ} {E : List Float} → PromisedIn a w M E → Promised p (memoryIn v N D) (solved a (memoryIn w M E))
-  in-memory e = ap (λ (h : Handed). h .solved) e
+  pub in-memory : (a : Answer) (w : List Float) (M : List ℕ) (E : List Float) → PromisedIn a w M E → Promised p (memoryIn v N D) (solved a (memoryIn w M E))
+  in-memory a w M E e = ap (λ (h : Handed). h .solved) e
 
   -- 01: "cells past what is written never change": those past the sections
-  pub past-stays : {a : Answer} {w : List Float} {M : List ℕ} {E : List Float} → PromisedIn a w M E → pastOf M E ≡ pastOf N D
-  past-stays e = ap (λ (h : Handed). h .past) e
+  pub past-stays : (a : Answer) (w : List Float) (M : List ℕ) (E : List Float) → PromisedIn a w M E → pastOf M E ≡ pastOf N D
+  past-stays a w M E e = ap (λ (h : Handed). h .past) e
 
   -- 01: "Any two results allowed by a promise are shown equal": the answer and every cell, of arrays of any length
-  pub cells-settled : {a b : Answer} {w x : List Float} {M L : List ℕ} {E F : List Float} → PromisedIn a w M E → PromisedIn b x L F
+  pub cells-settled : (a b : Answer) (w x : List Float) (M L : List ℕ) (E F : List Float) → PromisedIn a w M E → PromisedIn b x L F
       → (a ≡ b) × (w ≡ x) × (M ≡ L) × (E ≡ F)
-  cells-settled e f =
-      let q = e ∙ sym f in
-      (ap (λ (h : Handed). h .solved .answer) q, cells-settle (ap (λ (h : Handed). h .solved .memory) q) (ap (λ (h : Handed). h .past) q))
+  cells-settled a b w x M L E F e f =
+      let q : answered a w M E ≡ answered b x L F = e ∙ sym f in
+      let z = cells-settle {v = w} {w = x} {N = M} {M = L} {D = E} {E = F} (ap (λ (h : Handed). h .solved .memory) q) (ap (λ (h : Handed). h .past) q) in
+      (ap (λ (h : Handed). h .solved .answer) q, z .0, z .1, z .2)
 
 -- no refusal
 abbrev pub NotRefused : Solved → Type 0

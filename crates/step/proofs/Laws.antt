@@ -8,7 +8,7 @@ use lib.ListN.{length}
 use lib.Ieee.{Float}
 use Rattle.doubles.specs.Limits.{maxRows, maxColumns, places}
 use Rattle.doubles.specs.Lists.{_#_}
-use Rattle.sparse.specs.Scattered.{Sv, Within}
+use Rattle.sparse.specs.Scattered.{Sv, sv, Within}
 use Rattle.rules.specs.Plan.{Problem, Workspace, State, nOf, column, varMin, varMax}
 use Rattle.rules.specs.Parts.{planOf, problem, bounded, rowed}
 use Rattle.rules.specs.Choose.{otherVal, choose}
@@ -34,6 +34,7 @@ use Rattle.eta.specs.Store.{Readable}
 use Rattle.eta.proofs.Laws.{fits-readable}
 use Rattle.rows.proofs.Parts.{vector-listed}
 use Rattle.ratio.specs.Lent.{Stepping}
+use Rattle.ratio.proofs.Parts.{ratio-part}
 use Rattle.ratio.proofs.Fits.{stepping}
 use Rattle.new_numbers.specs.Lent.{Listing}
 use Rattle.new_numbers.proofs.Parts.{vector-listing}
@@ -48,11 +49,13 @@ use Rattle.state.specs.declared.Tally.{Tally}
 use Rattle.state.specs.declared.Exchange.{Exchange}
 use Rattle.exchange.specs.Left.{Left, on, off, after, stepped}
 use Rattle.exchange.specs.Lent.{Ready, Solved}
-use Rattle.step.specs.Found.{Found, flips, exchanges, ends, exchangeOf, byPivot, byRatio, found}
+use Rattle.step.specs.Found.{Found, flips, exchanges, ends, exchangeOf, byPivot, byRatio, found, foundBy}
+use Rattle.step.specs.declared.Decided.{Decided}
+use Rattle.step.specs.declared.Decided.the-variants.{Flips as Flips·found, Exchanges, Stops}
 
 -- ---- what the calls ask
 module _ {n : ℕ} {lowers uppers : List Float} {starts cols : List ℕ} {coeffs : List Float} {ops kept : List ℕ} {N : List ℕ} {D : List Float} {t : Tally}
-    (rd : Ready n lowers uppers starts cols coeffs ops kept N D t) {e : Entering} (inside : e .col < n) where
+    (rd : Ready n lowers uppers starts cols coeffs ops kept N D t) (e : Entering) (inside : e .col < n) where
   abbrev P : Problem
   P = problem (planOf n (rd .rows) (rd .entries) (rd .budget) (rd .tolerance) (rd .costs) lowers uppers starts cols coeffs ops (rd .rhs)) kept
 
@@ -96,106 +99,133 @@ module _ {n : ℕ} {lowers uppers : List Float} {starts cols : List ℕ} {coeffs
     column-listing = vector-listing c _ solved (omega (arith, rd .problem-fits .few, rd .problem-fits .plan .rows-most))
 
     -- the leaving row is listed in the column
-    row-below : (x : Exchange) → RatioGives Q (s .ws) e c (Pivot (Exchanging (x .value) (x .diff) (x .row) (x .pivot) (x .leaving))) → x .row < length kept
-    row-below x (gives-exchange _ k l) = solved .places-below .below k (l .inside)
+    row-below : (value diff : Float) (row : ℕ) (pivot leaving : Float) → RatioGives Q (s .ws) e c (Pivot (Exchanging value diff row pivot leaving)) → row < length kept
+    row-below value diff row pivot leaving (gives-exchange _ k l) = solved .places-below .below k (l .inside)
 
-    pub exchange-asks : (x : Exchange) → ratio Q (packed N D) e c ≡ Pivot (Exchanging (x .value) (x .diff) (x .row) (x .pivot) (x .leaving)) → x .row < length kept
-    exchange-asks x q = row-below x (ratio-exactly Q (s .ws) e c _ .0 q)
+    pub exchange-asks : (x : Exchange) → ratio Q (packed N D) e (colCoeffs Q s var) ≡ Pivot (Exchanging (x .value) (x .diff) (x .row) (x .pivot) (x .leaving)) → x .row < length kept
+    exchange-asks x q = row-below (x .value) (x .diff) (x .row) (x .pivot) (x .leaving) (ratio-exactly Q (s .ws) e c _ .0 (ap (ratio Q (s .ws) e) ec ∙ q))
 
   pub flip-asks : Flips (bounded n lowers uppers ops kept) N D (e .col)
   flip-asks = fits-flips P (rd .problem-fits) N D t (rd .sized) (rd .state-fits) (e .col) inside
 
 -- ---- what is decided
 module _ (Q : Problem) (s : State) (e : Entering) (c : Sv) (ec : c ≡ colCoeffs Q s (s .ws .nbVars # e .col)) where
-  pub found-bad : listedFinite c ≡ false → ends Stop·NotFinite ≡ found Q s e
-  unfolding found
-  found-bad f = rw (← ec, f)
+  abbrev from : Sv → Found
+  from k = elim (listedFinite k) [ true ↦ byRatio Q s e k (ratio Q (s .ws) e k) | false ↦ ends Stop·NotFinite ]
 
-  module _ (f : listedFinite c ≡ true) (x : Ratio) (ex : x ≡ ratio Q (s .ws) e c) where
-    pub found-ratio : byRatio Q s e c x ≡ found Q s e
-    unfolding found
-    found-ratio = rw (← ec, f, ← ex) refl
+  is-from : from c ≡ found Q s e
+  unfolding found
+  is-from = ap from ec
+
+  pub found-bad : listedFinite c ≡ false → ends Stop·NotFinite ≡ found Q s e
+  found-bad f = let g : ends Stop·NotFinite ≡ from c = rw (f, from) in g ∙ is-from
+
+  module _ (f : listedFinite c ≡ true) where
+    pub found-ratio : (y : Ratio) → y ≡ ratio (boundsOf Q) (s .ws) e c → byRatio Q s e c y ≡ found Q s e
+    found-ratio y ey =
+        let g : y ≡ ratio Q (s .ws) e c = ey ∙ ratio-part (boundsOf Q) (s .ws) e c ∙ sym (ratio-part Q (s .ws) e c) in
+        let h : byRatio Q s e c (ratio Q (s .ws) e c) ≡ from c = rw (f, from) in
+        ap (byRatio Q s e c) g ∙ h ∙ is-from
+
+    module _ (value diff : Float) (ey : Pivot (Flip value diff) ≡ ratio (boundsOf Q) (s .ws) e c) where
+      by-flip : elim (flipFinite Q s e c value diff) [ true ↦ flips c value diff | false ↦ ends Stop·NotFinite ] ≡ found Q s e
+      unfolding byRatio byPivot
+      by-flip = found-ratio (Pivot (Flip value diff)) ey
+
+      pub found-flip : flipFinite Q s e c value diff ≡ true → flips c value diff ≡ found Q s e
+      found-flip q = rw q at by-flip
+
+      pub found-unsound : flipFinite Q s e c value diff ≡ false → ends Stop·NotFinite ≡ found Q s e
+      found-unsound q = rw q at by-flip
 
 -- what a flip or an exchange that was found tells of the column and the ratio
+module _ (Q : Problem) (s : State) (e : Entering) (c : Sv) where
+  flips-tested : {k : Sv} {value diff : Float} (b : Bool) (u v : Float) → flips k value diff ≡ elim b [ true ↦ flips c u v | false ↦ ends Stop·NotFinite ] → k ≡ c
+  flips-tested true u v q = cc
+  flips-tested false u v q = absurd (let z : _≡_ {A = ℕ} 0 1 = cc in omega arith)
+
+  flips-by : {k : Sv} {value diff : Float} (b : Bool) (y : Ratio) → flips k value diff ≡ elim b [ true ↦ byRatio Q s e c y | false ↦ ends Stop·NotFinite ] → k ≡ c
+  unfolding byRatio byPivot
+  flips-by false y q = absurd (let z : _≡_ {A = ℕ} 0 1 = cc in omega arith)
+  flips-by true NotFinite q = absurd (let z : _≡_ {A = ℕ} 0 1 = cc in omega arith)
+  flips-by true Unbounded q = absurd (let z : _≡_ {A = ℕ} 0 1 = cc in omega arith)
+  flips-by true (Pivot (Flip u v)) q = flips-tested (flipFinite Q s e c u v) u v q
+  flips-by true (Pivot (Exchanging u v r p l)) q = absurd (let z : _≡_ {A = ℕ} 0 1 = cc in omega arith)
+
+  untested : {k : Sv} {x : Exchange} (b : Bool) (u v : Float) → exchanges k x ≡ elim b [ true ↦ flips c u v | false ↦ ends Stop·NotFinite ] → ⊥
+  untested true u v q = let z : _≡_ {A = ℕ} 0 1 = cc in omega arith
+  untested false u v q = let z : _≡_ {A = ℕ} 0 1 = cc in omega arith
+
+  pivot-of : {x : Exchange} {u v : Float} {r : ℕ} {p l : Float} → x ≡ exchangeOf u v r p l → Pivot (Exchanging u v r p l) ≡ Pivot (Exchanging (x .value) (x .diff) (x .row) (x .pivot) (x .leaving))
+  pivot-of q = ap (λ (x : Exchange). Pivot (Exchanging (x .value) (x .diff) (x .row) (x .pivot) (x .leaving))) (sym q)
+
+  exchanges-by : {k : Sv} {x : Exchange} (b : Bool) (y : Ratio) → exchanges k x ≡ elim b [ true ↦ byRatio Q s e c y | false ↦ ends Stop·NotFinite ]
+      → (k ≡ c) × (y ≡ Pivot (Exchanging (x .value) (x .diff) (x .row) (x .pivot) (x .leaving)))
+  unfolding byRatio byPivot
+  exchanges-by false y q = absurd (let z : _≡_ {A = ℕ} 0 1 = cc in omega arith)
+  exchanges-by true NotFinite q = absurd (let z : _≡_ {A = ℕ} 0 1 = cc in omega arith)
+  exchanges-by true Unbounded q = absurd (let z : _≡_ {A = ℕ} 0 1 = cc in omega arith)
+  exchanges-by true (Pivot (Flip u v)) q = absurd (untested (flipFinite Q s e c u v) u v q)
+  exchanges-by true (Pivot (Exchanging u v r p l)) q = (cc, pivot-of cc)
+
+-- ---- the ways a step ends
 module _ (Q : Problem) (s : State) (e : Entering) where
   abbrev col : Sv
   col = colCoeffs Q s (s .ws .nbVars # e .col)
 
-  pub found-flips : (c : Sv) (value diff : Float) → flips c value diff ≡ found Q s e → c ≡ col
-  unfolding found
-  found-flips c value diff q = go (listedFinite col) (ratio Q (s .ws) e col) q
-    where
-      pivots : (b : Bool) (u v : Float) → flips c value diff ≡ elim b [ true ↦ flips col u v | false ↦ ends Stop·NotFinite ] → c ≡ col
-      pivots true u v q = cc
-      pivots false u v q = absurd (let z : _≡_ {A = ℕ} 0 1 = cc in omega arith)
-
-      go : (b : Bool) (x : Ratio) → flips c value diff ≡ elim b [ true ↦ byRatio Q s e col x | false ↦ ends Stop·NotFinite ] → c ≡ col
-      unfolding byRatio byPivot
-      go false x q = absurd (let z : _≡_ {A = ℕ} 0 1 = cc in omega arith)
-      go true NotFinite q = absurd (let z : _≡_ {A = ℕ} 0 1 = cc in omega arith)
-      go true Unbounded q = absurd (let z : _≡_ {A = ℕ} 0 1 = cc in omega arith)
-      go true (Pivot (Flip u v)) q = pivots (flipFinite Q s e col u v) u v q
-      go true (Pivot (Exchanging u v r p l)) q = absurd (let z : _≡_ {A = ℕ} 0 1 = cc in omega arith)
-
-  pub found-exchanges : (c : Sv) (x : Exchange) → exchanges c x ≡ found Q s e → (c ≡ col) × (ratio Q (s .ws) e col ≡ Pivot (Exchanging (x .value) (x .diff) (x .row) (x .pivot) (x .leaving)))
-  unfolding found
-  found-exchanges c x q = go (listedFinite col) (ratio Q (s .ws) e col) q
-    where
-      pivots : (b : Bool) (u v : Float) → exchanges c x ≡ elim b [ true ↦ flips col u v | false ↦ ends Stop·NotFinite ] → ⊥
-      pivots true u v q = let z : _≡_ {A = ℕ} 0 1 = cc in omega arith
-      pivots false u v q = let z : _≡_ {A = ℕ} 0 1 = cc in omega arith
-
-      same : (u v : Float) (r : ℕ) (p l : Float) → x ≡ exchangeOf u v r p l → Pivot (Exchanging u v r p l) ≡ Pivot (Exchanging (x .value) (x .diff) (x .row) (x .pivot) (x .leaving))
-      same u v r p l q = rw q
-
-      go : (b : Bool) (y : Ratio) → exchanges c x ≡ elim b [ true ↦ byRatio Q s e col y | false ↦ ends Stop·NotFinite ] → (c ≡ col) × (y ≡ Pivot (Exchanging (x .value) (x .diff) (x .row) (x .pivot) (x .leaving)))
-      unfolding byRatio byPivot
-      go false y q = absurd (let z : _≡_ {A = ℕ} 0 1 = cc in omega arith)
-      go true NotFinite q = absurd (let z : _≡_ {A = ℕ} 0 1 = cc in omega arith)
-      go true Unbounded q = absurd (let z : _≡_ {A = ℕ} 0 1 = cc in omega arith)
-      go true (Pivot (Flip u v)) q = absurd (pivots (flipFinite Q s e col u v) u v q)
-      go true (Pivot (Exchanging u v r p l)) q = (cc, same u v r p l cc)
-
--- ---- the ways a step ends
-module _ (Q : Problem) (s : State) (e : Entering) where
   abbrev byFound : Found → Outcome
   byFound (flips c value diff) = moved (Flip value diff) (flipped Q s e c value diff)
   byFound (exchanges c x) = exchange Q s e c (x .value) (x .diff) (x .row) (x .pivot) (x .leaving)
   byFound (ends w) = stopped w
 
+  by-test : (c : Sv) (b : Bool) (u v : Float) → unless b Stop·NotFinite (moved (Flip u v) (flipped Q s e c u v)) ≡ byFound (elim b [ true ↦ flips c u v | false ↦ ends Stop·NotFinite ])
+  by-test c true u v = refl
+  by-test c false u v = refl
+
+  by-tests : (c : Sv) (b : Bool) (y : Ratio) → unless b Stop·NotFinite (elim y [ NotFinite ↦ stopped Stop·NotFinite | Unbounded ↦ stopped Stop·Unbounded | Pivot i ↦ pivot Q s e c i ])
+      ≡ byFound (elim b [ true ↦ byRatio Q s e c y | false ↦ ends Stop·NotFinite ])
+  unfolding byRatio byPivot pivot flip
+  by-tests c false y = refl
+  by-tests c true NotFinite = refl
+  by-tests c true Unbounded = refl
+  by-tests c true (Pivot (Flip u v)) = by-test c (flipFinite Q s e c u v) u v
+  by-tests c true (Pivot (Exchanging u v r p l)) = refl
+
   is-found : step Q s e ≡ byFound (found Q s e)
   unfolding step found
-  is-found = go (listedFinite c) (ratio Q (s .ws) e c)
-    where
-      abbrev c : Sv
-      c = colCoeffs Q s (s .ws .nbVars # e .col)
-
-      flip-by : (b : Bool) (u v : Float) → unless b Stop·NotFinite (moved (Flip u v) (flipped Q s e c u v)) ≡ byFound (elim b [ true ↦ flips c u v | false ↦ ends Stop·NotFinite ])
-      flip-by true u v = refl
-      flip-by false u v = refl
-
-      go : (b : Bool) (x : Ratio) → unless b Stop·NotFinite (elim x [ NotFinite ↦ stopped Stop·NotFinite | Unbounded ↦ stopped Stop·Unbounded | Pivot i ↦ pivot Q s e c i ])
-          ≡ byFound (elim b [ true ↦ byRatio Q s e c x | false ↦ ends Stop·NotFinite ])
-      unfolding byRatio byPivot pivot flip
-      go false x = refl
-      go true NotFinite = refl
-      go true Unbounded = refl
-      go true (Pivot (Flip u v)) = flip-by (flipFinite Q s e c u v) u v
-      go true (Pivot (Exchanging u v r p l)) = refl
+  is-found = by-tests col (listedFinite col) (ratio Q (s .ws) e col)
 
   ended-by : (f : Found) → f ≡ found Q s e → after s (byFound f) ≡ after s (step Q s e)
   ended-by f q = sym (ap (after s) (is-found ∙ ap byFound (sym q)))
 
-  pub step-stops : (w : Stop) → ends w ≡ found Q s e → off w (s .ws) ≡ after s (step Q s e)
-  unfolding after
-  step-stops w q = ended-by (ends w) q
+  -- what the code decided, with the vector as it left it
+  module _ (d : Decided) (v : List Float) (m : List Bool) (l : List ℕ) (q : foundBy d v m l ≡ found Q s e) where
+    pub step-stops : (w : Stop) → d ≡ Stops w → off w (s .ws) ≡ after s (step Q s e)
+    unfolding after
+    step-stops w f = ended-by (ends w) (rw f at q)
 
-  pub step-flips : (c : Sv) (value diff : Float) → flips c value diff ≡ found Q s e → (t : State) → t ≡ flipped (boundsOf Q) s e c value diff → on t ≡ after s (step Q s e)
-  unfolding after
-  step-flips c value diff q t et = ap on (et ∙ flipped-part Q s e c value diff) ∙ ended-by (flips c value diff) q
+    module _ (k : ℕ) (value diff : Float) (f : d ≡ Flips·found k value diff) where
+      flip-found : flips (sv v m l k) value diff ≡ found Q s e
+      flip-found = rw f at q
 
-  pub step-exchanges : (c : Sv) (x : Exchange) → exchanges c x ≡ found Q s e → (l : Left) → l ≡ after s (exchange Q s e c (x .value) (x .diff) (x .row) (x .pivot) (x .leaving)) → l ≡ after s (step Q s e)
-  step-exchanges c x q l el = el ∙ ended-by (exchanges c x) q
+      pub flips-column : sv v m l k ≡ col
+      unfolding found
+      flips-column = flips-by Q s e col (listedFinite col) (ratio Q (s .ws) e col) flip-found
+
+      pub step-flips : (t : State) → t ≡ flipped (boundsOf Q) s e (sv v m l k) value diff → on t ≡ after s (step Q s e)
+      unfolding after
+      step-flips t et = ap on (et ∙ flipped-part Q s e (sv v m l k) value diff) ∙ ended-by (flips (sv v m l k) value diff) flip-found
+
+    module _ (k : ℕ) (x : Exchange) (f : d ≡ Exchanges k x) where
+      exchange-found : exchanges (sv v m l k) x ≡ found Q s e
+      exchange-found = rw f at q
+
+      pub exchanges-column : (sv v m l k ≡ col) × (ratio Q (s .ws) e col ≡ Pivot (Exchanging (x .value) (x .diff) (x .row) (x .pivot) (x .leaving)))
+      unfolding found
+      exchanges-column = exchanges-by Q s e col (listedFinite col) (ratio Q (s .ws) e col) exchange-found
+
+      pub step-exchanges : (o : Left) → o ≡ after s (exchange Q s e (sv v m l k) (x .value) (x .diff) (x .row) (x .pivot) (x .leaving)) → o ≡ after s (step Q s e)
+      step-exchanges o el = el ∙ ended-by (exchanges (sv v m l k) x) exchange-found
 
 -- ---- what a run uses
 abbrev pub steppedOf : Problem → Problem

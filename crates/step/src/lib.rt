@@ -67,7 +67,7 @@ fn decide(
     if !rows::listed_finite(values, list, count) {
         return Decided::Stops(rules::Stop::NotFinite);
     }
-    let ratio = step_reads::ratio(
+    let found = step_reads::ratio(
         numbers,
         doubles,
         n,
@@ -80,7 +80,7 @@ fn decide(
         count,
         e,
     );
-    match ratio {
+    match found {
         rules::Ratio::NotFinite => {
             return Decided::Stops(rules::Stop::NotFinite);
         }

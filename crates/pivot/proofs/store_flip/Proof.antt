@@ -56,11 +56,11 @@ mul-numbers c = search needs
 slice-write-numbers : tie.Need-slice-write-numbers
 slice-write-numbers c = search needs
 
+add-steps : tie.Need-add-steps
+add-steps c = search needs
+
 new-objective-requires : tie.Need-new-objective-requires
 new-objective-requires c κs = search needs
-
-add-t18 : tie.Need-add-t18
-add-t18 c = search needs
 
 same-length : tie.Need-same-length
 same-length c = search needs
@@ -97,8 +97,8 @@ store-flip-spec =
     add-numbers
     mul-numbers
     slice-write-numbers
+    add-steps
     new-objective-requires
-    add-t18
     same-length
     same-length-2
     returns)

@@ -1,0 +1,127 @@
+-- `run::optimize` meets its contract. The loop's invariant: `Going`. Assumes nothing.
+use mathlib.Core.Path.{_∙_}
+use Prim.Native.Nat.{_-_}
+use native.Mathlib.Omega.{arith}
+use borrow.Author.Needs.{needs}
+use Rattle.run.proofs.Laws.{Going, numbers-kept, doubles-kept, going-start, going-chooses, going-steps, going-finished, going-column, going-spent, going-stops, going-counts, going-on}
+use Rattle.run.proofs.optimize.Statement.{statement}
+use Rattle.run.proofs.optimize.Tie as tie
+
+abbrev Inv-loop : tie.InvT-loop
+Inv-loop numbers₀ doubles₀ n lowers uppers starts cols coeffs ops kept cstarts crows ccoeffs budget tally₀ numbers doubles tally = Going n lowers uppers starts cols coeffs ops kept budget numbers₀ doubles₀ tally₀ numbers doubles tally
+
+abbrev μ-loop : tie.MeasureT-loop
+μ-loop numbers₀ doubles₀ n lowers uppers starts cols coeffs ops kept cstarts crows ccoeffs budget tally₀ numbers doubles tally = budget - tally .steps
+
+-- the entry, the loop's head, the choice, and the step
+abbrev entry : tie.At-loop Inv-loop μ-loop → tie.Start Inv-loop μ-loop
+entry h = search
+
+abbrev enters : tie.After-step Inv-loop μ-loop → tie.After-choice Inv-loop μ-loop
+enters t = search
+
+abbrev head : tie.After-choice Inv-loop μ-loop → tie.At-loop Inv-loop μ-loop
+head x = search
+
+loop-holds : tie.Need-loop-holds Inv-loop μ-loop
+loop-holds c = let s : tie.Start Inv-loop μ-loop = search in going-start (s .pre .0)
+
+choose-requires : tie.Need-choose-requires Inv-loop μ-loop
+choose-requires c κs = let h : tie.At-loop Inv-loop μ-loop = search in going-chooses (h .loop .inv)
+
+enum-known-choice : tie.Need-enum-known-choice Inv-loop μ-loop
+enum-known-choice c = search needs
+
+enum-told : tie.Need-enum-told Inv-loop μ-loop
+enum-told c = search needs
+
+same-length : tie.Need-same-length Inv-loop μ-loop
+same-length c = let h : tie.At-loop Inv-loop μ-loop = search in numbers-kept (h .loop .inv)
+
+same-length-2 : tie.Need-same-length-2 Inv-loop μ-loop
+same-length-2 c = let h : tie.At-loop Inv-loop μ-loop = search in doubles-kept (h .loop .inv)
+
+returns : tie.Need-returns Inv-loop μ-loop
+returns c =
+    let a : tie.After-choose Inv-loop μ-loop = search in
+    let h : tie.At-loop Inv-loop μ-loop = search in
+    going-finished (h .loop .inv) _ (a .choose .ensures) (c .enum-told .given .1)
+
+same-length-3 : tie.Need-same-length-3 Inv-loop μ-loop
+same-length-3 c = let h : tie.At-loop Inv-loop μ-loop = search in numbers-kept (h .loop .inv)
+
+same-length-4 : tie.Need-same-length-4 Inv-loop μ-loop
+same-length-4 c = let h : tie.At-loop Inv-loop μ-loop = search in doubles-kept (h .loop .inv)
+
+returns-2 : tie.Need-returns-2 Inv-loop μ-loop
+returns-2 c =
+    let x : tie.After-choice Inv-loop μ-loop = search in
+    going-spent (head x .loop .inv) _ (x .before .before .choose .ensures) _ (x .choice .given .1) (omega (arith, c .if1 .taken))
+
+step-requires : tie.Need-step-requires Inv-loop μ-loop
+step-requires c κs = 
+    let b : tie.Else1 Inv-loop μ-loop = search in
+    let x : tie.After-choice Inv-loop μ-loop = search in
+    let s = entry (head x) in
+    (going-steps (head x .loop .inv) (omega (arith, b .if1 .left)) (s .pre .1 .2), (s .pre .1 .0, s .pre .1 .1, going-column (head x .loop .inv) _ (x .before .before .choose .ensures) _ (x .choice .given .1)))
+
+enum-known-went : tie.Need-enum-known-went Inv-loop μ-loop
+enum-known-went c = search needs
+
+loop-less : tie.Need-loop-less Inv-loop μ-loop
+loop-less c =
+    let w : tie.After-went Inv-loop μ-loop = search in
+    let t : tie.After-step Inv-loop μ-loop = search in
+    let b : tie.Else1 Inv-loop μ-loop = search in
+    let x = enters t in
+    omega (arith, b .if1 .left, going-counts (head x .loop .inv) _ (x .before .before .choose .ensures) _ (x .choice .given .1) (b .if1 .left) _ (t .step .last .0) (t .step .last .1 .0) (t .step .ensures) _ (w .went .given .1))
+
+loop-again : tie.Need-loop-again Inv-loop μ-loop
+loop-again c =
+    let w : tie.After-went Inv-loop μ-loop = search in
+    let t : tie.After-step Inv-loop μ-loop = search in
+    let b : tie.Else1 Inv-loop μ-loop = search in
+    let x = enters t in
+    going-on (head x .loop .inv) _ (x .before .before .choose .ensures) _ (x .choice .given .1) (b .if1 .left) _ (t .step .last .0) (t .step .last .1 .0) (t .step .ensures) _ (w .went .given .1) (t .step .kept .0) (t .step .kept .1 .0)
+
+enum-known-went-2 : tie.Need-enum-known-went-2 Inv-loop μ-loop
+enum-known-went-2 c = search needs
+
+same-length-5 : tie.Need-same-length-5 Inv-loop μ-loop
+same-length-5 c = let t : tie.After-step Inv-loop μ-loop = search in t .step .kept .0 ∙ numbers-kept (head (enters t) .loop .inv)
+
+same-length-6 : tie.Need-same-length-6 Inv-loop μ-loop
+same-length-6 c = let t : tie.After-step Inv-loop μ-loop = search in t .step .kept .1 .0 ∙ doubles-kept (head (enters t) .loop .inv)
+
+returns-3 : tie.Need-returns-3 Inv-loop μ-loop
+returns-3 c =
+    let w : tie.After-went2 Inv-loop μ-loop = search in
+    let t : tie.After-step Inv-loop μ-loop = search in
+    let b : tie.Else1 Inv-loop μ-loop = search in
+    let x = enters t in
+    going-stops (head x .loop .inv) _ (x .before .before .choose .ensures) _ (x .choice .given .1) (b .if1 .left) _ (t .step .last .0) (t .step .last .1 .0) (t .step .ensures) _ (w .went2 .given .1)
+
+pub optimize-spec : {M : Type 1} → statement M
+optimize-spec =
+    tie.close
+    (tie.spec
+    Inv-loop
+    μ-loop
+    loop-holds
+    choose-requires
+    enum-known-choice
+    enum-told
+    same-length
+    same-length-2
+    returns
+    same-length-3
+    same-length-4
+    returns-2
+    step-requires
+    enum-known-went
+    loop-less
+    loop-again
+    enum-known-went-2
+    same-length-5
+    same-length-6
+    returns-3)
