@@ -15,6 +15,8 @@ ghost use Rattle.face.specs.Face.{triResult, sheetNumbers, faced, facedBy};
 
 mod files;
 
+mod wholes;
+
 // with_diag 0: all ones on the diagonal, and diag isn't read.
 #[no_mangle]
 pub extern "C" fn tevalumi_lower_sparse(
