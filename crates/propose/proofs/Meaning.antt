@@ -1,6 +1,6 @@
 -- What the contract of `propose` means, for its numbers and for a sheet that is opened with them. Assumes nothing.
 use mathlib.Core.Path.{_≡_, refl, sym, ap, _∙_, subst}
-use mathlib.Core.Logic.{⊎-elim}
+use mathlib.Core.Logic.{inl, ⊎-elim}
 use mathlib.Core.Bool.{Bool, true, false, cond}
 use mathlib.Core.List.{List}
 use Prim.Native.Nat.{ℕ, zero, suc, _<_, _≤_}
@@ -11,6 +11,10 @@ use Rattle.doubles.specs.Limits.{maxAmount}
 use Rattle.doubles.specs.Lists.{_!_, _#_, over}
 use Rattle.doubles.specs.Loop.{table}
 use Rattle.doubles.proofs.Bools.{truth}
+use Rattle.doubles.proofs.Tests.{not-both}
+use Rattle.rules.specs.Plan.{Plan, Memory, problemOf, keptRows}
+use Rattle.rules.specs.Answers as Answers
+use Rattle.rules.specs.Solve.{solvePlan}
 use Rattle.rules.proofs.Lists.{over-at, over-tail}
 use Rattle.sheet_rules.specs.Sum.{_‼_}
 use Rattle.sheet_rules.specs.Sheet.{Sheet, wrong}
@@ -23,7 +27,10 @@ use Rattle.whole.specs.Whole.{amountOf, multiplierOf, rightSign, scaledOf, isWh
 use Rattle.whole.specs.declared.Rounded.{Rounded}
 use Rattle.whole.specs.declared.Rounded.the-variants.{Whole, Beyond, NotANumber}
 use Rattle.whole.proofs.Meaning.{rounds, multiplies}
-use Rattle.row_multipliers.specs.Rows.{slackPrice, multiplierAt, multipliers}
+use Rattle.kept_maps.specs.Maps.{mapsFine, Broken}
+use Rattle.kept_maps.proofs.Exact.{fine-exactly, broken-exactly}
+use Rattle.kept_maps.proofs.Left.{left-kept}
+use Rattle.row_multipliers.specs.Rows.{slackPrice, multiplierAt, multipliers, rowsOf}
 use Rattle.propose.specs.declared.Proposal.{Proposal}
 use Rattle.propose.specs.declared.Proposal.the-variants.{Proposed, Nothing, Refused, AmountNotWhole, MultiplierNotWhole}
 use Rattle.propose.specs.Propose.{Lent, memory, amountsOf, proposal, isProposed, Handed, handed, proposed}
@@ -128,6 +135,25 @@ module _ (l : Lent) {x y : List ℤ} (e : Proposes l Proposed x y) where
   pub proposed-means : FromRun l x y
   proposed-means =
       record { amounts-are = amount-near; mults-are = mult-near; signs-right = sign; amounts-tail = tails .0; mults-tail = tails .1 }
+
+-- ---- a run's own memory is never refused with 41
+broken-of : {l : Lent} {a : Proposal} → Says l a → a ≡ Refused 41 → Broken (problemOf (l .plan)) (memory l)
+broken-of (Says.size h) w = absurd (let z : _≡_ {A = ℕ} 1 41 = cc in omega arith)
+broken-of (Says.no-run e h) w = absurd (let z : _≡_ {A = ℕ} 0 1 = cc in omega arith)
+broken-of (Says.broken e s b) w = b
+broken-of (Says.amount r j f) w = absurd (let z : _≡_ {A = ℕ} 0 1 = cc in omega arith)
+broken-of (Says.multiplier r a i f) w = absurd (let z : _≡_ {A = ℕ} 0 1 = cc in omega arith)
+broken-of (Says.proposed r a b) w = absurd (let z : _≡_ {A = ℕ} 0 1 = cc in omega arith)
+
+same-test : (p : Plan) (m : Memory) → mapsFine (rowsOf (p .columns) (p .rows) (p .starts) (p .ops)) m ≡ mapsFine p m
+unfolding mapsFine keptRows
+same-test p m = refl
+
+pub never-41 : (p : Plan) (m : Memory) (l : Lent) → Answers.numberOf (solvePlan p m .answer) ≡ 0
+    → l .plan ≡ rowsOf (p .columns) (p .rows) (p .starts) (p .ops) → memory l ≡ solvePlan p m .memory → ¬ (proposal l ≡ Refused 41)
+never-41 p m l h q e w =
+    let f : mapsFine (l .plan) (memory l) ≡ false = broken-exactly (l .plan) (memory l) .1 (broken-of (proposal-says l) w) in
+    not-both (fine-exactly p (solvePlan p m .memory) .1 (left-kept p m (inl h))) (sym (same-test p (solvePlan p m .memory)) ∙ rw (q, e) at f)
 
 -- ---- the sheet
 -- the corollary with the names of both sides: a proposal, and a sheet with its numbers that opening accepts
