@@ -1,22 +1,22 @@
 -- The test passes exactly when `Kept` holds, and fails exactly when 41's words do. Assumes nothing.
-use mathlib.Core.Path.{_≡_, refl, sym, ap, _∙_}
+use mathlib.Core.Path.{_≡_, sym, _∙_}
 use mathlib.Core.Logic.{_↔_, _⊎_, ⊎-elim}
 use mathlib.Core.Bool.{Bool, true, false}
 use Prim.Native.Nat.{ℕ, _+_, _-_, _<_, _≤_}
 use native.Mathlib.Omega.{arith}
 use lib.Dec.{ltb}
-use lib.ListN.{length}
 use borrow.Author.Tests.{ltb-true, ltb-false, lt-ltb, le-ltb}
 use Rattle.doubles.specs.Loop.{all}
 use Rattle.doubles.specs.Lists.{_#_}
 use Rattle.doubles.proofs.Loops.{all-at, all-by}
 use Rattle.doubles.proofs.Bools.{_or_, _both_, some-fails, ltb-holds, ltb-fails, eqb-holds, eqb-fails, truth}
-use Rattle.rules.specs.Plan.{Plan, Problem, Memory, Workspace, problemOf, nOf, mOf, keptRows}
-use Rattle.rules.specs.Invariant.{NonBasicAt, BasicAt, VarAt, Maps}
+use Rattle.rules.specs.Plan.{Plan, Problem, Memory, Workspace, problemOf, nOf, mOf}
+use Rattle.rules.specs.Invariant.{Maps}
 use Rattle.kept_maps.specs.Maps.{rowsFine, leadsBack, cellsFine, mapsFine, Kept, Lost, Broken}
 use Rattle.kept_maps.proofs.Onto.{onto}
 
-every : {p : ℕ → Bool} {G : ℕ → Type 0} (n : ℕ) → ((k : ℕ) → (p k ≡ true) ↔ G k) → (all n p ≡ true) ↔ ((k : ℕ) → k < n → G k)
+every : {p : ℕ → Bool} {G : ℕ → Type 0} (n : ℕ) → ((k : ℕ) → (p k ≡ true) ↔ G k)
+    → (all n p ≡ true) ↔ ((k : ℕ) → k < n → G k)
 every {p} n e = (λ h k l. e k .0 (all-at p n h k l), λ h. all-by p n (λ k l. e k .1 (h k l)))
 
 -- ---- passed
@@ -68,11 +68,11 @@ module _ (P : Problem) (w : Workspace) where
           place = λ c l. record { var = a .place c l .0; back = a .place c l .1 };
           row = λ r l. record { var = a .row r l .0; back = a .row r l .1 };
           variable = λ v l.
-          record {
-            cell = a .cell v l;
-            non-basic = λ h. sym (at-place (w .varStates # v) h) ∙ led v l;
-            basic = λ h. sym (at-row (w .varStates # v) h) ∙ led v l;
-          };
+              record {
+                cell = a .cell v l;
+                non-basic = λ h. sym (at-place (w .varStates # v) h) ∙ led v l;
+                basic = λ h. sym (at-row (w .varStates # v) h) ∙ led v l;
+              };
         }
 
   cells-of : Maps P w → Cells
@@ -103,4 +103,5 @@ module _ (p : Plan) (m : Memory) where
   unfolding mapsFine rowsFine cellsFine
   broken-exactly =
       (eqb-fails _ _ or some-fails (mOf P) (λ r. eqb-fails _ _))
-      or ((some-fails (nOf P) (λ c. lost c _) or some-fails (mOf P) (λ r. lost (nOf P + r) _)) or some-fails (nOf P + mOf P) (λ v. ltb-fails _ _))
+      or
+      ((some-fails (nOf P) (λ c. lost c _) or some-fails (mOf P) (λ r. lost (nOf P + r) _)) or some-fails (nOf P + mOf P) (λ v. ltb-fails _ _))

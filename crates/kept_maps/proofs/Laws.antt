@@ -1,23 +1,20 @@
 -- The tests as the code puts them together. Assumes nothing.
-use mathlib.Core.Path.{_≡_, refl, sym, ap, _∙_}
+use mathlib.Core.Path.{_≡_, sym, ap, _∙_}
 use mathlib.Core.Logic.{⊎-elim}
 use mathlib.Core.Bool.{Bool, true, false, _&&_}
-use mathlib.Core.List.{List, [], _++_}
+use mathlib.Core.List.{List, []}
 use Prim.Native.Nat.{ℕ, _+_, _<_, _≤_}
 use native.Mathlib.Omega.{arith}
 use lib.Dec.{ltb, eqb}
 use lib.ListN.{length, drop, List·getD-append, length-append}
-use lib.Ieee.{Float}
 use borrow.Author.Tests.{eqb-true, eq-eqb, ne-eqb}
-use Rattle.doubles.specs.Num.{f0}
 use Rattle.doubles.specs.Loop.{run, all}
-use Rattle.doubles.specs.Lists.{_#_, over}
+use Rattle.doubles.specs.Lists.{_#_}
 use Rattle.doubles.proofs.Loops.{keeps, all-same, both-true}
 use Rattle.rules.specs.Plan.{Plan, Memory, Workspace, keptRows, keptTurn, isEmpty}
 use Rattle.rules.proofs.Lists.{length-snoc}
 use Rattle.doubles.proofs.Bools.{truth}
-use Rattle.rules.specs.Parts.{planOf}
-use Rattle.plan.specs.Lent.{Front, rowsOf}
+use Rattle.plan.specs.Lent.{Front}
 use Rattle.kept_maps.specs.Maps.{rowsFine, leadsBack, cellsFine, mapsFine}
 
 -- ---- of the first i rows no more than i are kept
@@ -61,17 +58,21 @@ pub cells-are : (n m : ℕ) (w : Workspace) {a b c : Bool}
     → c ≡ all (n + m) (λ k. ltb (w .varStates # k) (n + m)) → a && b && c ≡ cellsFine n m w
 unfolding cellsFine
 cells-are n m w e f g =
-    rw (e ∙ all-same _ (λ k. leadsBack (n + m) (w .varStates) k (w .nbVars # k)) n (λ k l. ap (λ (x : ℕ). leadsBack (n + m) (w .varStates) x (w .nbVars # k)) (from k)), f, g)
+    rw
+    (e ∙ all-same _ (λ k. leadsBack (n + m) (w .varStates) k (w .nbVars # k)) n (λ k l. ap (λ (x : ℕ). leadsBack (n + m) (w .varStates) x (w .nbVars # k)) (from k)), f, g)
   where
     from : (k : ℕ) → 0 + k ≡ k
     from k = omega arith
 
 -- ---- the whole
-pub other-rows : (p : Plan) (m : Memory) {b : Bool} → b ≡ rowsFine (keptRows p) (m .counts # 0) (m .kept) → b ≡ false → false ≡ mapsFine p m
+pub other-rows : (p : Plan) (m : Memory) {b : Bool} → b ≡ rowsFine (keptRows p) (m .counts # 0) (m .kept) → b ≡ false
+    → false ≡ mapsFine p m
 unfolding mapsFine
 other-rows p m e h = rw (← e, h)
 
 pub same-rows : (p : Plan) (m : Memory) {b : Bool} → b ≡ rowsFine (keptRows p) (m .counts # 0) (m .kept) → b ≡ true
     → cellsFine (p .columns) (m .counts # 0) (m .ws) ≡ mapsFine p m
 unfolding mapsFine
-same-rows p m e h = let q : m .counts # 0 ≡ length (keptRows p) = rows-count (keptRows p) (m .counts # 0) (m .kept) (sym e ∙ h) in rw (← e, h, q)
+same-rows p m e h =
+    let q : m .counts # 0 ≡ length (keptRows p) = rows-count (keptRows p) (m .counts # 0) (m .kept) (sym e ∙ h) in rw
+    (← e, h, q)

@@ -3,12 +3,11 @@ use mathlib.Core.Path.{_≡_, refl, sym, ap, _∙_, subst}
 use mathlib.Core.Logic.{_⊎_}
 use Prim.Native.Nat.{ℕ, _≤_, _<_}
 use lib.ListN.{length, drop, List·getD-append}
-use Rattle.doubles.specs.Lists.{_#_, over}
+use Rattle.doubles.specs.Lists.{_#_}
 use Rattle.rules.specs.Plan.{Plan, Memory, problemOf, mOf}
 use Rattle.rules.specs.Invariant.{Maps}
 use Rattle.rules.specs.Answers.{asRow, numberOf}
 use Rattle.rules.specs.Solve.{Solved, close, endOf, memoryAfter, solvePlan}
-use Rattle.rules.specs.Conditions.{reached, NoneBelow}
 use Rattle.rules.proofs.Answers.{answer-exact}
 use Rattle.rules.proofs.Ran.{solved-closes, solved-ran}
 use Rattle.kept_maps.specs.Maps.{Kept}

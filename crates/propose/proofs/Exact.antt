@@ -1,8 +1,8 @@
 -- Each answer is given exactly when its words hold: what is given holds (`-says`), and nothing else can be said
 -- (`-only`). Assumes nothing.
-use mathlib.Core.Path.{_≡_, refl, sym, ap, _∙_, subst}
+use mathlib.Core.Path.{_≡_, refl, sym, _∙_, subst}
 use mathlib.Core.Logic.{_↔_, ⊎-elim}
-use mathlib.Core.Bool.{Bool, true, false}
+use mathlib.Core.Bool.{Bool, true}
 use Prim.Native.Nat.{ℕ, _<_, _≤_}
 use native.Mathlib.Omega.{arith}
 use lib.Dec.{ltb, eqb}
@@ -16,10 +16,10 @@ use Rattle.kept_maps.specs.Maps.{mapsFine}
 use Rattle.kept_maps.proofs.Exact.{fine-exactly, broken-exactly}
 use Rattle.row_multipliers.specs.Rows.{multiplierAt, firstMultiplier}
 use Rattle.propose.specs.declared.Proposal.{Proposal}
-use Rattle.propose.specs.declared.Proposal.the-variants.{Proposed, Nothing, Refused, AmountNotWhole, MultiplierNotWhole}
 use Rattle.propose.specs.Propose.{Lent, memory, lentFine, firstAmount, firstNotWhole, statusOf, proposal}
-use Rattle.propose.specs.Words.{Enough, Readable, WholeAmount, WholeMultiplier, FirstWithout, Each, Says}
-use Rattle.propose.proofs.Laws.{amount-is, multiplier-is, all-whole, enough, fine-enough, short, status-read, no-run, broken, judged}
+use Rattle.propose.specs.Words.{Readable, WholeAmount, WholeMultiplier, FirstWithout, Each, Says}
+use Rattle.propose.proofs.Laws.{amount-is, multiplier-is, all-whole, enough, fine-enough, short, status-read}
+use Rattle.propose.proofs.Laws.{no-run, broken, judged}
 
 module _ (l : Lent) where
   abbrev n : ℕ
@@ -51,7 +51,8 @@ module _ (l : Lent) where
   unfolding firstMultiplier
   mults-all = lack-none {p = multiplierOk} m (λ k. itself)
 
-  mult-first : firstMultiplier (l .plan) (memory l) < m → FirstWithout l m (WholeMultiplier l) (firstMultiplier (l .plan) (memory l))
+  mult-first : firstMultiplier (l .plan) (memory l) < m
+      → FirstWithout l m (WholeMultiplier l) (firstMultiplier (l .plan) (memory l))
   unfolding firstMultiplier
   mult-first h = lack-has {p = multiplierOk} m (λ k. itself) h
 
@@ -81,9 +82,11 @@ module _ (l : Lent) where
         rest g a =
             ⊎-elim
             (λ t. let h = ltb-true _ _ t in
-            subst (Says l) (multiplier-is (l .plan) (memory l) refl g refl h refl) (Says.multiplier r a _ (mult-first h)))
+            subst (Says l) (multiplier-is (l .plan) (memory l) refl g refl h refl)
+            (Says.multiplier r a _ (mult-first h)))
             (λ f. let h = ltb-false _ _ f in
-            subst (Says l) (all-whole (l .plan) (memory l) refl g refl h) (Says.proposed r a (mults-all .0 (omega (arith, h, mult-upto)))))
+            subst (Says l) (all-whole (l .plan) (memory l) refl g refl h)
+            (Says.proposed r a (mults-all .0 (omega (arith, h, mult-upto)))))
             (truth (ltb (firstMultiplier (l .plan) (memory l)) m))
 
   pub proposal-says : Says l (proposal l)
@@ -109,7 +112,9 @@ module _ (l : Lent) where
 
   -- ---- only
   readable : Readable l → firstNotWhole (l .plan) (memory l) ≡ proposal l
-  readable r = judged l (fine-enough l (r .enough)) (sym (status-read l) ∙ r .status) (fine-exactly (l .plan) (memory l) .1 (r .kept))
+  readable r =
+      judged l (fine-enough l (r .enough)) (sym (status-read l) ∙ r .status)
+      (fine-exactly (l .plan) (memory l) .1 (r .kept))
 
   pub proposal-only : {a : Proposal} → Says l a → proposal l ≡ a
   proposal-only (Says.size h) = sym (short l (⊎-elim (λ t. absurd (h (enough l t))) (λ f. f) (truth (lentFine l))))

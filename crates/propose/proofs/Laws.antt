@@ -1,11 +1,10 @@
 -- Each answer from the tests on its way, and what has passed. Assumes nothing.
-use mathlib.Core.Path.{_≡_, refl, sym, ap, _∙_, subst}
+use mathlib.Core.Path.{_≡_, refl, sym, ap, _∙_}
 use mathlib.Core.Logic.{⊎-elim}
-use mathlib.Core.Bool.{Bool, true, false, _&&_}
+use mathlib.Core.Bool.{true, false}
 use mathlib.Core.List.{List, []}
 use Prim.Native.Nat.{ℕ, _+_, _<_, _≤_}
 use native.Mathlib.Omega.{arith}
-use lib.ListN.{length}
 use lib.IntN.{ℤ}
 use lib.Ieee.{Float}
 use borrow.Author.Tests.{leb-true, ltb-true, le-leb, lt-ltb, le-ltb, eq-eqb, ne-eqb}
@@ -21,11 +20,13 @@ use Rattle.state.proofs.Sections.{section-at}
 use Rattle.whole.specs.Whole.{amountOf}
 use Rattle.whole.specs.declared.Rounded.{Rounded}
 use Rattle.kept_maps.specs.Maps.{rowsFine, cellsFine, mapsFine}
-use Rattle.row_multipliers.specs.Rows.{slackPrice, multiplierAt, firstMultiplier, multipliers, rowsOf, Long}
+use Rattle.row_multipliers.specs.Rows.{slackPrice, multiplierAt, firstMultiplier, multipliers, rowsOf}
 use Rattle.propose.specs.declared.Proposal.{Proposal}
-use Rattle.propose.specs.declared.Proposal.the-variants.{Proposed, Nothing, Refused, AmountNotWhole, MultiplierNotWhole}
+use Rattle.propose.specs.declared.Proposal.the-variants.{Proposed, Nothing, Refused, AmountNotWhole}
+use Rattle.propose.specs.declared.Proposal.the-variants.{MultiplierNotWhole}
 use Rattle.propose.specs.Words.{Enough}
-use Rattle.propose.specs.Propose.{Lent, memory, lentFine, firstAmount, amountsOf, firstNotWhole, statusOf, proposal, isProposed, Handed, handed, proposed}
+use Rattle.propose.specs.Propose.{Lent, memory, lentFine, firstAmount, amountsOf, firstNotWhole, statusOf}
+use Rattle.propose.specs.Propose.{proposal, isProposed, handed, proposed}
 
 -- ---- the values are no part of rows, maps and prices
 module _ (p : Plan) (v : List Float) (N : List ℕ) (D : List Float) where
@@ -54,9 +55,11 @@ module _ (p : Plan) (m : Memory) {j : ℕ} (e : j ≡ firstAmount (p .columns) (
   amount-is l q = rw (q, e) (rw (lt-ltb _ (p .columns) (rw e at l), firstNotWhole))
 
   module _ (g : p .columns ≤ j) {i : ℕ} (f : i ≡ firstMultiplier p m) where
-    pub multiplier-is : {r : Rounded} → i < p .rows → r ≡ multiplierAt p m i → MultiplierNotWhole i r ≡ firstNotWhole p m
+    pub multiplier-is : {r : Rounded} → i < p .rows → r ≡ multiplierAt p m i
+        → MultiplierNotWhole i r ≡ firstNotWhole p m
     unfolding firstNotWhole
-    multiplier-is l q = rw (q, f) (rw (le-ltb _ (p .columns) (rw e at g), firstNotWhole) (rw (lt-ltb _ (p .rows) (rw f at l))))
+    multiplier-is l q =
+        rw (q, f) (rw (le-ltb _ (p .columns) (rw e at g), firstNotWhole) (rw (lt-ltb _ (p .rows) (rw f at l))))
 
     pub all-whole : p .rows ≤ i → Proposed ≡ firstNotWhole p m
     unfolding firstNotWhole
@@ -132,7 +135,7 @@ module _ (l : Lent) where
   proposed-fine h =
       ⊎-elim (λ t. t) (λ f. absurd (not-both h (ap isProposed (sym (short f))))) (truth (lentFine l))
 
--- ---- what is left
+  -- ---- what is left
   pub writes : {a : Proposal} {x y : List ℤ} → a ≡ proposal l → isProposed a ≡ true
       → x ≡ over (amountsOf (l .plan .columns) (l .values)) (l .amounts) → y ≡ over (multipliers (l .plan) (memory l)) (l .mults)
       → handed a x y ≡ proposed l

@@ -1,15 +1,14 @@
 -- What the contract of `propose` means, for its numbers and for a sheet that is opened with them. Assumes nothing.
 use mathlib.Core.Path.{_≡_, refl, sym, ap, _∙_, subst}
 use mathlib.Core.Logic.{inl, ⊎-elim}
-use mathlib.Core.Bool.{Bool, true, false, cond}
+use mathlib.Core.Bool.{true, false}
 use mathlib.Core.List.{List}
-use Prim.Native.Nat.{ℕ, zero, suc, _<_, _≤_}
+use Prim.Native.Nat.{ℕ, zero, suc, _<_}
 use native.Mathlib.Omega.{arith}
-use lib.ListN.{drop, getD}
+use lib.ListN.{drop}
 use lib.IntN.{ℤ, pos}
 use Rattle.doubles.specs.Limits.{maxAmount}
 use Rattle.doubles.specs.Lists.{_!_, _#_, over}
-use Rattle.doubles.specs.Loop.{table}
 use Rattle.doubles.proofs.Bools.{truth}
 use Rattle.doubles.proofs.Tests.{not-both}
 use Rattle.rules.specs.Plan.{Plan, Memory, problemOf, keptRows}
@@ -32,9 +31,9 @@ use Rattle.kept_maps.proofs.Exact.{fine-exactly, broken-exactly}
 use Rattle.kept_maps.proofs.Left.{left-kept}
 use Rattle.row_multipliers.specs.Rows.{slackPrice, multiplierAt, multipliers, rowsOf}
 use Rattle.propose.specs.declared.Proposal.{Proposal}
-use Rattle.propose.specs.declared.Proposal.the-variants.{Proposed, Nothing, Refused, AmountNotWhole, MultiplierNotWhole}
+use Rattle.propose.specs.declared.Proposal.the-variants.{Proposed, Refused}
 use Rattle.propose.specs.Propose.{Lent, memory, amountsOf, proposal, isProposed, Handed, handed, proposed}
-use Rattle.propose.specs.Words.{Readable, WholeAmount, WholeMultiplier, Each, Says}
+use Rattle.propose.specs.Words.{WholeAmount, WholeMultiplier, Each, Says}
 use Rattle.propose.specs.Meaning.{FromRun, Audited}
 use Rattle.propose.proofs.Exact.{proposal-says}
 
@@ -43,7 +42,8 @@ abbrev pub Proposes : Lent → Proposal → List ℤ → List ℤ → Type 0
 Proposes l a x y = handed a x y ≡ proposed l
 
 -- 01: "Any two results allowed by a promise are shown equal"
-pub proposes-one : (l : Lent) {a b : Proposal} {x y u v : List ℤ} → Proposes l a x y → Proposes l b u v → (a ≡ b) × (x ≡ u) × (y ≡ v)
+pub proposes-one : (l : Lent) {a b : Proposal} {x y u v : List ℤ} → Proposes l a x y → Proposes l b u v
+    → (a ≡ b) × (x ≡ u) × (y ≡ v)
 proposes-one l e f =
     let q = e ∙ sym f in
     (ap (λ (h : Handed). h .answer) q, ap (λ (h : Handed). h .amounts-left) q, ap (λ (h : Handed). h .mults-left) q)
@@ -54,7 +54,8 @@ module _ (l : Lent) where
   unfolding proposed
   is-answer {a} e = ap (λ (h : Handed). h .answer) e ∙ ⊎-elim (λ t. rw t) (λ f. rw f) (truth (isProposed (proposal l)))
 
-  pub else-stays : {a : Proposal} {x y : List ℤ} → Proposes l a x y → isProposed a ≡ false → (x ≡ l .amounts) × (y ≡ l .mults)
+  pub else-stays : {a : Proposal} {x y : List ℤ} → Proposes l a x y → isProposed a ≡ false
+      → (x ≡ l .amounts) × (y ≡ l .mults)
   unfolding proposed
   else-stays {a} {x} {y} e f =
       let g : isProposed (proposal l) ≡ false = ap isProposed (sym (is-answer e)) ∙ f in
@@ -65,7 +66,8 @@ module _ (l : Lent) where
       → (x ≡ over (amountsOf (l .plan .columns) (l .values)) (l .amounts)) × (y ≡ over (multipliers (l .plan) (memory l)) (l .mults))
   unfolding proposed isProposed
   written {x} {y} e =
-      let q : proposed l ≡ handed Proposed (over (amountsOf (l .plan .columns) (l .values)) (l .amounts)) (over (multipliers (l .plan) (memory l)) (l .mults)) = rw (← is-answer e, proposed) in
+      let q : proposed l ≡ handed Proposed (over (amountsOf (l .plan .columns) (l .values)) (l .amounts)) (over (multipliers (l .plan) (memory l)) (l .mults)) =
+      rw (← is-answer e, proposed) in
       let r = e ∙ q in
       (ap (λ (h : Handed). h .amounts-left) r, ap (λ (h : Handed). h .mults-left) r)
 
@@ -113,19 +115,23 @@ module _ (l : Lent) {x y : List ℤ} (e : Proposes l Proposed x y) where
   amount-near : (j : ℕ) → j < l .plan .columns → Rounds (pos maxAmount) (l .values ! j) (Whole (x ‼ j))
   unfolding amountOf
   amount-near j h =
-      subst (Rounds (pos maxAmount) (l .values ! j)) (whole-is _ (each .0 j h) ∙ ap Whole (sym (amount-at j h))) (rounds (pos maxAmount) (l .values ! j))
+      subst (Rounds (pos maxAmount) (l .values ! j)) (whole-is _ (each .0 j h) ∙ ap Whole (sym (amount-at j h)))
+      (rounds (pos maxAmount) (l .values ! j))
 
-  mult-near : (i : ℕ) → i < l .plan .rows → Multiplies (l .plan .ops # i) (slackPrice (l .plan) (memory l) i) (Whole (y ‼ i))
+  mult-near : (i : ℕ) → i < l .plan .rows
+      → Multiplies (l .plan .ops # i) (slackPrice (l .plan) (memory l) i) (Whole (y ‼ i))
   unfolding multiplierAt
   mult-near i h =
-      subst (Multiplies (l .plan .ops # i) (slackPrice (l .plan) (memory l) i)) (whole-is _ (each .1 i h) ∙ ap Whole (sym (mult-at i h)))
+      subst (Multiplies (l .plan .ops # i) (slackPrice (l .plan) (memory l) i))
+      (whole-is _ (each .1 i h) ∙ ap Whole (sym (mult-at i h)))
       (multiplies (l .plan .ops # i) (slackPrice (l .plan) (memory l) i))
 
   sign : (i : ℕ) → i < l .plan .rows → wrong (l .plan .ops # i) (y ‼ i) ≡ false
   unfolding multiplierAt multiplierOf
   sign i h = rw (mult-at i h) (sign-right (l .plan .ops # i) (scaledOf (slackPrice (l .plan) (memory l) i)))
 
-  tails : (drop (l .plan .columns) x ≡ drop (l .plan .columns) (l .amounts)) × (drop (l .plan .rows) y ≡ drop (l .plan .rows) (l .mults))
+  tails : (drop (l .plan .columns) x ≡ drop (l .plan .columns) (l .amounts))
+      × (drop (l .plan .rows) y ≡ drop (l .plan .rows) (l .mults))
   unfolding amountsOf multipliers
   tails = (
     ap (drop (l .plan .columns)) (written l e .0) ∙ over-tail (l .plan .columns) _ (l .amounts),
@@ -152,12 +158,15 @@ same-test p m = refl
 pub never-41 : (p : Plan) (m : Memory) (l : Lent) → Answers.numberOf (solvePlan p m .answer) ≡ 0
     → l .plan ≡ rowsOf (p .columns) (p .rows) (p .starts) (p .ops) → memory l ≡ solvePlan p m .memory → ¬ (proposal l ≡ Refused 41)
 never-41 p m l h q e w =
-    let f : mapsFine (l .plan) (memory l) ≡ false = broken-exactly (l .plan) (memory l) .1 (broken-of (proposal-says l) w) in
-    not-both (fine-exactly p (solvePlan p m .memory) .1 (left-kept p m (inl h))) (sym (same-test p (solvePlan p m .memory)) ∙ rw (q, e) at f)
+    let f : mapsFine (l .plan) (memory l) ≡ false =
+    broken-exactly (l .plan) (memory l) .1 (broken-of (proposal-says l) w) in
+    not-both (fine-exactly p (solvePlan p m .memory) .1 (left-kept p m (inl h)))
+    (sym (same-test p (solvePlan p m .memory)) ∙ rw (q, e) at f)
 
 -- ---- the sheet
 -- the corollary with the names of both sides: a proposal, and a sheet with its numbers that opening accepts
-pub audited : {l : Lent} {x y : List ℤ} {s t : Sheet} → Proposes l Proposed x y → s .plan .amounts ≡ x → s .plan .mults ≡ y → Opens s 0 t → Audited l t
+pub audited : {l : Lent} {x y : List ℤ} {s t : Sheet} → Proposes l Proposed x y → s .plan .amounts ≡ x
+    → s .plan .mults ≡ y → Opens s 0 t → Audited l t
 unfolding opened
 audited {l} {x} {y} {s} {t} e a b o =
     let d = demand-3 (Called.opened o) in

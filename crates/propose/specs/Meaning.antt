@@ -19,7 +19,8 @@ use Rattle.row_multipliers.specs.Rows.{slackPrice}
 use Rattle.propose.specs.Propose.{Lent, memory}
 
 -- the arrays x and y are those of a proposal: each amount is the whole number nearest to the run's value, each
--- multiplier that nearest to minus 1024 times the price of the row's slack, or 0 where that sign would be wrong; and the
+-- multiplier that nearest to minus 1024 times the price of the row's slack, or 0 where that sign would be wrong; and
+-- the
 -- cells past them are as they were lent
 pub record FromRun (l : Lent) (x y : List ℤ) : Type 0 where
   pub amounts-are : (j : ℕ) → j < l .plan .columns → Rounds (pos maxAmount) (l .values ! j) (Whole (x ‼ j))

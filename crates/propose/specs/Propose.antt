@@ -1,7 +1,7 @@
 -- A proposal for the sheet from a plan and the memory of a run (02, Ask 3; docs/RULES-02.md). Assumes nothing.
 use mathlib.Core.Bool.{Bool, true, false, not, _&&_}
 use mathlib.Core.List.{List}
-use Prim.Native.Nat.{ℕ, _+_}
+use Prim.Native.Nat.{ℕ}
 use lib.Dec.{ltb, leb, eqb}
 use lib.ListN.{length}
 use lib.IntN.{ℤ}
@@ -12,11 +12,11 @@ use Rattle.doubles.specs.Lists.{_!_, _#_, over}
 use Rattle.rules.specs.Plan.{Plan, Memory}
 use Rattle.state.specs.Memory.{memoryIn, numbersEnd, doublesEnd}
 use Rattle.whole.specs.Whole.{amountOf, isWhole, numberOf}
-use Rattle.whole.specs.declared.Rounded.{Rounded}
 use Rattle.kept_maps.specs.Maps.{mapsFine}
 use Rattle.row_multipliers.specs.Rows.{multiplierAt, firstMultiplier, multipliers, rowsOf}
 use Rattle.propose.specs.declared.Proposal.{Proposal}
-use Rattle.propose.specs.declared.Proposal.the-variants.{Proposed, Nothing, Refused, AmountNotWhole, MultiplierNotWhole}
+use Rattle.propose.specs.declared.Proposal.the-variants.{Proposed, Nothing, Refused, AmountNotWhole}
+use Rattle.propose.specs.declared.Proposal.the-variants.{MultiplierNotWhole}
 
 -- what is lent: of a plan its sizes, row starts and comparisons; the memory of a run; and two arrays to be written
 pub record Lent : Type 0 where
@@ -70,10 +70,10 @@ proposal l =
     let m = memory l in
     elim (lentFine l) [
       | true ↦
-      elim (eqb (statusOf m) 0) [
-        | true ↦ elim (mapsFine (l .plan) m) [ true ↦ firstNotWhole (l .plan) m | false ↦ Refused 41 ]
-        | false ↦ Nothing
-      ]
+          elim (eqb (statusOf m) 0) [
+            | true ↦ elim (mapsFine (l .plan) m) [ true ↦ firstNotWhole (l .plan) m | false ↦ Refused 41 ]
+            | false ↦ Nothing
+          ]
       | false ↦ Refused 1
     ]
 
@@ -94,7 +94,9 @@ isProposed (AmountNotWhole j r) = false
 isProposed (MultiplierNotWhole i r) = false
 
 abbrev pub leaves : Bool → Lent → Proposal → Handed
-leaves true l a = handed a (over (amountsOf (l .plan .columns) (l .values)) (l .amounts)) (over (multipliers (l .plan) (memory l)) (l .mults))
+leaves true l a =
+    handed a (over (amountsOf (l .plan .columns) (l .values)) (l .amounts))
+    (over (multipliers (l .plan) (memory l)) (l .mults))
 leaves false l a = handed a (l .amounts) (l .mults)
 
 unfoldable pub proposed : Lent → Handed

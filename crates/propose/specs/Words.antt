@@ -10,7 +10,8 @@ use Rattle.kept_maps.specs.Maps.{Kept, Broken}
 use Rattle.row_multipliers.specs.Rows.{multiplierAt, Long}
 use Rattle.propose.specs.Propose.{Lent, memory, statusOf}
 use Rattle.propose.specs.declared.Proposal.{Proposal}
-use Rattle.propose.specs.declared.Proposal.the-variants.{Proposed, Nothing, Refused, AmountNotWhole, MultiplierNotWhole}
+use Rattle.propose.specs.declared.Proposal.the-variants.{Proposed, Nothing, Refused, AmountNotWhole}
+use Rattle.propose.specs.declared.Proposal.the-variants.{MultiplierNotWhole}
 
 -- no size is over its limit, no lent array too short
 pub record Enough (l : Lent) : Type 0 where

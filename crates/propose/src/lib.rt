@@ -1,6 +1,5 @@
 // A proposal for the sheet from a plan and the memory of a run (02, Ask 3). It asks nothing: any bytes bring an answer.
 ghost use mathlib.Core.Path.{_≡_};
-ghost use mathlib.Core.List.{[]};
 ghost use Prim.Native.Nat.{_≤_};
 ghost use lib.ListN.{length};
 ghost use Rattle.doubles.specs.Lists.{over};
@@ -100,7 +99,13 @@ fn first_not_whole(
         return Proposal::MultiplierNotWhole {
             row: i,
             answer: row_multipliers::row_multiplier(
-                columns, rows, starts, ops, numbers, doubles, i,
+                columns,
+                rows,
+                starts,
+                ops,
+                numbers,
+                doubles,
+                i,
             ),
         };
     }
@@ -122,7 +127,15 @@ fn answer(
     ensures { λ r. ⌜ r ≡ proposal (lentOf columns rows (now (starts .entry)) (now (ops .entry)) (now (values .entry)) (now (numbers .entry)) (now (doubles .entry)) (now (amounts .entry)) (now (mults .entry))) ⌝ }
 {
     if !lent_fine(
-        columns, rows, starts, ops, values, numbers, doubles, amounts, mults,
+        columns,
+        rows,
+        starts,
+        ops,
+        values,
+        numbers,
+        doubles,
+        amounts,
+        mults,
     ) {
         return Proposal::Refused(1);
     }
@@ -142,7 +155,10 @@ fn is_proposed(p: Proposal) -> bool
         Proposal::Proposed => true,
         Proposal::Nothing => false,
         Proposal::Refused(_) => false,
-        Proposal::AmountNotWhole { column: _, answer: _ } => false,
+        Proposal::AmountNotWhole {
+            column: _,
+            answer: _,
+        } => false,
         Proposal::MultiplierNotWhole { row: _, answer: _ } => false,
     }
 }
@@ -162,7 +178,15 @@ pub fn propose(
     ensures { λ r. ⌜ handed r (now (amounts .exit)) (now (mults .exit)) ≡ proposed (lentOf columns rows (now (starts .entry)) (now (ops .entry)) (now (values .entry)) (now (numbers .entry)) (now (doubles .entry)) (now (amounts .entry)) (now (mults .entry))) ⌝ }
 {
     let a = answer(
-        columns, rows, starts, ops, values, numbers, doubles, amounts, mults,
+        columns,
+        rows,
+        starts,
+        ops,
+        values,
+        numbers,
+        doubles,
+        amounts,
+        mults,
     );
     if is_proposed(a) {
         write_amounts(columns, values, amounts);

@@ -1,18 +1,16 @@
 -- The kept rows before a row, and the price of its slack. Assumes nothing.
-use mathlib.Core.Path.{_≡_, refl, sym, ap, _∙_}
-use mathlib.Core.Bool.{true, false}
-use mathlib.Core.List.{List, [], _∷_, _++_}
+use mathlib.Core.Path.{_≡_, sym, ap, _∙_}
+use mathlib.Core.List.{List, []}
 use Prim.Native.Nat.{ℕ, _+_, _-_, _<_, _≤_}
 use native.Mathlib.Numerals.{add-one}
 use native.Mathlib.Omega.{arith}
-use lib.ListN.{length, getD}
 use lib.Ieee.{Float, nan}
 use borrow.Author.Tests.{eq-eqb, ne-eqb, lt-ltb, le-ltb}
 use Rattle.doubles.specs.Num.{f0}
-use Rattle.doubles.specs.Limits.{maxRows, maxColumns, vars}
+use Rattle.doubles.specs.Limits.{maxColumns, vars}
 use Rattle.doubles.specs.Loop.{run}
 use Rattle.doubles.specs.Lists.{_!_, _#_}
-use Rattle.rules.specs.Plan.{Plan, Memory, keptTurn, isEmpty, varStateOf}
+use Rattle.rules.specs.Plan.{Plan, Memory, keptTurn, varStateOf}
 use Rattle.rules.specs.declared.VarState.the-variants.{Basic, NonBasic}
 use Rattle.rules.proofs.Lists.{length-snoc}
 use Rattle.state.specs.Packed.{varStatesAt, pricesAt}

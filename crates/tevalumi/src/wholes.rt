@@ -37,7 +37,15 @@ pub extern "C" fn tevalumi_propose(
     ensures { λ r. ⌜ ProposesNumbers (lentOf columns rows (now (starts .entry)) (now (ops .entry)) (now (values .entry)) (now (numbers .entry)) (now (doubles .entry)) (now (amounts .entry)) (now (mults .entry))) r (now (amounts .exit)) (now (mults .exit)) ⌝ }
 {
     let p = propose::propose(
-        columns, rows, starts, ops, values, numbers, doubles, amounts, mults,
+        columns,
+        rows,
+        starts,
+        ops,
+        values,
+        numbers,
+        doubles,
+        amounts,
+        mults,
     );
     whole_face::proposal_answer(p)
 }

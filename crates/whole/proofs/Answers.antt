@@ -38,11 +38,13 @@ abs-signed false n = refl
 abs-signed true zero = refl
 abs-signed true (suc n) = refl
 
-pub held-over : (limit : ℤ) (s : Bool) (n : ℕ) (y : Float) → ltZ limit (pos n) ≡ true → held limit (signed s n) y ≡ Beyond y
+pub held-over : (limit : ℤ) (s : Bool) (n : ℕ) (y : Float) → ltZ limit (pos n) ≡ true
+    → held limit (signed s n) y ≡ Beyond y
 unfolding held
 held-over limit s n y h = rw (abs-signed s n, h)
 
-pub held-in : (limit : ℤ) (s : Bool) (n : ℕ) (y : Float) → ltZ limit (pos n) ≡ false → held limit (signed s n) y ≡ Whole (signed s n)
+pub held-in : (limit : ℤ) (s : Bool) (n : ℕ) (y : Float) → ltZ limit (pos n) ≡ false
+    → held limit (signed s n) y ≡ Whole (signed s n)
 unfolding held
 held-in limit s n y h = rw (abs-signed s n, h)
 
@@ -66,18 +68,24 @@ module _ (limit : ℤ) {k : ℕ} where
   beyond {x = inf s} r h = refl
   beyond {x = fin s m e} r h = sym (held-over limit s (closest (m * up e) (down e)) (fin s m e) (rw (r .near .is) at h))
 
-  pub negative : {x : Float} → Found x k → ltZ limit (pos k) ≡ false → lt x (fin false 0 (pos 0)) ≡ true → Whole (negℤ (pos k)) ≡ roundEven limit x
+  pub negative : {x : Float} → Found x k → ltZ limit (pos k) ≡ false → lt x (fin false 0 (pos 0)) ≡ true
+      → Whole (negℤ (pos k)) ≡ roundEven limit x
   unfolding lt size roundEven wholeOf
   negative {x = nan} r h u = absurd (true≢false (sym u))
   negative {x = inf s} r h u = absurd (true≢false (sym (r .inside)))
-  negative {x = fin false m e} r h u = absurd (omega (arith, ltb-true (m * up e * 1) (0 * 1 * down e) u, zero-mul (down e)))
-  negative {x = fin true m e} r h u = rw (r .near .is) (sym (held-in limit true (closest (m * up e) (down e)) (fin true m e) (rw (r .near .is) at h)))
+  negative {x = fin false m e} r h u =
+      absurd (omega (arith, ltb-true (m * up e * 1) (0 * 1 * down e) u, zero-mul (down e)))
+  negative {x = fin true m e} r h u =
+      rw (r .near .is) (sym (held-in limit true (closest (m * up e) (down e)) (fin true m e) (rw (r .near .is) at h)))
 
-  pub positive : {x : Float} → Found x k → ltZ limit (pos k) ≡ false → lt x (fin false 0 (pos 0)) ≡ false → Whole (pos k) ≡ roundEven limit x
+  pub positive : {x : Float} → Found x k → ltZ limit (pos k) ≡ false → lt x (fin false 0 (pos 0)) ≡ false
+      → Whole (pos k) ≡ roundEven limit x
   unfolding lt size roundEven wholeOf
   positive {x = nan} r h u = absurd (true≢false (sym (r .inside)))
   positive {x = inf s} r h u = absurd (true≢false (sym (r .inside)))
-  positive {x = fin false m e} r h u = rw (r .near .is) (sym (held-in limit false (closest (m * up e) (down e)) (fin false m e) (rw (r .near .is) at h)))
+  positive {x = fin false m e} r h u =
+      rw (r .near .is)
+      (sym (held-in limit false (closest (m * up e) (down e)) (fin false m e) (rw (r .near .is) at h)))
   positive {x = fin true zero e} r h u =
       let z : closest (0 * up e) (down e) ≡ 0 = of-zero (up e) (down e) (down-pos e) in
       let w : k ≡ 0 = r .near .is ∙ z in
@@ -86,15 +94,18 @@ module _ (limit : ℤ) {k : ℕ} where
       let some : 0 < suc m = omega arith in
       absurd (omega (arith, ltb-false 0 (suc m * up e * 1 + 0 * 1 * down e) u, mul-pos some (up-pos e)))
 
-pub large : (limit : ℤ) (x : Float) → mag limit < 2 ^ 63 → ne x x ≡ false → lt (size x) p63 ≡ false → Beyond x ≡ roundEven limit x
+pub large : (limit : ℤ) (x : Float) → mag limit < 2 ^ 63 → ne x x ≡ false → lt (size x) p63 ≡ false
+    → Beyond x ≡ roundEven limit x
 unfolding lt size roundEven wholeOf ne
 large limit nan l u t = cc
 large limit (inf s) l u t = refl
 large limit (fin s m e) l u t =
-    sym (held-over limit s (closest (m * up e) (down e)) (fin s m e) (past limit _ l (reaches (m * up e) (down e) (2 ^ 63) (down-pos e) (omega (arith, ltb-false (m * up e * 1) (1 * 2 ^ 63 * down e) t)))))
+    sym
+    (held-over limit s (closest (m * up e) (down e)) (fin s m e) (past limit _ l (reaches (m * up e) (down e) (2 ^ 63) (down-pos e) (omega (arith, ltb-false (m * up e * 1) (1 * 2 ^ 63 * down e) t)))))
 
 -- ---- what the machine reads
-pub test : (limit : ℤ) (k : ℕ) → SFits w64 limit → k < 2 ^ 63 → ltZ (toZ w64 (ofZ w64 limit)) (toZ w64 k) ≡ ltZ limit (pos k)
+pub test : (limit : ℤ) (k : ℕ) → SFits w64 limit → k < 2 ^ 63
+    → ltZ (toZ w64 (ofZ w64 limit)) (toZ w64 k) ≡ ltZ limit (pos k)
 test limit k f h = rw (toZ-ofZ w64 limit f, toZ-pos w64 k h)
 
 pub minus-fits : (k : ℕ) → k < 2 ^ 63 → SFits w64 (pos 0 -ℤ toZ w64 k)
@@ -105,7 +116,10 @@ minus-fits k h = rw (toZ-pos w64 k h, +ℤ-idl) (in-range k h)
     in-range (suc k) h = record { sfits = omega arith }
 
 pub minus : (k : ℕ) → k < 2 ^ 63 → toZ w64 (ofZ w64 (pos 0 -ℤ toZ w64 k)) ≡ negℤ (pos k)
-minus k h = toZ-ofZ w64 (pos 0 -ℤ toZ w64 k) (minus-fits k h) ∙ ap (λ (z : ℤ). pos 0 -ℤ z) (toZ-pos w64 k h) ∙ +ℤ-idl (negℤ (pos k))
+minus k h =
+    toZ-ofZ w64 (pos 0 -ℤ toZ w64 k) (minus-fits k h)
+    ∙ ap (λ (z : ℤ). pos 0 -ℤ z) (toZ-pos w64 k h)
+    ∙ +ℤ-idl (negℤ (pos k))
 
 -- ---- the sign of w, which the machine reads as z
 module _ (op : ℕ) {w z : ℤ} {b : Bool} (same : z ≡ w) (asked : b ≡ wrong op z) where

@@ -1,9 +1,12 @@
--- `closest a d`: the whole number nearest to a / d, a tie to the even one, and that there is one only; all in numbers from 0 up. Assumes nothing.
+-- `closest a d`: the whole number nearest to a / d, a tie to the even one, and that there is one only; all in numbers
+-- from 0 up. Assumes nothing.
 use mathlib.Core.Path.{_≡_, refl, sym, ap, _∙_, subst}
-use mathlib.Core.Logic.{_⊎_, inl, inr, ⊎-elim}
+use mathlib.Core.Logic.{_⊎_, ⊎-elim}
 use mathlib.Core.Bool.{not}
-use Prim.Native.Nat.{ℕ, zero, suc, _+_, _-_, _*_, _/_, _%_, _≤_, _<_, compare, Ordering, Ordering·lt, Ordering·eq, Ordering·gt}
-use native.Mathlib.Nat.{le-of-eq, le-antisymm, le-trans, zero-mul, one-mul, suc-mul, add-mul, mod-lt, div-add-mod', mul-le-mul-right, eq-of-mul-eq-mul-right, le-div-iff-mul-le}
+use Prim.Native.Nat.{ℕ, zero, suc, _+_, _-_, _*_, _/_, _%_, _≤_, _<_, compare, Ordering, Ordering·lt, Ordering·eq}
+use Prim.Native.Nat.{Ordering·gt}
+use native.Mathlib.Nat.{le-of-eq, le-antisymm, le-trans, zero-mul, one-mul, suc-mul, add-mul, mod-lt, div-add-mod'}
+use native.Mathlib.Nat.{mul-le-mul-right, eq-of-mul-eq-mul-right, le-div-iff-mul-le}
 use native.Mathlib.Omega.{arith}
 use lib.Dec.{T, isLe, isEq, leb→le, nleb→lt, eqb→eq, eqb, eqb-refl}
 use lib.Arith.{lt-of-le-ne}
@@ -18,9 +21,12 @@ Cmp Ordering·eq a b = a ≡ b
 Cmp Ordering·gt a b = b < a
 
 cmp : (a b : ℕ) → Cmp (compare a b) a b
-cmp a b = go (compare a b) (leb→le a b) (nleb→lt a b) (eqb→eq a b) (λ (e : a ≡ b). subst (λ (x : ℕ). T (eqb a x)) e (eqb-refl a))
+cmp a b =
+    go (compare a b) (leb→le a b) (nleb→lt a b) (eqb→eq a b)
+    (λ (e : a ≡ b). subst (λ (x : ℕ). T (eqb a x)) e (eqb-refl a))
   where
-    go : (o : Ordering) → (T (isLe o) → a ≤ b) → (T (not (isLe o)) → b < a) → (T (isEq o) → a ≡ b) → (a ≡ b → T (isEq o)) → Cmp o a b
+    go : (o : Ordering) → (T (isLe o) → a ≤ b) → (T (not (isLe o)) → b < a) → (T (isEq o) → a ≡ b)
+        → (a ≡ b → T (isEq o)) → Cmp o a b
     go Ordering·lt h k e n = lt-of-le-ne (h tt) n
     go Ordering·eq h k e n = e tt
     go Ordering·gt h k e n = k tt
@@ -41,9 +47,12 @@ pub closest-near : (a d : ℕ) → 0 < d → Near a d (closest a d)
 closest-near a d p = go (compare (a % d * 2) d) (cmp (a % d * 2) d)
   where
     go : (o : Ordering) → Cmp o (a % d * 2) d → Near a d (nearest (a / d) o)
-    go Ordering·lt h = record { near = omega (arith, div-add-mod' a d); even = λ t. absurd (omega (arith, div-add-mod' a d, t)) }
+    go Ordering·lt h =
+        record { near = omega (arith, div-add-mod' a d); even = λ t. absurd (omega (arith, div-add-mod' a d, t)) }
     go Ordering·eq h = tied a d (a / d) (a % d) (a / d % 2) (div-add-mod' a d) h refl
-    go Ordering·gt h = record { near = omega (arith, div-add-mod' a d, suc-mul (a / d) d, mod-lt a p); even = λ t. absurd (omega (arith, div-add-mod' a d, suc-mul (a / d) d, mod-lt a p, t)) }
+    go Ordering·gt h =
+        record
+        { near = omega (arith, div-add-mod' a d, suc-mul (a / d) d, mod-lt a p); even = λ t. absurd (omega (arith, div-add-mod' a d, suc-mul (a / d) d, mod-lt a p, t)) }
 
 -- two of them would be next to each other and both even
 ordered : (a d v w : ℕ) → 0 < d → Near a d v → Near a d w → v < w → ⊥
@@ -54,7 +63,9 @@ ordered a d v w p x y l =
     omega (arith, x .even (omega (arith, x .near, y .near)), y .even (omega (arith, x .near, y .near)))
 
 pub one-near : (a d v w : ℕ) → 0 < d → Near a d v → Near a d w → v ≡ w
-one-near a d v w p x y = ⊎-elim (λ l. absurd (ordered a d v w p x y l)) (λ g. ⊎-elim (λ l. absurd (ordered a d w v p y x l)) (λ k. le-antisymm k g) (lt-or-ge w v)) (lt-or-ge v w)
+one-near a d v w p x y =
+    ⊎-elim (λ l. absurd (ordered a d v w p x y l))
+    (λ g. ⊎-elim (λ l. absurd (ordered a d w v p y x l)) (λ k. le-antisymm k g) (lt-or-ge w v)) (lt-or-ge v w)
 
 -- ---- by words: none is nearer, and where another is as near, w is the even one
 pub record Least (a d w : ℕ) : Type 0 where
@@ -73,15 +84,15 @@ module _ (a d : ℕ) (p : 0 < d) where
   near-least {w} x =
       record {
         none-nearer = λ v.
-        by-order v w
-        (λ m. omega (arith, x .near, suc-mul v d))
-        (λ e. le-of-eq (ap (λ (z : ℕ). apart a (z * d)) (sym e)))
-        (λ m. omega (arith, x .near, suc-mul w d));
+            by-order v w
+            (λ m. omega (arith, x .near, suc-mul v d))
+            (λ e. le-of-eq (ap (λ (z : ℕ). apart a (z * d)) (sym e)))
+            (λ m. omega (arith, x .near, suc-mul w d));
         even = λ v o t.
-        by-order v w
-        (λ m. x .even (omega (arith, x .near, t, suc-mul v d)))
-        (λ e. absurd (o e))
-        (λ m. x .even (omega (arith, x .near, t, suc-mul w d)));
+            by-order v w
+            (λ m. x .even (omega (arith, x .near, t, suc-mul v d)))
+            (λ e. absurd (o e))
+            (λ m. x .even (omega (arith, x .near, t, suc-mul w d)));
       }
 
   -- its neighbour on the side of a / d
@@ -113,7 +124,9 @@ shifted a d k p z =
 
 -- a whole number is its own
 pub on-whole : (k d : ℕ) → 0 < d → closest (k * d) d ≡ k
-on-whole k d p = one-near (k * d) d (closest (k * d) d) k p (closest-near (k * d) d p) (record { near = omega arith; even = λ t. absurd (omega (arith, t)) })
+on-whole k d p =
+    one-near (k * d) d (closest (k * d) d) k p (closest-near (k * d) d p)
+    (record { near = omega arith; even = λ t. absurd (omega (arith, t)) })
 
 pub of-zero : (u d : ℕ) → 0 < d → closest (0 * u) d ≡ 0
 of-zero u d p = ap (λ (n : ℕ). closest n d) (zero-mul u ∙ sym (zero-mul d)) ∙ on-whole 0 d p

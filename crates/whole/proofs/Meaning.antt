@@ -13,7 +13,8 @@ use Rattle.doubles.proofs.Bools.{truth}
 use Rattle.sheet_rules.specs.Sheet.{wrong}
 use Rattle.whole.specs.declared.Rounded.{Rounded}
 use Rattle.whole.specs.declared.Rounded.the-variants.{Whole, Beyond, NotANumber}
-use Rattle.whole.specs.Whole.{Nearest, Answer, Rounds, Scales, Moved, Multiplies, scaled, wholeOf, held, roundEven, scaledOf, rightSign, multiplierOf}
+use Rattle.whole.specs.Whole.{Nearest, Answer, Rounds, Scales, Moved, Multiplies, scaled, wholeOf, held}
+use Rattle.whole.specs.Whole.{roundEven, scaledOf, rightSign, multiplierOf}
 use Rattle.whole.proofs.Unique.{is-nearest, one-nearest}
 
 -- ---- of an exact value n * 2 ^ e whose nearest whole number is w
@@ -23,7 +24,9 @@ module _ (limit n e w : ℤ) (y : Float) (is : Nearest n e w) where
   answers = go (ltZ limit (pos (natAbs w))) refl
     where
       go : (b : Bool) → ltZ limit (pos (natAbs w)) ≡ b → Answer limit n e y (held limit w y)
-      go true h = rw h (refl, λ v x. subst (λ (z : ℤ). limit <ℤ pos (natAbs z)) (one-nearest n e w v is x) (ltZ-yes (subst T (sym h) tt)))
+      go true h =
+          rw h
+          (refl, λ v x. subst (λ (z : ℤ). limit <ℤ pos (natAbs z)) (one-nearest n e w v is x) (ltZ-yes (subst T (sym h) tt)))
       go false h = rw h (is, ltZ-no (subst (λ (b : Bool). T (not b)) (sym h) tt))
 
   one-answer : (r : Rounded) → Answer limit n e y r → r ≡ held limit w y
@@ -70,14 +73,16 @@ unfolding scaledOf
 scales nan = refl
 scales (inf s) = refl
 scales (fin s m e) =
-    answers (pos maxMultiplier) (negℤ (pos unit) *ℤ signed s m) e (wholeOf (not s) (unit * m) e) (scaled (fin s m e)) (nearest-times s m e)
+    answers (pos maxMultiplier) (negℤ (pos unit) *ℤ signed s m) e (wholeOf (not s) (unit * m) e) (scaled (fin s m e))
+    (nearest-times s m e)
 
 scales-one : (x : Float) (r : Rounded) → Scales x r → r ≡ scaledOf x
 unfolding scaledOf
 scales-one nan r a = a
 scales-one (inf s) r a = a
 scales-one (fin s m e) r a =
-    one-answer (pos maxMultiplier) (negℤ (pos unit) *ℤ signed s m) e (wholeOf (not s) (unit * m) e) (scaled (fin s m e)) (nearest-times s m e) r a
+    one-answer (pos maxMultiplier) (negℤ (pos unit) *ℤ signed s m) e (wholeOf (not s) (unit * m) e)
+    (scaled (fin s m e)) (nearest-times s m e) r a
 
 -- ---- of a price in a row
 signs : (op : ℕ) (x : Float) (q : Rounded) → Scales x q → Multiplies op x (rightSign op q)

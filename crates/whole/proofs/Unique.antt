@@ -39,7 +39,9 @@ mirror : {n e w : ℤ} → Nearest n e w → Nearest (negℤ n) e (negℤ w)
 mirror {n} {e} {w} x =
     record {
       none-nearer = λ v. rw (away-turned n e w, ← back v) (x .none-nearer (negℤ v));
-      even = λ v o t. rw (abs-neg w) (x .even (negℤ v) (λ h. o (sym (negℤ-negℤ v) ∙ ap negℤ h)) (back v ∙ t ∙ away-turned n e w));
+      even =
+          λ v o t. rw (abs-neg w)
+          (x .even (negℤ v) (λ h. o (sym (negℤ-negℤ v) ∙ ap negℤ h)) (back v ∙ t ∙ away-turned n e w));
     }
   where
     back : (v : ℤ) → away n e (negℤ v) ≡ away (negℤ n) e v
@@ -57,18 +59,22 @@ to-ℤ n e w x = record { none-nearer = none; even = tie }
 
     tie : (v : ℤ) → ¬ (v ≡ pos w) → away (pos n) e v ≡ away (pos n) e (pos w) → w % 2 ≡ 0
     tie (pos v) o t = l .even v (λ h. o (ap pos h)) (sym (away-pos n e v) ∙ t ∙ away-pos n e w)
-    tie (negsuc v) o t = absurd (omega (arith, t, away-pos n e w, away-neg n e v, x .near, suc-mul v (down e), down-pos e))
+    tie (negsuc v) o t =
+        absurd (omega (arith, t, away-pos n e w, away-neg n e v, x .near, suc-mul v (down e), down-pos e))
 
 from-ℤ : (n : ℕ) (e w : ℤ) → Nearest (pos n) e w → (v : ℕ) × (w ≡ pos v) × Near (n * up e) (down e) v
-from-ℤ n e (pos w) x =
-    (w, refl,
-    least-near (n * up e) (down e) (down-pos e)
-    (record {
-      none-nearer = λ v. rw (← away-pos n e w, ← away-pos n e v) (x .none-nearer (pos v));
-      even = λ v o t. x .even (pos v) (λ h. o (cc)) (away-pos n e v ∙ t ∙ sym (away-pos n e w));
-    }))
+from-ℤ n e (pos w) x = (
+  w,
+  refl,
+  least-near (n * up e) (down e) (down-pos e)
+      (record {
+        none-nearer = λ v. rw (← away-pos n e w, ← away-pos n e v) (x .none-nearer (pos v));
+        even = λ v o t. x .even (pos v) (λ h. o (cc)) (away-pos n e v ∙ t ∙ sym (away-pos n e w));
+      }),
+)
 from-ℤ n e (negsuc w) x =
-    absurd (omega (arith, x .none-nearer (pos 0), away-neg n e w, away-pos n e 0, suc-mul w (down e), zero-mul (down e), down-pos e))
+    absurd
+    (omega (arith, x .none-nearer (pos 0), away-neg n e w, away-pos n e 0, suc-mul w (down e), zero-mul (down e), down-pos e))
 
 -- ---- the laws
 pub is-nearest : (s : Bool) (n : ℕ) (e : ℤ) → Nearest (signed s n) e (wholeOf s n e)

@@ -1,4 +1,5 @@
--- Doubles to whole numbers. A finite double is `fin s m e`, the number m * 2 ^ e, negative where s is true; 2 ^ e is the
+-- Doubles to whole numbers. A finite double is `fin s m e`, the number m * 2 ^ e, negative where s is true; 2 ^ e is
+-- the
 -- fraction up e / down e. Assumes nothing.
 use mathlib.Core.Path.{_≡_}
 use mathlib.Core.Bool.{Bool, true, false, not, cond}

@@ -9,7 +9,7 @@ use Rattle.whole.specs.declared.Rounded.{Rounded}
 use Rattle.whole.specs.declared.Rounded.the-variants.{Whole, Beyond, NotANumber}
 use Rattle.propose.specs.declared.Proposal.{Proposal}
 use Rattle.propose.specs.declared.Proposal.the-variants.{Proposed, Nothing, Refused, AmountNotWhole, MultiplierNotWhole}
-use Rattle.propose.specs.Propose.{Lent, Handed, proposed}
+use Rattle.propose.specs.Propose.{Lent, proposed}
 use Rattle.whole_face.specs.declared.TevalumiWhole.{TevalumiWhole}
 use Rattle.whole_face.specs.declared.TevalumiProposal.{TevalumiProposal}
 

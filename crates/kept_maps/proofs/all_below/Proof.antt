@@ -44,4 +44,6 @@ returns-2 : tie.Need-returns-2 Inv-loop μ-loop
 returns-2 c = sym (all-done _ _ _ (omega arith) (omega arith) (c .before .loop .inv .1))
 
 pub all-below-spec : {M : Type 1} → statement M
-all-below-spec = tie.close (tie.spec Inv-loop μ-loop loop-holds mul-if1 shared-slice-read-if1 returns add-i loop-less loop-again returns-2)
+all-below-spec =
+    tie.close
+    (tie.spec Inv-loop μ-loop loop-holds mul-if1 shared-slice-read-if1 returns add-i loop-less loop-again returns-2)

@@ -36,7 +36,8 @@ leads-back-requires c κs = search needs
 
 returns : tie.Need-returns Inv-loop μ-loop
 returns c = let t : tie.In-loop Inv-loop μ-loop = search in
-    sym (all-fails _ _ (t .before .loop .i) (omega arith) (sym (c .before .leads-back .ensures) ∙ turned-true itself .0 (c .if1 .taken)))
+    sym
+    (all-fails _ _ (t .before .loop .i) (omega arith) (sym (c .before .leads-back .ensures) ∙ turned-true itself .0 (c .if1 .taken)))
 
 add-i : tie.Need-add-i Inv-loop μ-loop
 add-i c = search needs

@@ -30,7 +30,8 @@ m s = memoryIn [] (s .args .numbers .now) []
 abbrev start : tie.After-rows-fine → tie.Start
 start r = search
 
-told : (r : tie.After-rows-fine) → r .rows-fine .result ≡ rowsFine (keptRows (p (start r))) (m (start r) .counts # 0) (m (start r) .kept)
+told : (r : tie.After-rows-fine)
+    → r .rows-fine .result ≡ rowsFine (keptRows (p (start r))) (m (start r) .counts # 0) (m (start r) .kept)
 unfolding keptRows
 told r = rw (section-at countsAt countCells (start r .args .numbers .now) 0 0 (omega arith)) (r .rows-fine .ensures)
 
@@ -45,7 +46,8 @@ few : (e : tie.Else1) → getD (start (rowed e) .args .numbers .now) countsAt 0 
 few e =
     let s = start (rowed e) in
     let N = s .args .numbers .now in
-    omega (arith, section-at countsAt countCells N 0 0 (omega arith), rows-count _ _ _ (sym (told (rowed e)) ∙ passed e), kept-few (p s))
+    omega
+    (arith, section-at countsAt countCells N 0 0 (omega arith), rows-count _ _ _ (sym (told (rowed e)) ∙ passed e), kept-few (p s))
 
 shared-slice-read-count : tie.Need-shared-slice-read-count
 shared-slice-read-count c = search needs
@@ -111,7 +113,9 @@ unfolding cellsFine
 returns-2 c =
     let e : tie.Else1 = search in
     let s = start (rowed e) in
-    c .cells-fine .ensures ∙ rw (section-at countsAt countCells (s .args .numbers .now) 0 0 (omega arith)) at (same-rows (p s) (m s) (told (rowed e)) (passed e))
+    c .cells-fine .ensures
+    ∙ rw (section-at countsAt countCells (s .args .numbers .now) 0 0 (omega arith)) at
+    (same-rows (p s) (m s) (told (rowed e)) (passed e))
 
 pub maps-fine-spec : {M : Type 1} → statement M
 maps-fine-spec =

@@ -34,4 +34,5 @@ returns-2 c = let k : tie.After-keep-rows = search in
 
 pub rows-fine-spec : {M : Type 1} → statement M
 rows-fine-spec =
-    tie.close (tie.spec slice-aggregate-keep-rows keep-rows-requires returns slice-aggregate-same same-requires returns-2)
+    tie.close
+    (tie.spec slice-aggregate-keep-rows keep-rows-requires returns slice-aggregate-same same-requires returns-2)

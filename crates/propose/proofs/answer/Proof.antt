@@ -16,7 +16,8 @@ use Rattle.propose.proofs.answer.Tie as tie
 abbrev l : tie.Start → Lent
 l s =
     let a = s .args in
-    lentOf (a .columns) (a .rows) (a .starts .now) (a .ops .now) (a .values .now) (a .numbers .now) (a .doubles .now) (a .amounts .now) (a .mults .now)
+    lentOf (a .columns) (a .rows) (a .starts .now) (a .ops .now) (a .values .now) (a .numbers .now) (a .doubles .now)
+    (a .amounts .now) (a .mults .now)
 
 abbrev start : tie.Else1 → tie.Start
 start e = search
@@ -24,8 +25,11 @@ start e = search
 fine : (e : tie.Else1) → lentFine (l (start e)) ≡ true
 fine e = sym (e .before .lent-fine .ensures) ∙ turned itself .0 (e .if1 .left)
 
-maps : (s : tie.Start) → mapsFine (l s .plan) (memory (l s)) ≡ mapsFine (rowsOf (s .args .columns) (s .args .rows) (s .args .starts .now) []) (memoryIn [] (s .args .numbers .now) [])
-maps s = same-maps (s .args .columns) (s .args .rows) (s .args .starts .now) (s .args .ops .now) (s .args .values .now) (s .args .numbers .now) (s .args .doubles .now)
+maps : (s : tie.Start)
+    → mapsFine (l s .plan) (memory (l s)) ≡ mapsFine (rowsOf (s .args .columns) (s .args .rows) (s .args .starts .now) []) (memoryIn [] (s .args .numbers .now) [])
+maps s =
+    same-maps (s .args .columns) (s .args .rows) (s .args .starts .now) (s .args .ops .now) (s .args .values .now)
+    (s .args .numbers .now) (s .args .doubles .now)
 
 lent-fine-requires : tie.Need-lent-fine-requires
 lent-fine-requires c κs = search needs
@@ -58,7 +62,8 @@ returns-3 : tie.Need-returns-3
 returns-3 c =
     let e : tie.Else1 = search in
     let z : tie.Else2 = search in
-    broken (l (start e)) (fine e) (z .if2 .left) (maps (start e) ∙ sym (c .before .maps-fine .ensures) ∙ turned-true itself .0 (c .if3 .taken))
+    broken (l (start e)) (fine e) (z .if2 .left)
+    (maps (start e) ∙ sym (c .before .maps-fine .ensures) ∙ turned-true itself .0 (c .if3 .taken))
 
 first-not-whole-requires : tie.Need-first-not-whole-requires
 first-not-whole-requires c κs =
@@ -72,7 +77,8 @@ returns-4 c =
     let z : tie.Else2 = search in
     let y : tie.Else3 = search in
     c .first-not-whole .ensures
-    ∙ judged (l (start e)) (fine e) (z .if2 .left) (maps (start e) ∙ sym (y .before .maps-fine .ensures) ∙ turned itself .0 (y .if3 .left))
+    ∙ judged (l (start e)) (fine e) (z .if2 .left)
+    (maps (start e) ∙ sym (y .before .maps-fine .ensures) ∙ turned itself .0 (y .if3 .left))
 
 pub answer-spec : {M : Type 1} → statement M
 answer-spec =

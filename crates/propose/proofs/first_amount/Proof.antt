@@ -12,7 +12,8 @@ use Rattle.propose.proofs.first_amount.Statement.{statement}
 use Rattle.propose.proofs.first_amount.Tie as tie
 
 abbrev Inv-loop : tie.InvT-loop
-Inv-loop columns values j₀ j = (j ≤ columns) × Seek (λ k. not (isWhole (amountOf (values ! k)))) columns (firstAmount columns values) j
+Inv-loop columns values j₀ j =
+    (j ≤ columns) × Seek (λ k. not (isWhole (amountOf (values ! k)))) columns (firstAmount columns values) j
 
 abbrev μ-loop : tie.MeasureT-loop
 μ-loop columns values j₀ j = columns - j

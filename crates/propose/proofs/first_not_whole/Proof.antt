@@ -47,7 +47,8 @@ returns-2 c =
     let g : tie.After-first-multiplier = search in
     let t : tie.Then2 = search in
     multiplier-is (p s) (m s) (f .first-amount .ensures) (e .if1 .left)
-    (g .first-multiplier .ensures ∙ sym (same-first (p s) (s .args .values .now) (s .args .numbers .now) (s .args .doubles .now))) (t .if2 .taken)
+    (g .first-multiplier .ensures ∙ sym (same-first (p s) (s .args .values .now) (s .args .numbers .now) (s .args .doubles .now)))
+    (t .if2 .taken)
     (c .row-multiplier .ensures ∙ sym (same-multiplier (p s) (s .args .values .now) (s .args .numbers .now) (s .args .doubles .now) _))
 
 returns-3 : tie.Need-returns-3
@@ -57,7 +58,8 @@ returns-3 c =
     let e : tie.Else1 = search in
     let g : tie.After-first-multiplier = search in
     all-whole (p s) (m s) (f .first-amount .ensures) (e .if1 .left)
-    (g .first-multiplier .ensures ∙ sym (same-first (p s) (s .args .values .now) (s .args .numbers .now) (s .args .doubles .now))) (c .if2 .left)
+    (g .first-multiplier .ensures ∙ sym (same-first (p s) (s .args .values .now) (s .args .numbers .now) (s .args .doubles .now)))
+    (c .if2 .left)
 
 pub first-not-whole-spec : {M : Type 1} → statement M
 first-not-whole-spec =

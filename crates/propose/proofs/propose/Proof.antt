@@ -2,7 +2,7 @@
 use mathlib.Core.Path.{_≡_, sym, ap, _∙_}
 use mathlib.Core.Bool.{true}
 use Rattle.doubles.specs.Lists.{over}
-use Rattle.propose.specs.Propose.{Lent, lentOf, isProposed, proposal}
+use Rattle.propose.specs.Propose.{Lent, lentOf, isProposed}
 use Rattle.propose.specs.Words.{Enough}
 use Rattle.propose.proofs.Laws.{same-all, enough, proposed-fine, writes, stays}
 use borrow.Author.Needs.{needs}
@@ -12,7 +12,8 @@ use Rattle.propose.proofs.propose.Tie as tie
 abbrev l : tie.Start → Lent
 l s =
     let a = s .args in
-    lentOf (a .columns) (a .rows) (a .starts .now) (a .ops .now) (a .values .now) (a .numbers .now) (a .doubles .now) (a .amounts .now) (a .mults .now)
+    lentOf (a .columns) (a .rows) (a .starts .now) (a .ops .now) (a .values .now) (a .numbers .now) (a .doubles .now)
+    (a .amounts .now) (a .mults .now)
 
 abbrev start : tie.Then1 → tie.Start
 start t = search

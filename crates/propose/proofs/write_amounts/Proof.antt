@@ -13,7 +13,8 @@ use Rattle.propose.proofs.write_amounts.Statement.{statement}
 use Rattle.propose.proofs.write_amounts.Tie as tie
 
 abbrev Inv-loop : tie.InvT-loop
-Inv-loop columns values amounts₀ j₀ amounts j = (j ≤ columns) × Filled (λ k. numberOf (amountOf (values ! k))) amounts₀ j amounts
+Inv-loop columns values amounts₀ j₀ amounts j =
+    (j ≤ columns) × Filled (λ k. numberOf (amountOf (values ! k))) amounts₀ j amounts
 
 abbrev μ-loop : tie.MeasureT-loop
 μ-loop columns values amounts₀ j₀ amounts j = columns - j
@@ -56,10 +57,11 @@ loop-again : tie.Need-loop-again Inv-loop μ-loop
 loop-again c =
     let t : tie.In-loop Inv-loop μ-loop = search in
     let r : tie.After-amount Inv-loop μ-loop = search in
-    let n : tie.After-number-of Inv-loop μ-loop = search in
-    (omega arith,
-    filled-more (t .before .loop .inv .1) (omega (arith, t, start (t .before) .pre .1))
-    (result (n .number-of .result) (n .number-of .ok) ∙ n .number-of .ensures ∙ ap numberOf (r .amount .ensures)))
+    let n : tie.After-number-of Inv-loop μ-loop = search in (
+      omega arith,
+      filled-more (t .before .loop .inv .1) (omega (arith, t, start (t .before) .pre .1))
+          (result (n .number-of .result) (n .number-of .ok) ∙ n .number-of .ensures ∙ ap numberOf (r .amount .ensures)),
+    )
 
 same-length : tie.Need-same-length Inv-loop μ-loop
 same-length c = long (c .before)

@@ -6,6 +6,7 @@ use Prim.Native.Nat.{_≤_, _-_}
 use Rattle.doubles.proofs.Loops.{Seek, seeks, hit, passed, missed}
 use Rattle.state.specs.Memory.{memoryIn}
 use Rattle.whole.specs.Whole.{isWhole}
+use Rattle.whole.specs.declared.Rounded.{Rounded}
 use Rattle.row_multipliers.specs.Rows.{multiplierAt, firstMultiplier, rowsOf}
 use native.Mathlib.Omega.{arith}
 use borrow.Author.Needs.{needs}
@@ -31,7 +32,13 @@ module _ (w : tie.After-is-whole Inv-loop μ-loop) where
   abbrev asked : tie.After-row-multiplier Inv-loop μ-loop
   asked = search
 
-  tested : isWhole (multiplierAt (rowsOf (start .args .columns) (start .args .rows) (start .args .starts .now) (start .args .ops .now)) (memoryIn [] (start .args .numbers .now) (start .args .doubles .now)) (head .before .loop .i)) ≡ w .is-whole .result
+  abbrev mine : Rounded
+  mine =
+      let a = start .args in
+      multiplierAt (rowsOf (a .columns) (a .rows) (a .starts .now) (a .ops .now))
+      (memoryIn [] (a .numbers .now) (a .doubles .now)) (head .before .loop .i)
+
+  tested : isWhole mine ≡ w .is-whole .result
   tested = sym (w .is-whole .ensures ∙ ap isWhole (asked .row-multiplier .ensures))
 
 loop-holds : tie.Need-loop-holds Inv-loop μ-loop

@@ -1,5 +1,5 @@
 -- `row_multipliers::kept_before`: after j turns, those before row j. Assumes nothing.
-use mathlib.Core.Path.{_≡_, refl, sym, ap, _∙_}
+use mathlib.Core.Path.{_≡_, refl}
 use mathlib.Core.Logic.{⊎-elim}
 use mathlib.Core.List.{[]}
 use Prim.Native.Nat.{_≤_, _-_}

@@ -1,5 +1,4 @@
 -- `row_multipliers::slack_price`: by where the slack stands. Assumes nothing.
-use mathlib.Core.Path.{_≡_}
 use mathlib.Core.List.{[]}
 use Prim.Native.Nat.{_+_, _<_}
 use native.Mathlib.Omega.{arith}
@@ -17,7 +16,8 @@ start k = search
 found : (k : tie.After-kept-before) → start k .args .columns + k .kept-before .result < vars
 found k =
     let s = start k in
-    omega (arith, k .kept-before .ensures, before-few (rowsOf 0 0 (s .args .starts .now) []) (s .args .i), s .pre .0, s .pre .1)
+    omega
+    (arith, k .kept-before .ensures, before-few (rowsOf 0 0 (s .args .starts .now) []) (s .args .i), s .pre .0, s .pre .1)
 
 mul-if1 : tie.Need-mul-if1
 mul-if1 c = search needs
@@ -35,8 +35,9 @@ shared-slice-read-if1-2 : tie.Need-shared-slice-read-if1-2
 shared-slice-read-if1-2 c = search needs
 
 returns : tie.Need-returns
-returns c = let s : tie.Start = search in 
-    dropped (s .args .columns) (s .args .rows) (s .args .starts .now) (s .args .ops .now) (s .args .numbers .now) (s .args .doubles .now) (s .args .i) (c .if1 .taken)
+returns c = let s : tie.Start = search in
+    dropped (s .args .columns) (s .args .rows) (s .args .starts .now) (s .args .ops .now) (s .args .numbers .now)
+    (s .args .doubles .now) (s .args .i) (c .if1 .taken)
 
 kept-before-requires : tie.Need-kept-before-requires
 kept-before-requires c κs = search needs
@@ -51,7 +52,8 @@ mul-cell : tie.Need-mul-cell
 mul-cell c = let k : tie.After-kept-before = search in let s : tie.Start = search in omega (arith, found k, s .pre .0)
 
 shared-slice-read-cell : tie.Need-shared-slice-read-cell
-shared-slice-read-cell c = let k : tie.After-kept-before = search in let s : tie.Start = search in omega (arith, found k, s .pre .0)
+shared-slice-read-cell c =
+    let k : tie.After-kept-before = search in let s : tie.Start = search in omega (arith, found k, s .pre .0)
 
 add-result : tie.Need-add-result
 add-result c = search needs
@@ -69,7 +71,8 @@ returns-2 c =
     let e : tie.Else1 = search in
     let k : tie.After-kept-before = search in
     let i : tie.Then2 = search in
-    non-basic (s .args .columns) (s .args .rows) (s .args .starts .now) (s .args .ops .now) (s .args .numbers .now) (s .args .doubles .now) (s .args .i)
+    non-basic (s .args .columns) (s .args .rows) (s .args .starts .now) (s .args .ops .now) (s .args .numbers .now)
+    (s .args .doubles .now) (s .args .i)
     (e .if1 .left) _ (k .kept-before .ensures) (found k) (i .if2 .taken) (s .pre .0 .columns-fit)
 
 returns-3 : tie.Need-returns-3
@@ -78,7 +81,8 @@ returns-3 c =
     let e : tie.Else1 = search in
     let k : tie.After-kept-before = search in
     let s : tie.Start = search in
-    basic (s .args .columns) (s .args .rows) (s .args .starts .now) (s .args .ops .now) (s .args .numbers .now) (s .args .doubles .now) (s .args .i)
+    basic (s .args .columns) (s .args .rows) (s .args .starts .now) (s .args .ops .now) (s .args .numbers .now)
+    (s .args .doubles .now) (s .args .i)
     (e .if1 .left) _ (k .kept-before .ensures) (found k) (c .if2 .left)
 
 pub slack-price-spec : {M : Type 1} → statement M

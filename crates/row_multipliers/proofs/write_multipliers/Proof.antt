@@ -15,7 +15,8 @@ use Rattle.row_multipliers.proofs.write_multipliers.Tie as tie
 
 abbrev Inv-loop : tie.InvT-loop
 Inv-loop columns rows starts ops numbers doubles mults₀ i₀ mults i =
-    (i ≤ rows) × Filled (λ k. numberOf (multiplierAt (rowsOf columns rows starts ops) (memoryIn [] numbers doubles) k)) mults₀ i mults
+    (i ≤ rows) × Filled
+    (λ k. numberOf (multiplierAt (rowsOf columns rows starts ops) (memoryIn [] numbers doubles) k)) mults₀ i mults
 
 abbrev μ-loop : tie.MeasureT-loop
 μ-loop columns rows starts ops numbers doubles mults₀ i₀ mults i = rows - i
@@ -52,10 +53,11 @@ loop-again : tie.Need-loop-again Inv-loop μ-loop
 loop-again c =
     let t : tie.In-loop Inv-loop μ-loop = search in
     let r : tie.After-row-multiplier Inv-loop μ-loop = search in
-    let n : tie.After-number-of Inv-loop μ-loop = search in
-    (omega arith,
-    filled-more (t .before .loop .inv .1) (omega (arith, t, start (t .before) .pre .1))
-    (result (n .number-of .result) (n .number-of .ok) ∙ n .number-of .ensures ∙ ap numberOf (r .row-multiplier .ensures)))
+    let n : tie.After-number-of Inv-loop μ-loop = search in (
+      omega arith,
+      filled-more (t .before .loop .inv .1) (omega (arith, t, start (t .before) .pre .1))
+          (result (n .number-of .result) (n .number-of .ok) ∙ n .number-of .ensures ∙ ap numberOf (r .row-multiplier .ensures)),
+    )
 
 same-length : tie.Need-same-length Inv-loop μ-loop
 same-length c = long (c .before)

@@ -22,7 +22,8 @@ unfolding ofBits neg multiplierOf
 returns c =
     let e : tie.After-round-even = search in
     let s : tie.Start = search in
-    c .right-sign .ensures ∙ ap (rightSign (s .args .op)) (e .round-even .ensures ∙ scaled-is (s .args .price) (passes _ (s .good .1 .0 .1)))
+    c .right-sign .ensures
+    ∙ ap (rightSign (s .args .op)) (e .round-even .ensures ∙ scaled-is (s .args .price) (passes _ (s .good .1 .0 .1)))
 
 pub multiplier-spec : {M : Type 1} → statement M
 multiplier-spec = tie.close (tie.spec cast-round-even round-even-requires right-sign-requires returns)

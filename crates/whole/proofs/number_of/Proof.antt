@@ -17,7 +17,9 @@ enum-told-2 c = search needs
 
 returns : tie.Need-returns
 unfolding numberOf
-returns c = rw (c .before .r .given .1) (toZ-ofZ w64 (c .before .r .given .0 .0) (record { sfits = c .known-told .given .0 .1 }))
+returns c =
+    rw (c .before .r .given .1)
+    (toZ-ofZ w64 (c .before .r .given .0 .0) (record { sfits = c .known-told .given .0 .1 }))
 
 returns-2 : tie.Need-returns-2
 unfolding numberOf

@@ -20,7 +20,9 @@ wrong-requires : tie.Need-wrong-requires
 wrong-requires c κs = search needs
 
 returns : tie.Need-returns
-returns c = rw (c .before .before .before .r .given .1) (drops _ (read (c .before .before)) (c .before .wrong .ensures) (c .if1 .taken))
+returns c =
+    rw (c .before .before .before .r .given .1)
+    (drops _ (read (c .before .before)) (c .before .wrong .ensures) (c .if1 .taken))
 
 enum-known-r-2 : tie.Need-enum-known-r-2
 enum-known-r-2 c = search needs
@@ -29,7 +31,9 @@ enum-told : tie.Need-enum-told
 enum-told c = search needs
 
 returns-2 : tie.Need-returns-2
-returns-2 c = rw (c .before .before .before .r .given .1) (stays _ (read (c .before .before)) (c .before .wrong .ensures) (c .if1 .left))
+returns-2 c =
+    rw (c .before .before .before .r .given .1)
+    (stays _ (read (c .before .before)) (c .before .wrong .ensures) (c .if1 .left))
 
 returns-3 : tie.Need-returns-3
 unfolding rightSign
@@ -40,4 +44,5 @@ unfolding rightSign
 returns-4 c = search needs
 
 pub right-sign-spec : {M : Type 1} → statement M
-right-sign-spec = tie.close (tie.spec enum-known-r wrong-requires returns enum-known-r-2 enum-told returns-2 returns-3 returns-4)
+right-sign-spec =
+    tie.close (tie.spec enum-known-r wrong-requires returns enum-known-r-2 enum-told returns-2 returns-3 returns-4)

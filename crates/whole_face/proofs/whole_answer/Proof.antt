@@ -1,6 +1,5 @@
 -- `whole_face::whole_answer`: by cases. Assumes nothing.
 use mathlib.Core.Path.{ap, _∙_}
-use lib.Ieee.{ofBits}
 use mir.Syntax.{w64}
 use mir.ValLaws.{toZ-ofZ}
 use Rattle.doubles.specs.Num.{f0}
