@@ -341,6 +341,58 @@ TevalumiRead tevalumi_read_plan(
     int64_t *amounts, size_t amounts_len,
     int64_t *mults, size_t mults_len);
 
+/* ---- Whole numbers from a run ----
+ * Each double's case, as an amount or as a multiplier of the sheet: the nearest whole number, ties to even, proved
+ * against the exact value of the double.
+ *
+ * kind     0 whole   1 beyond: the whole number wouldn't fit the sheet's limit; infinities too   2 not a number: NaN
+ * number   the whole number; 0 for kind 1 and 2
+ * beyond   for kind 1 the double that doesn't fit: an amount's value, or a multiplier's -price * 1024 (an infinity
+ *          where that overflows); 0.0 for kind 0 and 2 */
+typedef struct {
+    size_t kind;
+    int64_t number;
+    double beyond;
+} TevalumiWhole;
+
+/* An amount: whole within 2^16. */
+TevalumiWhole tevalumi_amount(double value);
+
+/* The multiplier of a row with comparison op (0 is <=, 1 is =, 2 and above is >=), from the price of its slack: minus
+ * the price times 1024, whole within 2^20, and then 0 where the sign is wrong (above 0 for <=, below 0 for >=). */
+TevalumiWhole tevalumi_multiplier(uint8_t op, double price);
+
+/* status   0; refused: 1 a size over its limit or an array too short; 41 the rows or maps in numbers aren't those of a
+ *          run over this plan
+ * kind     on status 0: 0 proposed, amounts and mults are written; nothing is written for the others: 1 nothing, since
+ *          the run's status isn't 0; 2 an amount isn't whole; 3 every amount is, and a multiplier isn't
+ * place    the column (kind 2) or row (kind 3) of the first number that isn't whole; else 0
+ * answer   its case; else all zeros */
+typedef struct {
+    size_t status;
+    size_t kind;
+    size_t place;
+    TevalumiWhole answer;
+} TevalumiProposal;
+
+/* Proposes whole numbers for the sheet of a plan, from the memory that tevalumi_solve left.
+ * Read:
+ *   starts, ops                rows + 1, rows: the plan's
+ *   values                     columns: the run's values
+ *   numbers, doubles           TEVALUMI_NUMBERS, TEVALUMI_DOUBLES: the run's state
+ * Written where every number is whole:
+ *   amounts                    columns: the values, rounded
+ *   mults                      rows: from the price of each row's slack, 0 for a basic or dropped one */
+TevalumiProposal tevalumi_propose(
+    size_t columns, size_t rows,
+    const size_t *starts, size_t starts_len,
+    const uint8_t *ops, size_t ops_len,
+    const double *values, size_t values_len,
+    const size_t *numbers, size_t numbers_len,
+    const double *doubles, size_t doubles_len,
+    int64_t *amounts, size_t amounts_len,
+    int64_t *mults, size_t mults_len);
+
 #ifdef __cplusplus
 }
 #endif

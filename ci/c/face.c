@@ -1,5 +1,5 @@
 /* The library's face as a C program sees it: night case N2's plan with its state, triangles, and night case N5's sheet
-   with its edits and its file. */
+   with its edits and its file; N2's run as whole numbers. */
 #include <math.h>
 #include <stdio.h>
 #include <string.h>
@@ -281,8 +281,48 @@ static void files(void) {
     check(memcmp(&before, &t, sizeof t) == 0, "and nothing changed");
 }
 
+static int whole(TevalumiWhole w, int64_t number) { return w.kind == 0 && w.number == number && w.beyond == 0; }
+
+/* N2's run, as whole numbers; cells past the needed ones are marked. */
+static void wholes(void) {
+    check(whole(tevalumi_amount(2.5), 2) && whole(tevalumi_amount(-3.5), -4), "ties to even");
+    TevalumiWhole w = tevalumi_amount(65537);
+    check(whole(tevalumi_amount(65536.5), 65536) && w.kind == 1 && w.number == 0 && w.beyond == 65537, "an amount's limit");
+    check(tevalumi_amount(NAN).kind == 2 && tevalumi_multiplier(0, -HUGE_VAL).beyond == HUGE_VAL, "NaN, an infinity");
+    check(whole(tevalumi_multiplier(0, 3), -3072) && whole(tevalumi_multiplier(2, 3), 0), "a multiplier, and its sign");
+
+    static size_t numbers[TEVALUMI_NUMBERS];
+    static double doubles[TEVALUMI_DOUBLES];
+    double values[4];
+    const size_t starts[] = {0, 2};
+    const uint8_t ops[] = {0};
+    int64_t amounts[] = {MARK, MARK, MARK}, mults[] = {MARK, MARK};
+    check(solve(values, ARRAY(numbers), ARRAY(doubles)).status == 0, "N2's run");
+#define PROPOSE(columns) tevalumi_propose(columns, 1, ARRAY(starts), ARRAY(ops), ARRAY(values), ARRAY(numbers), ARRAY(doubles), ARRAY(amounts), ARRAY(mults))
+    TevalumiProposal p = PROPOSE(4);
+    check(p.status == 1 && amounts[0] == MARK, "1: an array too short");
+    numbers[TEVALUMI_COUNTS + 4] = 21;
+    p = PROPOSE(2);
+    check(p.status == 0 && p.kind == 1 && amounts[0] == MARK, "nothing from another status");
+    numbers[TEVALUMI_COUNTS + 4] = 0;
+    numbers[TEVALUMI_VAR_STATES] ^= 1;
+    p = PROPOSE(2);
+    check(p.status == 41 && mults[0] == MARK, "41: a map changed");
+    numbers[TEVALUMI_VAR_STATES] ^= 1;
+    values[1] = 1e9;
+    p = PROPOSE(2);
+    check(p.status == 0 && p.kind == 2 && p.place == 1 && p.answer.kind == 1 && p.answer.beyond == 1e9, "an amount beyond");
+    check(amounts[0] == MARK && mults[0] == MARK, "and nothing changed");
+    values[1] = 0;
+    p = PROPOSE(2);
+    check(p.status == 0 && p.kind == 0 && whole(p.answer, 0), "proposed");
+    check(amounts[0] == 4 && amounts[1] == 0 && mults[0] == -3072, "N5's amounts and multiplier");
+    check(amounts[2] == MARK && mults[1] == MARK, "and the cells past them");
+}
+
 int main(void) {
     plan();
+    wholes();
     triangle();
     factors();
     sheet();

@@ -15,6 +15,7 @@ pub mod plans;
 pub mod sections;
 pub mod sheets;
 pub mod triangles;
+pub mod wholes;
 
 use oracle::exchange::{Item, Reader};
 use oracle::rng::Rng;

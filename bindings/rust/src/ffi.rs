@@ -68,6 +68,26 @@ pub(crate) struct Read {
     pub columns: usize,
 }
 
+/// One double's case: kind 0 is whole, 1 beyond, 2 not a number.
+#[repr(C)]
+#[derive(Clone, Copy, Debug)]
+pub(crate) struct Whole {
+    pub kind: usize,
+    pub number: i64,
+    pub beyond: f64,
+}
+
+/// What `tevalumi_propose` answers: kind 0 is proposed, 1 nothing, 2 an amount that isn't whole, 3 a
+/// multiplier that isn't.
+#[repr(C)]
+#[derive(Clone, Copy, Debug)]
+pub(crate) struct Proposal {
+    pub status: usize,
+    pub kind: usize,
+    pub place: usize,
+    pub answer: Whole,
+}
+
 /// Makes the safe function of a call. Its arguments move one by one from the last list to three
 /// others: as the function takes them, as C declares them, and as they are handed over.
 macro_rules! call {
@@ -216,4 +236,23 @@ call! {
         upper_with_diag: usize, upper_diag: &[f64],
         values: &mut [f64],
     ) -> TriAnswer
+}
+
+call! {
+    /// A double's case as an amount.
+    fn tevalumi_amount(value: f64,) -> Whole
+}
+
+call! {
+    /// A price's case as the multiplier of a row with this comparison.
+    fn tevalumi_multiplier(op: u8, price: f64,) -> Whole
+}
+
+call! {
+    /// Proposes whole numbers from a run's memory: writes amounts and multipliers, where all are whole.
+    fn tevalumi_propose(
+        columns: usize, rows: usize, starts: &[usize], ops: &[u8],
+        values: &[f64], numbers: &[usize], doubles: &[f64],
+        amounts: &mut [i64], mults: &mut [i64],
+    ) -> Proposal
 }

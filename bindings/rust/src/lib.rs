@@ -99,6 +99,7 @@ pub mod raw;
 mod sections;
 pub mod sheet;
 pub mod triangle;
+pub mod wholes;
 pub mod why;
 
 pub use problem::{

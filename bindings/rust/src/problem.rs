@@ -478,6 +478,8 @@ pub struct Solution {
     prices: Vec<f64>,
     /// The plan's number of each kept row.
     kept: Vec<usize>,
+    /// What the run left.
+    work: Box<Workspace>,
 }
 
 impl fmt::Debug for Solution {
@@ -514,7 +516,16 @@ impl Solution {
             values,
             prices,
             kept,
+            work: Box::new(work.clone()),
         }
+    }
+
+    pub(crate) fn values(&self) -> &[f64] {
+        &self.values
+    }
+
+    pub(crate) fn work(&self) -> &Workspace {
+        &self.work
     }
 
     /// Optimal value of the objective function.

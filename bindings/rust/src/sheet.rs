@@ -60,9 +60,10 @@
 use std::fmt;
 
 use crate::raw::{self, limits, FiguresMut, SheetMut, SheetRef};
-use crate::ComparisonOp;
+use crate::{wholes, ComparisonOp, Problem, Solution};
 
 pub use crate::raw::{BadFile, Refusal, Verdict};
+pub use crate::wholes::{NotProposed, Proposal};
 
 /// A count of 1/1024, as multipliers, prices, floors and gaps are, shown as the decimal that it is.
 ///
@@ -231,6 +232,30 @@ impl Sheet {
         };
         sheet.lend().open()?;
         Ok(sheet)
+    }
+
+    /// Whole amounts and multipliers for a sheet of the solved problem: the values and prices of its
+    /// run, rounded by the library to the nearest, ties to even.
+    ///
+    /// ```
+    /// # use tevalumi::{sheet::Sheet, ComparisonOp, OptimizationDirection, Problem};
+    /// let mut problem = Problem::new(OptimizationDirection::Minimize);
+    /// let x = problem.add_var(-3.0, (0.0, f64::INFINITY));
+    /// let y = problem.add_var(-1.0, (0.0, 2.0));
+    /// problem.add_constraint([(x, 1.0), (y, 1.0)], ComparisonOp::Le, 4.0);
+    /// let solution = problem.solve()?;
+    ///
+    /// let proposal = Sheet::propose(&problem, &solution)?;
+    /// assert_eq!((proposal.amounts, proposal.mults), (vec![4, 0], vec![-3 * 1024]));
+    /// # Ok::<(), Box<dyn std::error::Error>>(())
+    /// ```
+    ///
+    /// # Errors
+    ///
+    /// [`NotProposed::Amount`] or [`NotProposed::Multiplier`] with the first number that isn't whole;
+    /// [`NotProposed::BadSize`] or [`NotProposed::BadMaps`] where the problem was changed since.
+    pub fn propose(problem: &Problem, solution: &Solution) -> Result<Proposal, NotProposed> {
+        wholes::propose(problem, solution)
     }
 
     /// Changes one number, and with it only the kept numbers that depend on it.

@@ -1,16 +1,14 @@
-//! From doubles to a sheet in whole numbers. The proposal is made here and needs no trust: the
-//! sheet judges it.
+//! From doubles to a sheet in whole numbers. The plan's own numbers have to be whole; amounts and
+//! multipliers are the library's proposal, and the sheet judges it.
 
 use tevalumi::raw::limits;
-use tevalumi::sheet::{Figures, Sheet, Verdict};
+use tevalumi::sheet::{Figures, NotProposed, Sheet, Verdict};
+use tevalumi::wholes::{propose_into, Rounded};
 use tevalumi::ComparisonOp;
 
-use super::engine::Solved;
-use super::plan::{counted, Plan, EQ, GE, LE};
+use super::engine::{lent, Solved};
+use super::plan::{counted, Plan, EQ, LE};
 use super::show::{number, of_1024, quoted, Side, Table};
-
-/// A price of 1 is a multiplier of 1024.
-const UNIT: f64 = 1024.0;
 
 /// Opens the sheet of a solved plan. The error is a sentence that names the first number that
 /// doesn't fit.
@@ -85,32 +83,31 @@ fn coefs(plan: &Plan) -> Result<Vec<i64>, String> {
     Ok(coefs)
 }
 
-/// Whole amounts: the nearest, ties to even. Multipliers: minus the price of the row's slack, 0 for
-/// a basic or dropped one, times 1024, rounded the same way, 0 where the sign is wrong.
+/// The library's proposal: whole amounts and multipliers, or a sentence on the first that isn't.
 fn propose(plan: &Plan, solved: &Solved, figures: &mut Figures) -> Result<(), String> {
-    for (j, &x) in solved.values[..plan.columns].iter().enumerate() {
-        let amount = whole(x.round_ties_even(), limits::SHEET_AMOUNT, || {
-            format!("the amount of column {}", plan.column_name(j))
-        })?;
-        figures.amounts.push(amount);
-    }
+    figures.amounts = vec![0; plan.columns];
     figures.mults = vec![0; plan.rows];
-    for (&i, price) in solved.kept.iter().zip(&solved.slack_prices) {
-        let exact = -price.unwrap_or(0.0) * UNIT;
-        let mult = whole(exact.round_ties_even(), limits::SHEET_MULTIPLIER, || {
-            format!(
-                "the multiplier of row {} in units of 1/1024",
-                plan.row_name(i)
-            )
-        })?;
-        let wrong = match plan.ops[i] {
-            LE => mult > 0,
-            GE => mult < 0,
-            _ => false,
-        };
-        figures.mults[i] = if wrong { 0 } else { mult };
+    let (amounts, mults) = (&mut figures.amounts, &mut figures.mults);
+    let proposed = propose_into(&lent(plan), &solved.values, &solved.work, amounts, mults);
+    proposed.map_err(|why| match why {
+        NotProposed::Amount { column, case } => {
+            let what = format!("the amount of column {}", plan.column_name(column));
+            not_whole(&what, case, limits::SHEET_AMOUNT)
+        }
+        NotProposed::Multiplier { row, case } => {
+            let row = plan.row_name(row);
+            let what = format!("the multiplier of row {row} in units of 1/1024");
+            not_whole(&what, case, limits::SHEET_MULTIPLIER)
+        }
+        other => other.to_string(),
+    })
+}
+
+fn not_whole(what: &str, case: Rounded, most: i64) -> String {
+    match case {
+        Rounded::Beyond(x) => format!("{what} is {}, over {most}", number(x)),
+        _ => format!("{what} isn't a number"),
     }
-    Ok(())
 }
 
 fn whole(x: f64, most: i64, what: impl Fn() -> String) -> Result<i64, String> {

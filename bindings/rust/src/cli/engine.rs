@@ -14,12 +14,13 @@ pub struct Solved {
     pub values: Vec<f64>,
     /// The plan's number of each kept row; empty on a refusal.
     pub kept: Vec<usize>,
-    /// For each kept row the price of its slack, where that isn't basic.
-    pub slack_prices: Vec<Option<f64>>,
+    /// What the run left.
+    pub work: Box<Workspace>,
 }
 
-pub fn solve(plan: &Plan) -> Solved {
-    let lent = PlanRef {
+/// The plan's arrays as they are lent.
+pub fn lent(plan: &Plan) -> PlanRef<'_> {
+    PlanRef {
         columns: plan.columns,
         rows: plan.rows,
         entries: plan.entries,
@@ -33,7 +34,10 @@ pub fn solve(plan: &Plan) -> Solved {
         coeffs: &plan.coeffs,
         ops: &plan.ops,
         rhs: &plan.rhs,
-    };
+    }
+}
+
+pub fn solve(plan: &Plan) -> Solved {
     let mut work = Box::new(Workspace::new());
     // Enough for every plan that isn't refused for its size.
     let mut values = vec![0.0; limits::COLUMNS + limits::ROWS];
@@ -42,13 +46,13 @@ pub fn solve(plan: &Plan) -> Solved {
     for (&name, &length) in &plan.shorter {
         cut(plan, &mut memory, &mut values_lent, name, length);
     }
-    let answer = solve_lent(&lent, &mut memory, values_lent);
+    let answer = solve_lent(&lent(plan), &mut memory, values_lent);
     if answer.status.is_refusal() {
         return Solved {
             answer,
             values: Vec::new(),
             kept: Vec::new(),
-            slack_prices: Vec::new(),
+            work,
         };
     }
     let kept = work.kept().to_vec();
@@ -56,19 +60,12 @@ pub fn solve(plan: &Plan) -> Solved {
     if answer.status != Status::Optimal {
         values.clear();
     }
-    let slack_prices = (0..kept.len()).map(|k| slack_price(plan, &work, k));
     Solved {
         answer,
-        slack_prices: slack_prices.collect(),
         values,
         kept,
+        work,
     }
-}
-
-/// A place below the columns is non-basic.
-fn slack_price(plan: &Plan, work: &Workspace, kept_row: usize) -> Option<f64> {
-    let place = work.numbers[sections::VAR_STATES][plan.columns + kept_row];
-    (place < plan.columns).then(|| work.doubles[sections::PRICES][place])
 }
 
 /// Lends no more than `length` cells of the named array. A section that is to be shorter than the plan needs makes the

@@ -1,0 +1,2 @@
+-- The rows and maps that a run left, tested.
+pub mod Maps
