@@ -1,7 +1,7 @@
 -- What the journal's calls ask and leave, by their answers. Assumes nothing.
 use mathlib.Core.Path.{_≡_, refl, sym, ap, ap₂, _∙_, subst}
 use mathlib.Core.Bool.{Bool, true, false}
-use mathlib.Core.List.{List, []}
+use mathlib.Core.List.{List}
 use Prim.Native.Nat.{ℕ, zero, suc, _+_, _-_, _*_, _/_, _≤_, _<_}
 use native.Mathlib.Omega.{arith}
 use lib.Dec.{ltb, eqb}
@@ -18,7 +18,6 @@ use Rattle.journal_rules.specs.Lent.{Lent, lent, testBy, test, wholeBlocks, tes
 use Rattle.journal_rules.specs.Promises.{Keeps, Undoes}
 use Rattle.journal_rules.specs.declared.Entry.{Entry}
 use Rattle.journal_rules.specs.declared.Tested.{Tested}
-use Rattle.journal_rules.proofs.File.{Fits}
 use Rattle.journal_rules.proofs.Undo.{leaves-applied}
 use Rattle.journal_rules.proofs.Replay.{entry-fits}
 use Rattle.journal_bytes.proofs.Laws.{few-entries}

@@ -1,4 +1,5 @@
-// The journal's public calls on a sheet. They ask nothing: whatever is lent, the answer and every lent cell afterwards are settled.
+// The journal's public calls on a sheet. They ask nothing: whatever is lent, the answer and every lent cell afterwards are
+// settled.
 ghost use mathlib.Core.Path.{_≡_};
 ghost use lib.Dec.{ltb};
 ghost use Rattle.sheet_rules.specs.Sheet.{planOf, keptOf, sheetOf};
@@ -40,7 +41,12 @@ fn keep_refusal(
     b: &[i64],
     counts: &[i64],
 ) -> usize
-    ensures { λ z. ⌜ z ≡ else (t .refusal) (else (editRefusal (sheetOf (planOf rows columns (now (coefs .entry)) (now (costs .entry)) (now (lowers .entry)) (now (uppers .entry)) (now («lower_marks» .entry)) (now («upper_marks» .entry)) (now (rights .entry)) (now (ops .entry)) (now (amounts .entry)) (now (mults .entry))) (keptOf (now (r .entry)) (now (d .entry)) (now (c .entry)) (now (b .entry)) (now (counts .entry)))) e) (unlessSo 37 (ltb (t .entries) room))) ⌝ }
+    ensures { λ z. ⌜ z ≡ else (t .refusal) (else (editRefusal
+        (sheetOf (planOf rows columns (now (coefs .entry)) (now (costs .entry)) (now (lowers .entry))
+        (now (uppers .entry)) (now («lower_marks» .entry)) (now («upper_marks» .entry)) (now (rights .entry))
+        (now (ops .entry)) (now (amounts .entry)) (now (mults .entry)))
+        (keptOf (now (r .entry)) (now (d .entry)) (now (c .entry)) (now (b .entry)) (now (counts .entry)))) e)
+        (unlessSo 37 (ltb (t .entries) room))) ⌝ }
 {
     if t.refusal != 0 {
         return t.refusal;
@@ -97,7 +103,12 @@ fn undo_refusal(
     journal: &[u8],
 ) -> usize
     requires { ⌜ t ≡ tested (now journal) ⌝ }
-    ensures { λ z. ⌜ z ≡ undoesRefusal (lent (sheetOf (planOf rows columns (now (coefs .entry)) (now (costs .entry)) (now (lowers .entry)) (now (uppers .entry)) (now («lower_marks» .entry)) (now («upper_marks» .entry)) (now (rights .entry)) (now (ops .entry)) (now (amounts .entry)) (now (mults .entry))) (keptOf (now (r .entry)) (now (d .entry)) (now (c .entry)) (now (b .entry)) (now (counts .entry)))) (now (journal .entry))) ⌝ }
+    ensures { λ z. ⌜ z ≡ undoesRefusal (lent
+        (sheetOf (planOf rows columns (now (coefs .entry)) (now (costs .entry)) (now (lowers .entry))
+        (now (uppers .entry)) (now («lower_marks» .entry)) (now («upper_marks» .entry)) (now (rights .entry))
+        (now (ops .entry)) (now (amounts .entry)) (now (mults .entry)))
+        (keptOf (now (r .entry)) (now (d .entry)) (now (c .entry)) (now (b .entry)) (now (counts .entry))))
+        (now (journal .entry))) ⌝ }
 {
     if t.refusal != 0 {
         return t.refusal;
@@ -153,7 +164,16 @@ pub fn edit(
     counts: &mut [i64],
     journal: &mut [u8],
 ) -> usize
-    ensures { λ z. ⌜ Keeps (lent (sheetOf (planOf rows columns (now (coefs .entry)) (now (costs .entry)) (now (lowers .entry)) (now (uppers .entry)) (now («lower_marks» .entry)) (now («upper_marks» .entry)) (now (rights .entry)) (now (ops .entry)) (now (amounts .entry)) (now (mults .entry))) (keptOf (now (r .entry)) (now (d .entry)) (now (c .entry)) (now (b .entry)) (now (counts .entry)))) (now (journal .entry))) (record { kind = kind; row = row; column = column; number = number }) z (lent (sheetOf (planOf rows columns (now (coefs .exit)) (now (costs .exit)) (now (lowers .exit)) (now (uppers .exit)) (now («lower_marks» .exit)) (now («upper_marks» .exit)) (now (rights .exit)) (now (ops .entry)) (now (amounts .exit)) (now (mults .exit))) (keptOf (now (r .exit)) (now (d .exit)) (now (c .exit)) (now (b .exit)) (now (counts .exit)))) (now (journal .exit))) ⌝ }
+    ensures { λ z. ⌜ Keeps (lent (sheetOf (planOf rows columns (now (coefs .entry)) (now (costs .entry))
+        (now (lowers .entry)) (now (uppers .entry)) (now («lower_marks» .entry)) (now («upper_marks» .entry))
+        (now (rights .entry)) (now (ops .entry)) (now (amounts .entry)) (now (mults .entry)))
+        (keptOf (now (r .entry)) (now (d .entry)) (now (c .entry)) (now (b .entry)) (now (counts .entry))))
+        (now (journal .entry))) (record { kind = kind; row = row; column = column; number = number }) z (lent
+        (sheetOf (planOf rows columns (now (coefs .exit)) (now (costs .exit)) (now (lowers .exit))
+        (now (uppers .exit)) (now («lower_marks» .exit)) (now («upper_marks» .exit)) (now (rights .exit))
+        (now (ops .entry)) (now (amounts .exit)) (now (mults .exit)))
+        (keptOf (now (r .exit)) (now (d .exit)) (now (c .exit)) (now (b .exit)) (now (counts .exit))))
+        (now (journal .exit))) ⌝ }
 {
     let e = Edit {
         kind: kind,
@@ -247,7 +267,15 @@ pub fn undo(
     counts: &mut [i64],
     journal: &mut [u8],
 ) -> usize
-    ensures { λ z. ⌜ Undoes (lent (sheetOf (planOf rows columns (now (coefs .entry)) (now (costs .entry)) (now (lowers .entry)) (now (uppers .entry)) (now («lower_marks» .entry)) (now («upper_marks» .entry)) (now (rights .entry)) (now (ops .entry)) (now (amounts .entry)) (now (mults .entry))) (keptOf (now (r .entry)) (now (d .entry)) (now (c .entry)) (now (b .entry)) (now (counts .entry)))) (now (journal .entry))) z (lent (sheetOf (planOf rows columns (now (coefs .exit)) (now (costs .exit)) (now (lowers .exit)) (now (uppers .exit)) (now («lower_marks» .exit)) (now («upper_marks» .exit)) (now (rights .exit)) (now (ops .entry)) (now (amounts .exit)) (now (mults .exit))) (keptOf (now (r .exit)) (now (d .exit)) (now (c .exit)) (now (b .exit)) (now (counts .exit)))) (now (journal .exit))) ⌝ }
+    ensures { λ z. ⌜ Undoes (lent (sheetOf (planOf rows columns (now (coefs .entry)) (now (costs .entry))
+        (now (lowers .entry)) (now (uppers .entry)) (now («lower_marks» .entry)) (now («upper_marks» .entry))
+        (now (rights .entry)) (now (ops .entry)) (now (amounts .entry)) (now (mults .entry)))
+        (keptOf (now (r .entry)) (now (d .entry)) (now (c .entry)) (now (b .entry)) (now (counts .entry))))
+        (now (journal .entry))) z (lent (sheetOf (planOf rows columns (now (coefs .exit)) (now (costs .exit))
+        (now (lowers .exit)) (now (uppers .exit)) (now («lower_marks» .exit)) (now («upper_marks» .exit))
+        (now (rights .exit)) (now (ops .entry)) (now (amounts .exit)) (now (mults .exit)))
+        (keptOf (now (r .exit)) (now (d .exit)) (now (c .exit)) (now (b .exit)) (now (counts .exit))))
+        (now (journal .exit))) ⌝ }
 {
     let t = test(journal);
     let refusal = undo_refusal(

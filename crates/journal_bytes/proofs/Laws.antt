@@ -1,15 +1,14 @@
 -- Entries in a block's bytes, and the tests of a block. Assumes nothing.
 use mathlib.Core.Path.{_≡_, refl, sym, ap, ap₂, _∙_}
-use mathlib.Core.Bool.{Bool, true, false, _&&_, _||_}
+use mathlib.Core.Bool.{Bool, true, false, _&&_}
 use mathlib.Core.List.{List, [], _∷_, _++_}
-use Prim.Native.Nat.{ℕ, zero, suc, _+_, _-_, _*_, _<_, _≤_}
+use Prim.Native.Nat.{ℕ, suc, _+_, _-_, _*_, _<_, _≤_}
 use native.Mathlib.Nat.{add-zero, sub-zero}
 use native.Mathlib.Omega.{arith}
 use lib.Dec.{leb, eqb}
-use lib.ListN.{length, getD, take, drop, set, length-set}
+use lib.ListN.{length, take, drop, set, length-set}
 use lib.Seq.{getD-drop, drop-drop, sets, length-sets}
-use lib.IntN.{ℤ}
-use borrow.Author.Tests.{le-leb, leb-true, lt-leb, leb-false, eqb-true}
+use borrow.Author.Tests.{le-leb, leb-true, eqb-true}
 use Rattle.doubles.specs.Lists.{_#_}
 use Rattle.doubles.proofs.Loops.{both-true}
 use Rattle.doubles.proofs.Bools.{by-test}
@@ -18,7 +17,7 @@ use Rattle.file_rules.specs.Bytes.{little, value, wordOf, numberOf}
 use Rattle.file_rules.specs.Block.{blockSize, weighed, Slot, slot, isWhole, blank, checks, stands, rest}
 use Rattle.file_rules.proofs.Bytes.{little-length}
 use Rattle.file_block.proofs.Laws.{rest-is}
-use Rattle.journal_rules.specs.File.{journalKind, entrySize, entryBytes, entryFrom, entriesFrom, clean, allClean, perBlock, ends, slotKind, usedBy, slotUsed, journalSlot, slotRefusal, journalRefusal}
+use Rattle.journal_rules.specs.File.{journalKind, entryBytes, entryFrom, entriesFrom, clean, allClean, perBlock, ends, slotKind, usedBy, slotUsed, journalSlot, slotRefusal, journalRefusal}
 use Rattle.journal_rules.specs.declared.Entry.{Entry}
 
 -- ---- an entry read

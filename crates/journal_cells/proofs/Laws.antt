@@ -6,7 +6,7 @@ use Prim.Native.Nat.{ℕ, zero, suc, _+_, _≤_, _<_}
 use native.Mathlib.Omega.{arith}
 use lib.Dec.{leb, ltb, eqb}
 use lib.ListN.{length, take, drop, set}
-use borrow.Author.Tests.{le-leb, lt-leb, ltb-true, ltb-false, leb-true, leb-false, eq-eqb, ne-eqb}
+use borrow.Author.Tests.{le-leb, lt-leb, ltb-true, ltb-false, leb-true, eq-eqb, ne-eqb}
 use Rattle.doubles.specs.Lists.{_#_}
 use Rattle.doubles.proofs.Loops.{both-true}
 use Rattle.doubles.proofs.Bools.{by-test, never}

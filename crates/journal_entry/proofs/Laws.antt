@@ -1,5 +1,5 @@
 -- An entry's edits, and what they find on a sheet. Assumes nothing.
-use mathlib.Core.Path.{_≡_, refl, sym, ap, ap₂, _∙_}
+use mathlib.Core.Path.{_≡_, refl, ap, ap₂, _∙_}
 use mathlib.Core.Logic.{_⊎_, inl, inr, ⊎-elim}
 use mathlib.Core.Bool.{Bool, true, false, _&&_, _||_}
 use Prim.Native.Nat.{ℕ, zero, suc, _≤_}
@@ -9,8 +9,8 @@ use lib.IntN.{ℤ}
 use borrow.Author.Tests.{eqb-true}
 use Rattle.doubles.proofs.Bools.{never}
 use Rattle.sheet_rules.specs.Sheet.{Plan, Sheet, holds}
-use Rattle.sheet_rules.specs.Edit.{usesColumn, usesRow, oldNumber, oldMark, editRefusal}
-use Rattle.sheet_rules.specs.Words.{Index, Sized}
+use Rattle.sheet_rules.specs.Edit.{usesColumn, usesRow, editRefusal}
+use Rattle.sheet_rules.specs.Words.{Index}
 use Rattle.sheet_rules.specs.declared.Edit.{Edit}
 use Rattle.sheet_tests.specs.Sized.{PlanSized}
 use Rattle.sheet_edit.specs.Rules.{cellAt}

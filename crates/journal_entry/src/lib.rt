@@ -1,11 +1,12 @@
-// What an entry means on a sheet: the entry of an edit, and the refusals of a journaled edit, of an undo and of a fed entry.
+// What an entry means on a sheet: the entry of an edit, and the refusals of a journaled edit, an undo and a fed entry.
 ghost use mathlib.Core.Path.{_≡_};
 ghost use Rattle.sheet_rules.specs.Sheet.{planOf, keptOf, sheetOf};
 ghost use Rattle.sheet_rules.specs.Edit.{editRefusal};
 ghost use Rattle.sheet_rules.specs.Words.{Index};
 ghost use Rattle.sheet_tests.specs.Sized.{PlanSized};
 ghost use Rattle.journal_rules.specs.Undo.{backKind};
-ghost use Rattle.journal_rules.specs.Journal.{used, taken, tidy, entryOf, forth, takeBack, reads, else, unlessSo, takeRefusal, feedRefusal};
+ghost use Rattle.journal_rules.specs.Journal.{used, taken, tidy, entryOf, forth};
+ghost use Rattle.journal_rules.specs.Journal.{takeBack, reads, else, unlessSo, takeRefusal, feedRefusal};
 use journal_rules::Entry;
 use sheet_rules::Edit;
 
@@ -106,8 +107,13 @@ fn reads(
     amounts: &[i64],
     mults: &[i64],
 ) -> bool
-    requires { ⌜ PlanSized (planOf rows columns (now coefs) (now costs) (now lowers) (now uppers) (now «lower_marks») (now «upper_marks») (now rights) (now ops) (now amounts) (now mults)) × Index (planOf rows columns (now coefs) (now costs) (now lowers) (now uppers) (now «lower_marks») (now «upper_marks») (now rights) (now ops) (now amounts) (now mults)) e ⌝ }
-    ensures { λ r. ⌜ r ≡ reads (planOf rows columns (now (coefs .entry)) (now (costs .entry)) (now (lowers .entry)) (now (uppers .entry)) (now («lower_marks» .entry)) (now («upper_marks» .entry)) (now (rights .entry)) (now (ops .entry)) (now (amounts .entry)) (now (mults .entry))) e number mark ⌝ }
+    requires { ⌜ PlanSized (planOf rows columns (now coefs) (now costs) (now lowers) (now uppers) (now «lower_marks»)
+        (now «upper_marks») (now rights) (now ops) (now amounts) (now mults)) × Index (planOf rows columns (now coefs)
+        (now costs) (now lowers) (now uppers) (now «lower_marks») (now «upper_marks») (now rights) (now ops)
+        (now amounts) (now mults)) e ⌝ }
+    ensures { λ r. ⌜ r ≡ reads (planOf rows columns (now (coefs .entry)) (now (costs .entry)) (now (lowers .entry))
+        (now (uppers .entry)) (now («lower_marks» .entry)) (now («upper_marks» .entry)) (now (rights .entry))
+        (now (ops .entry)) (now (amounts .entry)) (now (mults .entry))) e number mark ⌝ }
 {
     let cell = sheet_edit::old_cell(
         e,
@@ -143,8 +149,13 @@ pub fn entry_of(
     amounts: &[i64],
     mults: &[i64],
 ) -> Entry
-    requires { ⌜ PlanSized (planOf rows columns (now coefs) (now costs) (now lowers) (now uppers) (now «lower_marks») (now «upper_marks») (now rights) (now ops) (now amounts) (now mults)) × Index (planOf rows columns (now coefs) (now costs) (now lowers) (now uppers) (now «lower_marks») (now «upper_marks») (now rights) (now ops) (now amounts) (now mults)) e ⌝ }
-    ensures { λ r. ⌜ r ≡ entryOf (planOf rows columns (now (coefs .entry)) (now (costs .entry)) (now (lowers .entry)) (now (uppers .entry)) (now («lower_marks» .entry)) (now («upper_marks» .entry)) (now (rights .entry)) (now (ops .entry)) (now (amounts .entry)) (now (mults .entry))) e ⌝ }
+    requires { ⌜ PlanSized (planOf rows columns (now coefs) (now costs) (now lowers) (now uppers) (now «lower_marks»)
+        (now «upper_marks») (now rights) (now ops) (now amounts) (now mults)) × Index (planOf rows columns (now coefs)
+        (now costs) (now lowers) (now uppers) (now «lower_marks») (now «upper_marks») (now rights) (now ops)
+        (now amounts) (now mults)) e ⌝ }
+    ensures { λ r. ⌜ r ≡ entryOf (planOf rows columns (now (coefs .entry)) (now (costs .entry)) (now (lowers .entry))
+        (now (uppers .entry)) (now («lower_marks» .entry)) (now («upper_marks» .entry)) (now (rights .entry))
+        (now (ops .entry)) (now (amounts .entry)) (now (mults .entry))) e ⌝ }
 {
     let t = tidied(e);
     let cell = sheet_edit::old_cell(
@@ -196,8 +207,19 @@ fn where_refusal(
     b: &[i64],
     counts: &[i64],
 ) -> usize
-    requires { ⌜ (editRefusal (sheetOf (planOf rows columns (now coefs) (now costs) (now lowers) (now uppers) (now «lower_marks») (now «upper_marks») (now rights) (now ops) (now amounts) (now mults)) (keptOf (now r) (now d) (now c) (now b) (now counts))) e ≡ 0 → Index (planOf rows columns (now coefs) (now costs) (now lowers) (now uppers) (now «lower_marks») (now «upper_marks») (now rights) (now ops) (now amounts) (now mults)) f) ⌝ }
-    ensures { λ z. ⌜ z ≡ else (editRefusal (sheetOf (planOf rows columns (now (coefs .entry)) (now (costs .entry)) (now (lowers .entry)) (now (uppers .entry)) (now («lower_marks» .entry)) (now («upper_marks» .entry)) (now (rights .entry)) (now (ops .entry)) (now (amounts .entry)) (now (mults .entry))) (keptOf (now (r .entry)) (now (d .entry)) (now (c .entry)) (now (b .entry)) (now (counts .entry)))) e) (unlessSo 36 (reads (planOf rows columns (now (coefs .entry)) (now (costs .entry)) (now (lowers .entry)) (now (uppers .entry)) (now («lower_marks» .entry)) (now («upper_marks» .entry)) (now (rights .entry)) (now (ops .entry)) (now (amounts .entry)) (now (mults .entry))) f number mark)) ⌝ }
+    requires { ⌜ (editRefusal (sheetOf (planOf rows columns (now coefs) (now costs) (now lowers) (now uppers)
+        (now «lower_marks») (now «upper_marks») (now rights) (now ops) (now amounts) (now mults))
+        (keptOf (now r) (now d) (now c) (now b) (now counts))) e
+        ≡ 0 → Index (planOf rows columns (now coefs) (now costs) (now lowers) (now uppers) (now «lower_marks»)
+        (now «upper_marks») (now rights) (now ops) (now amounts) (now mults)) f) ⌝ }
+    ensures { λ z. ⌜ z ≡ else (editRefusal
+        (sheetOf (planOf rows columns (now (coefs .entry)) (now (costs .entry)) (now (lowers .entry))
+        (now (uppers .entry)) (now («lower_marks» .entry)) (now («upper_marks» .entry)) (now (rights .entry))
+        (now (ops .entry)) (now (amounts .entry)) (now (mults .entry)))
+        (keptOf (now (r .entry)) (now (d .entry)) (now (c .entry)) (now (b .entry)) (now (counts .entry)))) e)
+        (unlessSo 36 (reads (planOf rows columns (now (coefs .entry)) (now (costs .entry)) (now (lowers .entry))
+        (now (uppers .entry)) (now («lower_marks» .entry)) (now («upper_marks» .entry)) (now (rights .entry))
+        (now (ops .entry)) (now (amounts .entry)) (now (mults .entry))) f number mark)) ⌝ }
 {
     let refusal = sheet_edit::edit_refusal(
         e,
@@ -265,7 +287,10 @@ pub fn take_refusal(
     b: &[i64],
     counts: &[i64],
 ) -> usize
-    ensures { λ z. ⌜ z ≡ takeRefusal (sheetOf (planOf rows columns (now (coefs .entry)) (now (costs .entry)) (now (lowers .entry)) (now (uppers .entry)) (now («lower_marks» .entry)) (now («upper_marks» .entry)) (now (rights .entry)) (now (ops .entry)) (now (amounts .entry)) (now (mults .entry))) (keptOf (now (r .entry)) (now (d .entry)) (now (c .entry)) (now (b .entry)) (now (counts .entry)))) n ⌝ }
+    ensures { λ z. ⌜ z ≡ takeRefusal (sheetOf (planOf rows columns (now (coefs .entry)) (now (costs .entry))
+        (now (lowers .entry)) (now (uppers .entry)) (now («lower_marks» .entry)) (now («upper_marks» .entry))
+        (now (rights .entry)) (now (ops .entry)) (now (amounts .entry)) (now (mults .entry)))
+        (keptOf (now (r .entry)) (now (d .entry)) (now (c .entry)) (now (b .entry)) (now (counts .entry)))) n ⌝ }
 {
     let e = take_back(n);
     let f = forth(n);
@@ -316,7 +341,10 @@ pub fn feed_refusal(
     b: &[i64],
     counts: &[i64],
 ) -> usize
-    ensures { λ z. ⌜ z ≡ feedRefusal (sheetOf (planOf rows columns (now (coefs .entry)) (now (costs .entry)) (now (lowers .entry)) (now (uppers .entry)) (now («lower_marks» .entry)) (now («upper_marks» .entry)) (now (rights .entry)) (now (ops .entry)) (now (amounts .entry)) (now (mults .entry))) (keptOf (now (r .entry)) (now (d .entry)) (now (c .entry)) (now (b .entry)) (now (counts .entry)))) n ⌝ }
+    ensures { λ z. ⌜ z ≡ feedRefusal (sheetOf (planOf rows columns (now (coefs .entry)) (now (costs .entry))
+        (now (lowers .entry)) (now (uppers .entry)) (now («lower_marks» .entry)) (now («upper_marks» .entry))
+        (now (rights .entry)) (now (ops .entry)) (now (amounts .entry)) (now (mults .entry)))
+        (keptOf (now (r .entry)) (now (d .entry)) (now (c .entry)) (now (b .entry)) (now (counts .entry)))) n ⌝ }
 {
     let e = forth(n);
     where_refusal(

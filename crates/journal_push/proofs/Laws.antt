@@ -1,12 +1,12 @@
 -- Blocks of a lent journal, written. Assumes nothing.
 use mathlib.Core.Path.{_≡_, refl, sym, ap, ap₂, _∙_}
 use mathlib.Core.List.{List, [], _∷_, _++_}
-use Prim.Native.Nat.{ℕ, zero, suc, _+_, _-_, _*_, _/_, _%_, _<_, _≤_, min}
+use Prim.Native.Nat.{ℕ, zero, suc, _+_, _-_, _*_, _/_, _%_, _<_, _≤_}
 use native.Mathlib.Omega.{arith}
-use lib.ListN.{length, take, drop, set, length-append, length-take, length-drop, length-set}
+use lib.ListN.{length, take, drop, set, length-append, length-take}
 use lib.Seq.{take-at, length-take-le, sets, sets-eq, length-sets}
 use borrow.Rule.Slice.PartMut.{putMid}
-use Rattle.file_rules.specs.Block.{blockSize, block}
+use Rattle.file_rules.specs.Block.{block}
 use Rattle.file_rules.proofs.Block.{block-length}
 use Rattle.file_write.proofs.Laws.{mid-is}
 use Rattle.journal_rules.specs.File.{entryBytes}

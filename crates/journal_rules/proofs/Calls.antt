@@ -1,8 +1,8 @@
 -- The calls on lent bytes are those on a desk, and what a sequence of them leaves. Assumes nothing.
-use mathlib.Core.Path.{_≡_, refl, sym, ap, ap₂, _∙_, subst}
+use mathlib.Core.Path.{_≡_, refl, sym, ap, _∙_, subst}
 use mathlib.Core.Bool.{Bool, true, false}
 use mathlib.Core.List.{List, [], _∷_, _++_}
-use Prim.Native.Nat.{ℕ, zero, suc, _+_, _-_, _*_, _/_, _≤_, _<_, min}
+use Prim.Native.Nat.{ℕ, zero, suc, _+_, _-_, _/_, _≤_}
 use native.Mathlib.Omega.{arith}
 use lib.Dec.{ltb}
 use lib.ListN.{length, length-append}
@@ -29,7 +29,7 @@ unfoldable pub oldest : List Entry → List Entry
 oldest [] = []
 oldest (n ∷ es) = oldest es ++ (n ∷ [])
 
-oldest-length : (es : List Entry) → length (oldest es) ≡ length es
+pub oldest-length : (es : List Entry) → length (oldest es) ≡ length es
 unfolding oldest
 oldest-length [] = refl
 oldest-length (n ∷ es) = omega (arith, length-append (oldest es) (n ∷ []), oldest-length es)

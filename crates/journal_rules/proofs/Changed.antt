@@ -1,13 +1,13 @@
 -- One byte of a journal changed: the test of the lent bytes answers 31 or 32. Assumes nothing.
-use mathlib.Core.Path.{_≡_, refl, sym, ap, ap₂, _∙_}
+use mathlib.Core.Path.{_≡_, refl, sym, ap, _∙_}
 use mathlib.Core.Logic.{_⊎_, inl, inr}
 use mathlib.Core.Bool.{Bool, true, false}
 use mathlib.Core.List.{List, [], _∷_, _++_, append-assoc}
 use Prim.Native.Nat.{ℕ, zero, suc, _+_, _-_, _*_, _/_, _≤_, _<_}
 use native.Mathlib.Omega.{arith}
 use lib.Dec.{leb, ltb, eqb}
-use lib.ListN.{length, getD, take, drop, set, length-append, length-drop, length-take, length-set, take-append-drop, List·getD-append}
-use lib.Seq.{take-at, drop-at, set-append-left, getD-append-add}
+use lib.ListN.{length, getD, take, drop, set, length-append, length-drop, length-take, length-set, List·getD-append}
+use lib.Seq.{take-at, set-append-left, getD-append-add}
 use borrow.Author.Tests.{le-leb, leb-true, leb-false, le-ltb}
 use Rattle.doubles.specs.Lists.{_#_}
 use Rattle.doubles.proofs.Bools.{by-test}
@@ -19,7 +19,7 @@ use Rattle.journal_rules.specs.File.{journalKind, perBlock, journalBlock
 use Rattle.journal_rules.specs.Lent.{testBy, test, wholeBlocks, tested}
 use Rattle.journal_rules.specs.declared.Entry.{Entry}
 use Rattle.journal_rules.specs.declared.Tested.{Tested}
-use Rattle.journal_rules.proofs.File.{AllFit, fit-take, fit-drop, entries-bytes, end-kind, end-fine, inside, inside-length, count-at, kind-at, inside-block, inside-fine}
+use Rattle.journal_rules.proofs.File.{AllFit, fit-take, fit-drop, entries-bytes, inside, inside-length, count-at, kind-at, inside-fine}
 use Rattle.journal_rules.proofs.Lent.{Holds, block-size, end-size, blocks-size, whole-more, test-one}
 
 abbrev Refuses : Tested → Type 0

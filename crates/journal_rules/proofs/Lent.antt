@@ -3,7 +3,7 @@ use mathlib.Core.Path.{_≡_, refl, sym, ap, ap₂, _∙_}
 use mathlib.Core.Logic.{_⊎_, inl, inr}
 use mathlib.Core.Bool.{Bool, true, false}
 use mathlib.Core.List.{List, [], _∷_, _++_, append-assoc, append-nil}
-use Prim.Native.Nat.{ℕ, zero, suc, _+_, _-_, _*_, _/_, _%_, _≤_, _<_, min}
+use Prim.Native.Nat.{ℕ, zero, suc, _+_, _*_, _/_, _%_, _≤_, _<_}
 use native.Mathlib.Omega.{arith}
 use lib.Dec.{ltb, eqb}
 use lib.ListN.{length, take, drop, set, length-append, length-take, length-drop, take-append-drop}
@@ -11,13 +11,12 @@ use lib.Seq.{take-at, drop-at, take-all, take-append-le, drop-append-le, drop-dr
 use borrow.Author.Tests.{le-ltb}
 use Rattle.doubles.specs.Lists.{_#_}
 use Rattle.doubles.proofs.Bools.{same?}
-use Rattle.file_rules.specs.Block.{blockSize, block}
+use Rattle.file_rules.specs.Block.{block}
 use Rattle.file_rules.proofs.Block.{block-length}
 use Rattle.journal_rules.specs.File.{entrySize, entryBytes, entryFrom, entriesBytes, perBlock, journalBlocks, journalFile, journalRefusal}
 use Rattle.journal_rules.specs.Lent.{testedOf, testBy, test, wholeBlocks, tested, roomOf, blockAt, putBlock, entryAt, front, endBehind, pushed, shorter, popped}
 use Rattle.journal_rules.specs.declared.Entry.{Entry}
-use Rattle.journal_rules.specs.declared.Tested.{Tested}
-use Rattle.journal_rules.proofs.File.{Fits, AllFit, none, more, fit-take, fit-drop, fit-append, entry-back, entry-length, entries-length, end-kind, end-fine, inside, inside-length, count-at, kind-at, tail, behind, inside-block, inside-fine}
+use Rattle.journal_rules.proofs.File.{Fits, AllFit, none, more, fit-take, fit-drop, fit-append, entry-back, entries-length, end-kind, end-fine, inside, inside-length, count-at, kind-at, tail, behind, inside-block, inside-fine}
 
 -- ---- stores behind a front
 pub sets-past : (vs l : List ℕ) (i x : ℕ) → sets (x ∷ l) (suc i) vs ≡ x ∷ sets l i vs

@@ -1,9 +1,8 @@
 -- Demand 3 over one sequence of openings, edits, journaled edits, undos and feeds. Assumes nothing.
-use mathlib.Core.Path.{_≡_, refl, sym, subst}
+use mathlib.Core.Path.{refl, sym, subst}
 use mathlib.Core.Bool.{Bool, true, false}
 use mathlib.Core.List.{List, [], _∷_}
 use Prim.Native.Nat.{ℕ, zero, suc}
-use lib.Dec.{leb, eqb}
 use lib.ListN.{take, drop}
 use Rattle.doubles.specs.Loop.{each}
 use Rattle.doubles.specs.Lists.{_#_}
@@ -14,10 +13,10 @@ use Rattle.sheet_rules.specs.Meaning.{Demand3}
 use Rattle.sheet_rules.specs.Meaning as Base
 use Rattle.sheet_rules.specs.declared.Edit.{Edit}
 use Rattle.sheet_rules.proofs.Meaning.{demand-3}
-use Rattle.journal_rules.specs.Journal.{forth, takeBack, left, feedRefusal}
+use Rattle.journal_rules.specs.Journal.{forth, left, feedRefusal}
 use Rattle.journal_rules.specs.File.{entriesFrom}
 use Rattle.journal_rules.specs.Lent.{Lent, kept, undone, keepsRefusal, undoesRefusal}
-use Rattle.journal_rules.specs.Feed.{Feed, feedOf, applyBy, fedEntry, goOn, applyAll, saysBy, afterBlock, takeBlock, takeWhole, feedBy, feedByte, feed, feedFine, feedFrom, Fed, fedBy}
+use Rattle.journal_rules.specs.Feed.{Feed, applyBy, fedEntry, goOn, applyAll, afterBlock, takeBlock, takeWhole, feedBy, feedByte, feed, feedFine, feedFrom, Fed, fedBy}
 use Rattle.journal_rules.specs.Meaning.{Called}
 use Rattle.journal_rules.specs.declared.Entry.{Entry}
 

@@ -1,12 +1,11 @@
 -- `journal_bytes::is_clean` meets its contract. Assumes nothing.
 use mathlib.Core.Path.{ap, _∙_}
-use mathlib.Core.Bool.{Bool, not, _&&_, _||_}
+use mathlib.Core.Bool.{Bool, _&&_, _||_}
 use lib.Dec.{leb, eqb}
 use Rattle.sheet_terms.proofs.Machine.{result}
 use Rattle.sheet_rules.specs.Verdict.{isZero}
 use Rattle.sheet_rules.specs.Edit.{usesRow, usesColumn}
 use Rattle.journal_rules.specs.File.{clean}
-use Rattle.journal_rules.specs.declared.Entry.{Entry}
 use borrow.Author.Needs.{needs}
 use Rattle.journal_bytes.proofs.is_clean.Statement.{statement}
 use Rattle.journal_bytes.proofs.is_clean.Tie as tie

@@ -1,6 +1,6 @@
 -- `journal_cells::put_byte` meets its contract. Assumes nothing.
 use mathlib.Core.Path.{_≡_, refl, ap}
-use Prim.Native.Nat.{ℕ, suc, _+_}
+use Prim.Native.Nat.{suc, _+_}
 use native.Mathlib.Omega.{arith}
 use lib.Dec.{leb}
 use Rattle.doubles.specs.Lists.{_#_}

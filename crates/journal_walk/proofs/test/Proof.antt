@@ -1,8 +1,8 @@
 -- `journal_walk::test` meets its contract. Assumes nothing.
 use mathlib.Core.Path.{_≡_, _∙_}
-use Prim.Native.Nat.{ℕ, _+_, _-_, _*_, _≤_}
+use Prim.Native.Nat.{_-_, _*_, _≤_}
 use native.Mathlib.Omega.{arith}
-use lib.ListN.{length, drop}
+use lib.ListN.{drop}
 use borrow.Author.Needs.{needs}
 use Rattle.journal_rules.specs.Lent.{test, tested}
 use Rattle.journal_walk.proofs.Laws.{whole-in, whole-few, refused-here, ends-here, goes-on, test-start, test-none}
