@@ -13,6 +13,7 @@ ghost use Rattle.rules.specs.Solve.{solvePlan};
 ghost use Rattle.face.specs.Face.{triResult, sheetNumbers, faced, facedBy};
 
 mod files;
+mod journals;
 
 // with_diag 0: all ones on the diagonal, and diag isn't read.
 #[no_mangle]
