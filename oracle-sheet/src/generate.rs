@@ -589,7 +589,12 @@ fn other_edit(rng: &mut Rng, s: &Sheet, kind: u64) -> Edit {
 
 /// One edit as a user might try it, on whatever the sheet is.
 fn common_edit(rng: &mut Rng, script: &mut Script, kind_max: u64) {
-    let s = &script.live;
+    if let Some(edit) = some_edit(rng, &script.live, kind_max) {
+        script.edit(edit);
+    }
+}
+
+pub(crate) fn some_edit(rng: &mut Rng, s: &Sheet, kind_max: u64) -> Option<Edit> {
     let kind = rng.range(1, 9) as u64;
     let roll = rng.below(100);
     let edit = if roll < 5 {
@@ -607,10 +612,7 @@ fn common_edit(rng: &mut Rng, script: &mut Script, kind_max: u64) {
         likely(rng, s, kind)
     };
     // A sheet with no rows or no columns has no such cell: the index is then bad.
-    let edit = edit.or_else(|| faulty(rng, s, kind, 11));
-    if let Some(edit) = edit {
-        script.edit(edit);
-    }
+    edit.or_else(|| faulty(rng, s, kind, 11))
 }
 
 fn small_size(rng: &mut Rng) -> (usize, usize) {

@@ -4,6 +4,8 @@
 pub mod file;
 pub mod file_cases;
 pub mod generate;
+pub mod journal;
+pub mod journal_cases;
 pub mod reference;
 pub mod tally;
 

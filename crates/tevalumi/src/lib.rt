@@ -14,6 +14,7 @@ ghost use Rattle.state.specs.Memory.{memoryIn, pastOf, handed};
 ghost use Rattle.face.specs.Face.{triResult, sheetNumbers, faced, facedBy};
 
 mod files;
+mod journals;
 mod wholes;
 
 // with_diag 0: all ones on the diagonal, and diag isn't read.

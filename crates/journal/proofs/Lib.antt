@@ -1,0 +1,2 @@
+-- The journal's calls.
+pub mod Laws

@@ -1,0 +1,2 @@
+-- The bytes of a journal.
+pub mod Laws

@@ -1,0 +1,2 @@
+-- What an entry means on a sheet.
+pub mod Laws

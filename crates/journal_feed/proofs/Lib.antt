@@ -1,0 +1,2 @@
+-- A feed in pieces.
+pub mod Laws

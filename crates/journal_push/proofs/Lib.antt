@@ -1,0 +1,2 @@
+-- A lent journal, written.
+pub mod Laws

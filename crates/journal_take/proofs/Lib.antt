@@ -1,0 +1,2 @@
+-- A feed's blocks.
+pub mod Laws

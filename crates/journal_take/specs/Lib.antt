@@ -1,0 +1,2 @@
+-- What a step of a feed leaves.
+pub mod Steps

@@ -1,0 +1,2 @@
+-- A lent journal, read.
+pub mod Laws
