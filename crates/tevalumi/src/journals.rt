@@ -1,14 +1,14 @@
 // The journal of a sheet's edits, for C and Rust (02, Ask 12).
 ghost use Rattle.sheet_rules.specs.Sheet.{planOf, keptOf, sheetOf};
-ghost use Rattle.journal_rules.specs.Lent.{lent};
-ghost use Rattle.journal_rules.specs.Feed.{fedOf};
-ghost use Rattle.journal_rules.specs.Promises.{Begins, Keeps, Undoes, Feeds, Closes};
+ghost use Rattle.file_journal_rules.specs.Lent.{lent};
+ghost use Rattle.file_journal_rules.specs.Feed.{fedOf};
+ghost use Rattle.file_journal_rules.specs.Promises.{Begins, Keeps, Undoes, Feeds, Closes};
 
 #[no_mangle]
 pub extern "C" fn tevalumi_journal_begin(journal: &mut [u8]) -> usize
     ensures { λ r. ⌜ Begins (now (journal .entry)) r (now (journal .exit)) ⌝ }
 {
-    journal_push::begin(journal)
+    file_journal_push::begin(journal)
 }
 
 #[no_mangle]
@@ -25,7 +25,7 @@ pub extern "C" fn tevalumi_journal_edit(
     uppers: &mut [i64],
     lower_marks: &mut [u8],
     upper_marks: &mut [u8],
-    rights: &mut [i64],
+    rhs: &mut [i64],
     ops: &[u8],
     amounts: &mut [i64],
     mults: &mut [i64],
@@ -38,16 +38,16 @@ pub extern "C" fn tevalumi_journal_edit(
 ) -> usize
     ensures { λ z. ⌜ Keeps (lent (sheetOf (planOf rows columns (now (coefs .entry)) (now (costs .entry))
         (now (lowers .entry)) (now (uppers .entry)) (now («lower_marks» .entry)) (now («upper_marks» .entry))
-        (now (rights .entry)) (now (ops .entry)) (now (amounts .entry)) (now (mults .entry)))
+        (now (rhs .entry)) (now (ops .entry)) (now (amounts .entry)) (now (mults .entry)))
         (keptOf (now (r .entry)) (now (d .entry)) (now (c .entry)) (now (b .entry)) (now (counts .entry))))
         (now (journal .entry))) (record { kind = kind; row = row; column = column; number = number }) z (lent
         (sheetOf (planOf rows columns (now (coefs .exit)) (now (costs .exit)) (now (lowers .exit))
-        (now (uppers .exit)) (now («lower_marks» .exit)) (now («upper_marks» .exit)) (now (rights .exit))
+        (now (uppers .exit)) (now («lower_marks» .exit)) (now («upper_marks» .exit)) (now (rhs .exit))
         (now (ops .entry)) (now (amounts .exit)) (now (mults .exit)))
         (keptOf (now (r .exit)) (now (d .exit)) (now (c .exit)) (now (b .exit)) (now (counts .exit))))
         (now (journal .exit))) ⌝ }
 {
-    journal::edit(
+    file_journal::edit(
         kind,
         row,
         column,
@@ -60,7 +60,7 @@ pub extern "C" fn tevalumi_journal_edit(
         uppers,
         lower_marks,
         upper_marks,
-        rights,
+        rhs,
         ops,
         amounts,
         mults,
@@ -83,7 +83,7 @@ pub extern "C" fn tevalumi_journal_undo(
     uppers: &mut [i64],
     lower_marks: &mut [u8],
     upper_marks: &mut [u8],
-    rights: &mut [i64],
+    rhs: &mut [i64],
     ops: &[u8],
     amounts: &mut [i64],
     mults: &mut [i64],
@@ -96,15 +96,15 @@ pub extern "C" fn tevalumi_journal_undo(
 ) -> usize
     ensures { λ z. ⌜ Undoes (lent (sheetOf (planOf rows columns (now (coefs .entry)) (now (costs .entry))
         (now (lowers .entry)) (now (uppers .entry)) (now («lower_marks» .entry)) (now («upper_marks» .entry))
-        (now (rights .entry)) (now (ops .entry)) (now (amounts .entry)) (now (mults .entry)))
+        (now (rhs .entry)) (now (ops .entry)) (now (amounts .entry)) (now (mults .entry)))
         (keptOf (now (r .entry)) (now (d .entry)) (now (c .entry)) (now (b .entry)) (now (counts .entry))))
         (now (journal .entry))) z (lent (sheetOf (planOf rows columns (now (coefs .exit)) (now (costs .exit))
         (now (lowers .exit)) (now (uppers .exit)) (now («lower_marks» .exit)) (now («upper_marks» .exit))
-        (now (rights .exit)) (now (ops .entry)) (now (amounts .exit)) (now (mults .exit)))
+        (now (rhs .exit)) (now (ops .entry)) (now (amounts .exit)) (now (mults .exit)))
         (keptOf (now (r .exit)) (now (d .exit)) (now (c .exit)) (now (b .exit)) (now (counts .exit))))
         (now (journal .exit))) ⌝ }
 {
-    journal::undo(
+    file_journal::undo(
         rows,
         columns,
         coefs,
@@ -113,7 +113,7 @@ pub extern "C" fn tevalumi_journal_undo(
         uppers,
         lower_marks,
         upper_marks,
-        rights,
+        rhs,
         ops,
         amounts,
         mults,
@@ -137,7 +137,7 @@ pub extern "C" fn tevalumi_journal_feed(
     uppers: &mut [i64],
     lower_marks: &mut [u8],
     upper_marks: &mut [u8],
-    rights: &mut [i64],
+    rhs: &mut [i64],
     ops: &[u8],
     amounts: &mut [i64],
     mults: &mut [i64],
@@ -151,17 +151,17 @@ pub extern "C" fn tevalumi_journal_feed(
 ) -> usize
     ensures { λ z. ⌜ Feeds (now (piece .entry))
         (sheetOf (planOf rows columns (now (coefs .entry)) (now (costs .entry)) (now (lowers .entry))
-        (now (uppers .entry)) (now («lower_marks» .entry)) (now («upper_marks» .entry)) (now (rights .entry))
+        (now (uppers .entry)) (now («lower_marks» .entry)) (now («upper_marks» .entry)) (now (rhs .entry))
         (now (ops .entry)) (now (amounts .entry)) (now (mults .entry)))
         (keptOf (now (r .entry)) (now (d .entry)) (now (c .entry)) (now (b .entry)) (now (counts .entry))))
         (now (waiting .entry)) (now (cells .entry)) (fedOf z
         (sheetOf (planOf rows columns (now (coefs .exit)) (now (costs .exit)) (now (lowers .exit))
-        (now (uppers .exit)) (now («lower_marks» .exit)) (now («upper_marks» .exit)) (now (rights .exit))
+        (now (uppers .exit)) (now («lower_marks» .exit)) (now («upper_marks» .exit)) (now (rhs .exit))
         (now (ops .entry)) (now (amounts .exit)) (now (mults .exit)))
         (keptOf (now (r .exit)) (now (d .exit)) (now (c .exit)) (now (b .exit)) (now (counts .exit))))
         (now (waiting .exit)) (now (cells .exit))) ⌝ }
 {
-    journal_feed::feed(
+    file_journal_feed::feed(
         piece,
         rows,
         columns,
@@ -171,7 +171,7 @@ pub extern "C" fn tevalumi_journal_feed(
         uppers,
         lower_marks,
         upper_marks,
-        rights,
+        rhs,
         ops,
         amounts,
         mults,
@@ -189,5 +189,5 @@ pub extern "C" fn tevalumi_journal_feed(
 pub extern "C" fn tevalumi_journal_close(cells: &[usize]) -> usize
     ensures { λ r. ⌜ Closes (now (cells .entry)) r ⌝ }
 {
-    journal_cells::close(cells)
+    file_journal_cells::close(cells)
 }

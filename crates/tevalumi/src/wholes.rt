@@ -1,7 +1,7 @@
 // Doubles to whole numbers, for C and Rust (02, Ask 3).
 ghost use mathlib.Core.Path.{_≡_};
-ghost use Rattle.whole.specs.Whole.{amountOf, multiplierOf};
-ghost use Rattle.propose.specs.Propose.{lentOf};
+ghost use Rattle.whole_round.specs.Whole.{amountOf, multiplierOf};
+ghost use Rattle.whole_propose.specs.Propose.{lentOf};
 ghost use Rattle.whole_face.specs.Numbers.{wholeNumbers, ProposesNumbers};
 
 // One number's case, as an amount.
@@ -9,7 +9,7 @@ ghost use Rattle.whole_face.specs.Numbers.{wholeNumbers, ProposesNumbers};
 pub extern "C" fn tevalumi_amount(value: f64) -> whole_face::TevalumiWhole
     ensures { λ r. ⌜ r ≡ wholeNumbers (amountOf value) ⌝ }
 {
-    let r = whole::amount(value);
+    let r = whole_round::amount(value);
     whole_face::whole_answer(r)
 }
 
@@ -18,7 +18,7 @@ pub extern "C" fn tevalumi_amount(value: f64) -> whole_face::TevalumiWhole
 pub extern "C" fn tevalumi_multiplier(op: u8, price: f64) -> whole_face::TevalumiWhole
     ensures { λ r. ⌜ r ≡ wholeNumbers (multiplierOf op price) ⌝ }
 {
-    let r = whole::multiplier(op, price);
+    let r = whole_round::multiplier(op, price);
     whole_face::whole_answer(r)
 }
 
@@ -34,9 +34,11 @@ pub extern "C" fn tevalumi_propose(
     amounts: &mut [i64],
     mults: &mut [i64],
 ) -> whole_face::TevalumiProposal
-    ensures { λ r. ⌜ ProposesNumbers (lentOf columns rows (now (starts .entry)) (now (ops .entry)) (now (values .entry)) (now (numbers .entry)) (now (doubles .entry)) (now (amounts .entry)) (now (mults .entry))) r (now (amounts .exit)) (now (mults .exit)) ⌝ }
+    ensures { λ r. ⌜ ProposesNumbers (lentOf columns rows (now (starts .entry)) (now (ops .entry)) (now (values .entry))
+        (now (numbers .entry)) (now (doubles .entry)) (now (amounts .entry)) (now (mults .entry))) r
+        (now (amounts .exit)) (now (mults .exit)) ⌝ }
 {
-    let p = propose::propose(
+    let p = whole_propose::propose(
         columns,
         rows,
         starts,

@@ -5,11 +5,11 @@ use Prim.Native.Nat.{ℕ}
 use lib.IntN.{ℤ, pos}
 use lib.Ieee.{Float}
 use Rattle.doubles.specs.Num.{f0}
-use Rattle.whole.specs.declared.Rounded.{Rounded}
-use Rattle.whole.specs.declared.Rounded.the-variants.{Whole, Beyond, NotANumber}
-use Rattle.propose.specs.declared.Proposal.{Proposal}
-use Rattle.propose.specs.declared.Proposal.the-variants.{Proposed, Nothing, Refused, AmountNotWhole, MultiplierNotWhole}
-use Rattle.propose.specs.Propose.{Lent, proposed}
+use Rattle.whole_round.specs.declared.Rounded.{Rounded}
+use Rattle.whole_round.specs.declared.Rounded.the-variants.{Whole, Beyond, NotANumber}
+use Rattle.whole_propose.specs.declared.Proposal.{Proposal}
+use Rattle.whole_propose.specs.declared.Proposal.the-variants.{Proposed, Nothing, Refused, AmountNotWhole, MultiplierNotWhole}
+use Rattle.whole_propose.specs.Propose.{Lent, proposed}
 use Rattle.whole_face.specs.declared.TevalumiWhole.{TevalumiWhole}
 use Rattle.whole_face.specs.declared.TevalumiProposal.{TevalumiProposal}
 

@@ -1,8 +1,8 @@
 // The answers on whole numbers as the numbers that the face hands out.
 ghost use mathlib.Core.Path.{_≡_};
 ghost use Rattle.whole_face.specs.Numbers.{wholeFace, wholeNumbers, proposalFace, noCase, proposalNumbers};
-use propose::Proposal;
-use whole::Rounded;
+use whole_propose::Proposal;
+use whole_round::Rounded;
 
 // Kind 0 whole, 1 beyond, 2 not a number; the whole number, and the double that is beyond.
 #[repr(C)]

@@ -1,8 +1,8 @@
 -- `tevalumi::journals::tevalumi_journal_edit`: the call below it. Assumes nothing.
 use Rattle.sheet_rules.specs.Sheet.{planOf, keptOf, sheetOf}
 use Rattle.sheet_terms.proofs.Machine.{of-word}
-use Rattle.journal_rules.specs.Lent.{lent}
-use Rattle.journal.proofs.Laws.{handed}
+use Rattle.file_journal_rules.specs.Lent.{lent}
+use Rattle.file_journal.proofs.Laws.{handed}
 use Rattle.tevalumi.proofs.journals.tevalumi_journal_edit.Statement.{statement}
 use Rattle.tevalumi.proofs.journals.tevalumi_journal_edit.Tie as tie
 
@@ -61,7 +61,7 @@ same-length-15 c = edit-at c .edit .kept .1 .1 .1 .1 .1 .1 .1 .1 .1 .1 .1 .1 .1 
 returns : tie.Need-returns
 returns c =
     let s = edit-at c .before .before .before .before .before .before .before .before .before .before .before .before .before .before .before .before .before .before .before .before in
-    handed (lent (sheetOf (planOf (s .args .rows) (s .args .columns) (s .args .coefs .now) (s .args .costs .now) (s .args .lowers .now) (s .args .uppers .now) (s .args .lower-marks .now) (s .args .upper-marks .now) (s .args .rights .now) (s .args .ops .now) (s .args .amounts .now) (s .args .mults .now)) (keptOf (s .args .r .now) (s .args .d .now) (s .args .c .now) (s .args .b .now) (s .args .counts .now))) (s .args .journal .now)) (s .args .kind) (s .args .row) (s .args .column) _ (s .args .number) (of-word (s .fits .number)) _ _ (edit-at c .edit .ensures)
+    handed (lent (sheetOf (planOf (s .args .rows) (s .args .columns) (s .args .coefs .now) (s .args .costs .now) (s .args .lowers .now) (s .args .uppers .now) (s .args .lower-marks .now) (s .args .upper-marks .now) (s .args .rhs .now) (s .args .ops .now) (s .args .amounts .now) (s .args .mults .now)) (keptOf (s .args .r .now) (s .args .d .now) (s .args .c .now) (s .args .b .now) (s .args .counts .now))) (s .args .journal .now)) (s .args .kind) (s .args .row) (s .args .column) _ (s .args .number) (of-word (s .fits .number)) _ _ (edit-at c .edit .ensures)
 
 pub tevalumi-journal-edit-spec : {M : Type 1} → statement M
 tevalumi-journal-edit-spec =

@@ -1,7 +1,7 @@
 -- `tevalumi::wholes::tevalumi_propose`: the call below it, its answer as numbers. Assumes nothing.
 use mathlib.Core.Path.{ap, _∙_}
 use borrow.Author.Needs.{needs}
-use Rattle.propose.specs.Propose.{Handed}
+use Rattle.whole_propose.specs.Propose.{Handed}
 use Rattle.whole_face.specs.Numbers.{proposalNumbers}
 use Rattle.tevalumi.proofs.wholes.tevalumi_propose.Statement.{statement}
 use Rattle.tevalumi.proofs.wholes.tevalumi_propose.Tie as tie
