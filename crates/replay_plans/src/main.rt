@@ -2,6 +2,10 @@
 // name. The oracle's answers are the file `stdout` beside this folder. The input is words (crate words): how many
 // plans; then for each its columns, rows, entries, budget and tolerance, and the eight arrays of the plan in their
 // order, each with its length. What the solve writes is lent longer than needed.
+ghost use mathlib.Core.Path.{_≡_};
+ghost use Prim.Native.Nat.{_+_};
+ghost use lib.ListN.{length};
+ghost use Rattle.state.specs.Memory.{numbersEnd, doublesEnd};
 use rules::Answer;
 
 // Room past the limits: a plan may say that it is too large.
@@ -124,10 +128,10 @@ fn starts_shown(etas: usize) -> usize {
     words::least(etas, doubles::ETA_COLUMNS) + 1
 }
 
-fn show_state(columns: usize, numbers: &[usize; NUMBERS], doubles: &[f64; DOUBLES]) {
+fn show_state(columns: usize, numbers: &[usize], doubles: &[f64])
+    requires { ⌜ (length (now numbers) ≡ numbersEnd + 16) × (length (now doubles) ≡ doublesEnd + 16) ⌝ }
+{
     let m = numbers[state::COUNTS];
-    let etas = numbers[state::COUNTS + 1];
-    let entries = numbers[state::COUNTS + 2];
     words::text(b" | kept");
     words::places(&numbers[state::KEPT..state::KEPT_END], m);
     words::text(b" basic");
@@ -146,6 +150,13 @@ fn show_state(columns: usize, numbers: &[usize; NUMBERS], doubles: &[f64; DOUBLE
     );
     words::text(b" price");
     words::doubles(&doubles[state::PRICES..state::PRICES_END], columns);
+}
+
+fn show_rest(columns: usize, numbers: &[usize], doubles: &[f64])
+    requires { ⌜ (length (now numbers) ≡ numbersEnd + 16) × (length (now doubles) ≡ doublesEnd + 16) ⌝ }
+{
+    let etas = numbers[state::COUNTS + 1];
+    let entries = numbers[state::COUNTS + 2];
     words::text(b" norm");
     words::doubles(&doubles[state::NORMS..state::NORMS_END], columns);
     words::text(b" flags");
@@ -163,13 +174,9 @@ fn show_state(columns: usize, numbers: &[usize; NUMBERS], doubles: &[f64; DOUBLE
     words::doubles(&doubles[state::ETA_COEFFS..state::ETA_COEFFS_END], entries);
 }
 
-fn show(
-    answer: Answer,
-    columns: usize,
-    values: &[f64; VALUES],
-    numbers: &[usize; NUMBERS],
-    doubles: &[f64; DOUBLES],
-) {
+fn show(answer: Answer, columns: usize, values: &[f64; VALUES], numbers: &[usize], doubles: &[f64])
+    requires { ⌜ (length (now numbers) ≡ numbersEnd + 16) × (length (now doubles) ≡ doublesEnd + 16) ⌝ }
+{
     let shown = show_answer(answer);
     match shown {
         Shown::Nothing => {
@@ -180,6 +187,7 @@ fn show(
         Shown::ValuesToo => show_values(columns, numbers[state::COUNTS], values),
     }
     show_state(columns, numbers, doubles);
+    show_rest(columns, numbers, doubles);
 }
 
 fn solved(
