@@ -1,5 +1,5 @@
-// The journal's public calls on a sheet. They ask nothing: whatever is lent, the answer and every lent cell afterwards are
-// settled.
+// The journal's public calls on a sheet. They ask nothing: whatever is lent, the answer and every lent cell afterwards
+// are settled.
 ghost use mathlib.Core.Path.{_≡_};
 ghost use lib.Dec.{ltb};
 ghost use Rattle.sheet_rules.specs.Sheet.{planOf, keptOf, sheetOf};
