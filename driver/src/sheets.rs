@@ -315,7 +315,7 @@ impl Arrays {
         edit: Edit,
         journal: &mut [u8],
     ) -> usize {
-        let [coefs, costs, lowers, uppers, rights, amounts, mults, r, d, c, b, counts] =
+        let [coefs, costs, lowers, uppers, rhs, amounts, mults, r, d, c, b, counts] =
             &mut self.numbers;
         let [lower_marks, upper_marks, ops] = &mut self.bytes;
         tevalumi_journal_edit(
@@ -331,7 +331,7 @@ impl Arrays {
             uppers.lend(),
             lower_marks.lend(),
             upper_marks.lend(),
-            rights.lend(),
+            rhs.lend(),
             ops.get(),
             amounts.lend(),
             mults.lend(),
@@ -345,7 +345,7 @@ impl Arrays {
     }
 
     pub fn journal_undo(&mut self, rows: u64, columns: u64, journal: &mut [u8]) -> usize {
-        let [coefs, costs, lowers, uppers, rights, amounts, mults, r, d, c, b, counts] =
+        let [coefs, costs, lowers, uppers, rhs, amounts, mults, r, d, c, b, counts] =
             &mut self.numbers;
         let [lower_marks, upper_marks, ops] = &mut self.bytes;
         tevalumi_journal_undo(
@@ -357,7 +357,7 @@ impl Arrays {
             uppers.lend(),
             lower_marks.lend(),
             upper_marks.lend(),
-            rights.lend(),
+            rhs.lend(),
             ops.get(),
             amounts.lend(),
             mults.lend(),
@@ -378,7 +378,7 @@ impl Arrays {
         waiting: &mut [u8],
         feed: &mut [usize],
     ) -> usize {
-        let [coefs, costs, lowers, uppers, rights, amounts, mults, r, d, c, b, counts] =
+        let [coefs, costs, lowers, uppers, rhs, amounts, mults, r, d, c, b, counts] =
             &mut self.numbers;
         let [lower_marks, upper_marks, ops] = &mut self.bytes;
         tevalumi_journal_feed(
@@ -391,7 +391,7 @@ impl Arrays {
             uppers.lend(),
             lower_marks.lend(),
             upper_marks.lend(),
-            rights.lend(),
+            rhs.lend(),
             ops.get(),
             amounts.lend(),
             mults.lend(),

@@ -202,7 +202,7 @@ call! {
     fn tevalumi_journal_edit(
         kind: usize, row: usize, column: usize, number: i64, rows: usize, columns: usize,
         coefs: &mut [i64], costs: &mut [i64], lowers: &mut [i64], uppers: &mut [i64],
-        lower_marks: &mut [u8], upper_marks: &mut [u8], rights: &mut [i64], ops: &[u8],
+        lower_marks: &mut [u8], upper_marks: &mut [u8], rhs: &mut [i64], ops: &[u8],
         amounts: &mut [i64], mults: &mut [i64],
         r: &mut [i64], d: &mut [i64], c: &mut [i64], b: &mut [i64], counts: &mut [i64],
         journal: &mut [u8],
@@ -214,7 +214,7 @@ call! {
     fn tevalumi_journal_undo(
         rows: usize, columns: usize,
         coefs: &mut [i64], costs: &mut [i64], lowers: &mut [i64], uppers: &mut [i64],
-        lower_marks: &mut [u8], upper_marks: &mut [u8], rights: &mut [i64], ops: &[u8],
+        lower_marks: &mut [u8], upper_marks: &mut [u8], rhs: &mut [i64], ops: &[u8],
         amounts: &mut [i64], mults: &mut [i64],
         r: &mut [i64], d: &mut [i64], c: &mut [i64], b: &mut [i64], counts: &mut [i64],
         journal: &mut [u8],
@@ -227,7 +227,7 @@ call! {
     fn tevalumi_journal_feed(
         piece: &[u8], rows: usize, columns: usize,
         coefs: &mut [i64], costs: &mut [i64], lowers: &mut [i64], uppers: &mut [i64],
-        lower_marks: &mut [u8], upper_marks: &mut [u8], rights: &mut [i64], ops: &[u8],
+        lower_marks: &mut [u8], upper_marks: &mut [u8], rhs: &mut [i64], ops: &[u8],
         amounts: &mut [i64], mults: &mut [i64],
         r: &mut [i64], d: &mut [i64], c: &mut [i64], b: &mut [i64], counts: &mut [i64],
         waiting: &mut [u8], feed: &mut [usize],

@@ -15,7 +15,7 @@ fn n5() -> Sheet {
         costs: vec![-3, -1],
         lowers: vec![Some(0), Some(0)],
         uppers: vec![None, Some(2)],
-        rights: vec![4],
+        rhs: vec![4],
         ops: vec![ComparisonOp::Le],
         amounts: vec![4, 0],
         mults: vec![-3072],
