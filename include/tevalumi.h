@@ -341,6 +341,88 @@ TevalumiRead tevalumi_read_plan(
     int64_t *amounts, size_t amounts_len,
     int64_t *mults, size_t mults_len);
 
+/* ---- A journal of edits ---- */
+
+/* A journal of edits in lent bytes (docs/FILES.md): blocks of 512 bytes, 22 entries in each, then an end block;
+ * behind the end is room. tevalumi_journal_begin writes an empty one: 0, or 33 and nothing changed where not one
+ * whole block is lent. */
+size_t tevalumi_journal_begin(uint8_t *journal, size_t journal_len);
+
+/* tevalumi_edit, with the edit kept in the journal. 0, or refused with nothing changed, the first of: 31 to 34
+ * where the lent bytes aren't a journal (31 a block of an unknown kind, 32 a wrong check, 33 a cut, missing or
+ * misplaced block, 34 an unused byte that isn't 0), the sheet's number, 37 where the journal is full. */
+size_t tevalumi_journal_edit(
+    size_t kind, size_t row, size_t column, int64_t number,
+    size_t rows, size_t columns,
+    int64_t *coefs, size_t coefs_len,
+    int64_t *costs, size_t costs_len,
+    int64_t *lowers, size_t lowers_len,
+    int64_t *uppers, size_t uppers_len,
+    uint8_t *lower_marks, size_t lower_marks_len,
+    uint8_t *upper_marks, size_t upper_marks_len,
+    int64_t *rhs, size_t rhs_len,
+    const uint8_t *ops, size_t ops_len,
+    int64_t *amounts, size_t amounts_len,
+    int64_t *mults, size_t mults_len,
+    int64_t *r, size_t r_len,
+    int64_t *d, size_t d_len,
+    int64_t *c, size_t c_len,
+    int64_t *b, size_t b_len,
+    int64_t *counts, size_t counts_len,
+    uint8_t *journal, size_t journal_len);
+
+/* Takes the journal's last entry back. 0, or refused with nothing changed, the first of: 31 to 34, 35 no entry is
+ * left, the sheet's number for the edit back, 36 the cell doesn't hold the entry's new number or presence. */
+size_t tevalumi_journal_undo(
+    size_t rows, size_t columns,
+    int64_t *coefs, size_t coefs_len,
+    int64_t *costs, size_t costs_len,
+    int64_t *lowers, size_t lowers_len,
+    int64_t *uppers, size_t uppers_len,
+    uint8_t *lower_marks, size_t lower_marks_len,
+    uint8_t *upper_marks, size_t upper_marks_len,
+    int64_t *rhs, size_t rhs_len,
+    const uint8_t *ops, size_t ops_len,
+    int64_t *amounts, size_t amounts_len,
+    int64_t *mults, size_t mults_len,
+    int64_t *r, size_t r_len,
+    int64_t *d, size_t d_len,
+    int64_t *c, size_t c_len,
+    int64_t *b, size_t b_len,
+    int64_t *counts, size_t counts_len,
+    uint8_t *journal, size_t journal_len);
+
+/* A piece of a journal's file, of any size, fed to a sheet: its entries are taken as edits. `waiting` has 512 bytes or
+ * more, in which part of a block waits for the rest, and `feed` four cells or more; both are lent to every piece, and a
+ * feed begins with its four cells at 0. 11, and nothing changed, where they aren't a feed's. Else the feed's refusal, 0
+ * while there is none: 31 to 34 for a block, or for an entry the sheet's number, else 36 where its cell doesn't hold
+ * the entry's old number or presence. What came before a refused entry stays, and every later piece changes nothing and
+ * gets the same number. */
+size_t tevalumi_journal_feed(
+    const uint8_t *piece, size_t piece_len,
+    size_t rows, size_t columns,
+    int64_t *coefs, size_t coefs_len,
+    int64_t *costs, size_t costs_len,
+    int64_t *lowers, size_t lowers_len,
+    int64_t *uppers, size_t uppers_len,
+    uint8_t *lower_marks, size_t lower_marks_len,
+    uint8_t *upper_marks, size_t upper_marks_len,
+    int64_t *rhs, size_t rhs_len,
+    const uint8_t *ops, size_t ops_len,
+    int64_t *amounts, size_t amounts_len,
+    int64_t *mults, size_t mults_len,
+    int64_t *r, size_t r_len,
+    int64_t *d, size_t d_len,
+    int64_t *c, size_t c_len,
+    int64_t *b, size_t b_len,
+    int64_t *counts, size_t counts_len,
+    uint8_t *waiting, size_t waiting_len,
+    size_t *feed, size_t feed_len);
+
+/* The end of a feed: 11 as above, else its refusal, else 33 where part of a block waits or the journal's end hasn't
+ * come, else 0. */
+size_t tevalumi_journal_close(const size_t *feed, size_t feed_len);
+
 /* ---- Whole numbers from a run ----
  * Each double's case, as an amount or as a multiplier of the sheet: the nearest whole number, ties to even, proved
  * against the exact value of the double.

@@ -16,7 +16,7 @@ pub struct Library {
 }
 
 impl Library {
-    fn note(&mut self, bad: bool, what: impl FnOnce() -> String) {
+    pub(crate) fn note(&mut self, bad: bool, what: impl FnOnce() -> String) {
         if bad && self.fault.is_none() {
             self.fault = Some(what());
         }

@@ -5,6 +5,7 @@
 //! a call changes a cell that it must leave, its line says so and so differs from the oracle's.
 
 pub mod files;
+pub mod journals;
 pub mod lent;
 /// The calls of the library, as the Rust crate over it has them.
 #[path = "../../bindings/rust/src/ffi.rs"]

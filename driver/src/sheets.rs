@@ -6,7 +6,8 @@ use oracle_sheet::{answer, Array, Block, Calls, KEPT_ARRAYS};
 
 use crate::lent::{Cell, Lent};
 use crate::library::{
-    tevalumi_edit, tevalumi_open, tevalumi_read_plan, tevalumi_verdict, tevalumi_write_plan, Read,
+    tevalumi_edit, tevalumi_journal_edit, tevalumi_journal_feed, tevalumi_journal_undo,
+    tevalumi_open, tevalumi_read_plan, tevalumi_verdict, tevalumi_write_plan, Read,
 };
 use crate::EXTRA;
 
@@ -304,6 +305,103 @@ impl Arrays {
             ops.lend(),
             amounts.lend(),
             mults.lend(),
+        )
+    }
+
+    pub fn journal_edit(
+        &mut self,
+        rows: u64,
+        columns: u64,
+        edit: Edit,
+        journal: &mut [u8],
+    ) -> usize {
+        let [coefs, costs, lowers, uppers, rhs, amounts, mults, r, d, c, b, counts] =
+            &mut self.numbers;
+        let [lower_marks, upper_marks, ops] = &mut self.bytes;
+        tevalumi_journal_edit(
+            edit.kind as usize,
+            edit.row as usize,
+            edit.column as usize,
+            edit.number,
+            rows as usize,
+            columns as usize,
+            coefs.lend(),
+            costs.lend(),
+            lowers.lend(),
+            uppers.lend(),
+            lower_marks.lend(),
+            upper_marks.lend(),
+            rhs.lend(),
+            ops.get(),
+            amounts.lend(),
+            mults.lend(),
+            r.lend(),
+            d.lend(),
+            c.lend(),
+            b.lend(),
+            counts.lend(),
+            journal,
+        )
+    }
+
+    pub fn journal_undo(&mut self, rows: u64, columns: u64, journal: &mut [u8]) -> usize {
+        let [coefs, costs, lowers, uppers, rhs, amounts, mults, r, d, c, b, counts] =
+            &mut self.numbers;
+        let [lower_marks, upper_marks, ops] = &mut self.bytes;
+        tevalumi_journal_undo(
+            rows as usize,
+            columns as usize,
+            coefs.lend(),
+            costs.lend(),
+            lowers.lend(),
+            uppers.lend(),
+            lower_marks.lend(),
+            upper_marks.lend(),
+            rhs.lend(),
+            ops.get(),
+            amounts.lend(),
+            mults.lend(),
+            r.lend(),
+            d.lend(),
+            c.lend(),
+            b.lend(),
+            counts.lend(),
+            journal,
+        )
+    }
+
+    pub fn journal_feed(
+        &mut self,
+        piece: &[u8],
+        rows: u64,
+        columns: u64,
+        waiting: &mut [u8],
+        feed: &mut [usize],
+    ) -> usize {
+        let [coefs, costs, lowers, uppers, rhs, amounts, mults, r, d, c, b, counts] =
+            &mut self.numbers;
+        let [lower_marks, upper_marks, ops] = &mut self.bytes;
+        tevalumi_journal_feed(
+            piece,
+            rows as usize,
+            columns as usize,
+            coefs.lend(),
+            costs.lend(),
+            lowers.lend(),
+            uppers.lend(),
+            lower_marks.lend(),
+            upper_marks.lend(),
+            rhs.lend(),
+            ops.get(),
+            amounts.lend(),
+            mults.lend(),
+            r.lend(),
+            d.lend(),
+            c.lend(),
+            b.lend(),
+            counts.lend(),
+            waiting,
+            feed,
         )
     }
 }

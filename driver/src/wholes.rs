@@ -304,7 +304,9 @@ fn optimal(plan: &Plan, run: &Run, rng: &mut Rng, tally: &mut Tally) {
             && told(answer.answer) == Some(case)
     };
     let same = |ours: &[i64], cases: &[Case]| {
-        ours.iter().zip(cases).all(|(&w, &case)| case == Case::Whole(w))
+        ours.iter()
+            .zip(cases)
+            .all(|(&w, &case)| case == Case::Whole(w))
     };
     let good = match (
         amounts.iter().position(|case| !whole(case)),
@@ -324,16 +326,17 @@ fn optimal(plan: &Plan, run: &Run, rng: &mut Rng, tally: &mut Tally) {
         }
     };
     tally.plans += 1;
-    tally.check(good && stayed, || format!("{}: {answer:?} {x:?} {y:?}", plan.id));
+    tally.check(good && stayed, || {
+        format!("{}: {answer:?} {x:?} {y:?}", plan.id)
+    });
 }
 
 /// One cell of the memory changed so that the rows or maps aren't the run's any more.
 fn damage(plan: &Plan, run: &mut Run, rng: &mut Rng) -> bool {
     let columns = plan.columns as usize;
     let kept = run.numbers[sections::COUNTS][0];
-    let cell = |from: usize, cells: usize, rng: &mut Rng| {
-        (cells > 0).then(|| from + rng.below(cells))
-    };
+    let cell =
+        |from: usize, cells: usize, rng: &mut Rng| (cells > 0).then(|| from + rng.below(cells));
     let at = match rng.below(5) {
         0 => Some(sections::COUNTS.start),
         1 => cell(sections::KEPT.start, kept, rng),

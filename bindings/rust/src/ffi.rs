@@ -193,6 +193,53 @@ call! {
 }
 
 call! {
+    /// Begins an empty journal: writes its first block.
+    fn tevalumi_journal_begin(journal: &mut [u8],) -> usize
+}
+
+call! {
+    /// Edits a sheet and its journal: writes every slice but the comparisons.
+    fn tevalumi_journal_edit(
+        kind: usize, row: usize, column: usize, number: i64, rows: usize, columns: usize,
+        coefs: &mut [i64], costs: &mut [i64], lowers: &mut [i64], uppers: &mut [i64],
+        lower_marks: &mut [u8], upper_marks: &mut [u8], rhs: &mut [i64], ops: &[u8],
+        amounts: &mut [i64], mults: &mut [i64],
+        r: &mut [i64], d: &mut [i64], c: &mut [i64], b: &mut [i64], counts: &mut [i64],
+        journal: &mut [u8],
+    ) -> usize
+}
+
+call! {
+    /// Takes the last edit of a journal back: writes every slice but the comparisons.
+    fn tevalumi_journal_undo(
+        rows: usize, columns: usize,
+        coefs: &mut [i64], costs: &mut [i64], lowers: &mut [i64], uppers: &mut [i64],
+        lower_marks: &mut [u8], upper_marks: &mut [u8], rhs: &mut [i64], ops: &[u8],
+        amounts: &mut [i64], mults: &mut [i64],
+        r: &mut [i64], d: &mut [i64], c: &mut [i64], b: &mut [i64], counts: &mut [i64],
+        journal: &mut [u8],
+    ) -> usize
+}
+
+call! {
+    /// Feeds a piece of a journal's file to a sheet: writes every slice but the piece and the
+    /// comparisons.
+    fn tevalumi_journal_feed(
+        piece: &[u8], rows: usize, columns: usize,
+        coefs: &mut [i64], costs: &mut [i64], lowers: &mut [i64], uppers: &mut [i64],
+        lower_marks: &mut [u8], upper_marks: &mut [u8], rhs: &mut [i64], ops: &[u8],
+        amounts: &mut [i64], mults: &mut [i64],
+        r: &mut [i64], d: &mut [i64], c: &mut [i64], b: &mut [i64], counts: &mut [i64],
+        waiting: &mut [u8], feed: &mut [usize],
+    ) -> usize
+}
+
+call! {
+    /// Closes a feed: writes nothing.
+    fn tevalumi_journal_close(feed: &[usize],) -> usize
+}
+
+call! {
     /// Solves a lower triangle for the listed places: writes the list and the values.
     fn tevalumi_lower_sparse(
         size: usize, entries: usize, starts: &[usize], rows: &[usize], vals: &[f64],

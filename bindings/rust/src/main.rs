@@ -1,5 +1,6 @@
 //! The command-line program: `tevalumi solve FILE`, `tevalumi audit FILE`, `tevalumi why FILE`,
-//! `tevalumi keep FILE -o PLAN.tev`, `tevalumi night`.
+//! `tevalumi keep FILE -o PLAN.tev`, `tevalumi what-if FILE`, `tevalumi undo FILE JOURNAL`,
+//! `tevalumi replay FILE JOURNAL`, `tevalumi night`.
 
 mod cli;
 

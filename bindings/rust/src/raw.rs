@@ -4,11 +4,12 @@
 //! fixed arrays that can stand in a `static`, and [`solve_into`] answers an [`Answer`].
 //! A caller with memory of its own lends a [`WorkspaceMut`] to [`solve_lent`]. The audit
 //! sheet's arrays are lent as a [`SheetMut`]; its plan is written into a file's bytes by
-//! [`SheetRef::write_plan`] and read back by [`FiguresMut::read_plan`].
+//! [`SheetRef::write_plan`] and read back by [`FiguresMut::read_plan`]. A journal of its edits is
+//! bytes too, which [`SheetMut::edit_journaled`] and [`SheetMut::undo`] change with the sheet.
 //!
 //! Whatever is handed in is answered: a size over its limit or an array that is too short is
-//! answer 1 (11 for a sheet or a file), never a panic. A refusal (1 to 7, 11 to 16, 31 to 34)
-//! changes no lent cell.
+//! answer 1 (11 for a sheet or a file), never a panic. A refusal (1 to 7, 11 to 16, 31 to 37)
+//! changes no lent cell, but that a feed keeps what came before it.
 //! Lent arrays may be longer than needed; the cells past what is needed are neither read nor
 //! written.
 //!
@@ -401,11 +402,17 @@ pub enum Refusal {
     MisplacedBlock = 33,
     /// 34: an unused byte of a block isn't 0.
     UnusedByte = 34,
+    /// 35: the journal has no entry left to undo.
+    NothingToUndo = 35,
+    /// 36: the sheet doesn't hold the number or the presence that a journal's entry says.
+    Disagrees = 36,
+    /// 37: the sheet would accept the edit, but the lent journal is full.
+    JournalFull = 37,
 }
 
 impl Refusal {
     /// Every refusal, in the order of its number.
-    pub const ALL: [Refusal; 10] = [
+    pub const ALL: [Refusal; 13] = [
         Refusal::BadSize,
         Refusal::BadNumber,
         Refusal::CrossedBounds,
@@ -416,6 +423,9 @@ impl Refusal {
         Refusal::WrongCheck,
         Refusal::MisplacedBlock,
         Refusal::UnusedByte,
+        Refusal::NothingToUndo,
+        Refusal::Disagrees,
+        Refusal::JournalFull,
     ];
 
     /// Document 01's number.
@@ -447,6 +457,11 @@ impl Refusal {
                 "a block is missing, cut, repeated or misplaced, or something stands behind the end"
             }
             Refusal::UnusedByte => "an unused byte of a block isn't 0",
+            Refusal::NothingToUndo => "the journal has no entry left to undo",
+            Refusal::Disagrees => {
+                "the sheet doesn't hold the number or the presence that the journal's entry says"
+            }
+            Refusal::JournalFull => "the journal is full",
         }
     }
 
@@ -551,6 +566,44 @@ pub struct SheetRef<'a> {
     pub counts: &'a [i64],
 }
 
+/// Begins an empty journal in lent bytes: 33 where not one whole block of 512 is lent.
+pub fn begin_journal(journal: &mut [u8]) -> Result<(), Refusal> {
+    Refusal::check(ffi::tevalumi_journal_begin(journal))
+}
+
+/// A feed of a journal's file in pieces ([`SheetMut::feed`]): the part of a block that waits for the
+/// rest, and how far the feed has come.
+#[derive(Clone, Debug)]
+pub struct Feed {
+    waiting: [u8; limits::BLOCK],
+    cells: [usize; 4],
+}
+
+impl Feed {
+    /// A feed that begins.
+    pub const fn new() -> Feed {
+        Feed {
+            waiting: [0; limits::BLOCK],
+            cells: [0; 4],
+        }
+    }
+
+    /// Closes the feed.
+    ///
+    /// # Errors
+    ///
+    /// The feed's refusal, or 33 where part of a block waits or the journal's end hasn't come.
+    pub fn close(&self) -> Result<(), Refusal> {
+        Refusal::check(ffi::tevalumi_journal_close(&self.cells))
+    }
+}
+
+impl Default for Feed {
+    fn default() -> Feed {
+        Feed::new()
+    }
+}
+
 impl SheetMut<'_> {
     /// Opens the sheet: reckons its kept numbers from the plan, the amounts and the multipliers.
     pub fn open(&mut self) -> Result<(), Refusal> {
@@ -605,6 +658,107 @@ impl SheetMut<'_> {
             self.c,
             self.b,
             self.counts,
+        ))
+    }
+
+    /// Edits the sheet as [`edit`](SheetMut::edit) does, and appends the edit to a journal that
+    /// [`begin_journal`] began. The journal is full where 22 entries stand in every whole lent block
+    /// of 512 bytes but one.
+    ///
+    /// # Errors
+    ///
+    /// 31 to 34 where the lent journal is damaged; else the edit's own; else 37 where it is full.
+    pub fn edit_journaled(
+        &mut self,
+        kind: usize,
+        row: usize,
+        column: usize,
+        number: i64,
+        journal: &mut [u8],
+    ) -> Result<(), Refusal> {
+        Refusal::check(ffi::tevalumi_journal_edit(
+            kind,
+            row,
+            column,
+            number,
+            self.rows,
+            self.columns,
+            self.coefs,
+            self.costs,
+            self.lowers,
+            self.uppers,
+            self.lower_marks,
+            self.upper_marks,
+            self.rhs,
+            self.ops,
+            self.amounts,
+            self.mults,
+            self.r,
+            self.d,
+            self.c,
+            self.b,
+            self.counts,
+            journal,
+        ))
+    }
+
+    /// Takes the journal's last entry back, as the edit that puts the old number and presence there.
+    ///
+    /// # Errors
+    ///
+    /// 31 to 34 where the lent journal is damaged; else 35 where it has no entry; else that edit's
+    /// own; else 36 where the sheet doesn't hold what the entry left.
+    pub fn undo(&mut self, journal: &mut [u8]) -> Result<(), Refusal> {
+        Refusal::check(ffi::tevalumi_journal_undo(
+            self.rows,
+            self.columns,
+            self.coefs,
+            self.costs,
+            self.lowers,
+            self.uppers,
+            self.lower_marks,
+            self.upper_marks,
+            self.rhs,
+            self.ops,
+            self.amounts,
+            self.mults,
+            self.r,
+            self.d,
+            self.c,
+            self.b,
+            self.counts,
+            journal,
+        ))
+    }
+
+    /// Applies the entries of the next piece of a journal's file. Pieces may be cut anywhere.
+    ///
+    /// # Errors
+    ///
+    /// 31 to 34 for a block; an entry's own number, else 36 where the sheet doesn't hold its old
+    /// number or presence. What came before it stays, and every later piece gets the same number.
+    pub fn feed(&mut self, piece: &[u8], feed: &mut Feed) -> Result<(), Refusal> {
+        Refusal::check(ffi::tevalumi_journal_feed(
+            piece,
+            self.rows,
+            self.columns,
+            self.coefs,
+            self.costs,
+            self.lowers,
+            self.uppers,
+            self.lower_marks,
+            self.upper_marks,
+            self.rhs,
+            self.ops,
+            self.amounts,
+            self.mults,
+            self.r,
+            self.d,
+            self.c,
+            self.b,
+            self.counts,
+            &mut feed.waiting,
+            &mut feed.cells,
         ))
     }
 

@@ -54,6 +54,30 @@
 //! # Ok::<(), Refusal>(())
 //! ```
 //!
+//! A [`Journal`] lets an edit be taken back, and replayed on the kept sheet after a power cut:
+//!
+//! ```
+//! # use tevalumi::sheet::{Edit, Figures, Journal, Refusal, Sheet};
+//! # let figures = Figures { columns: 1, costs: vec![0], lowers: vec![None], uppers: vec![None],
+//! #     amounts: vec![4], ..Figures::default() };
+//! # let mut sheet = Sheet::open(&figures)?;
+//! let kept = sheet.clone();
+//! let mut journal = Journal::new(2);
+//! sheet.edit_journaled(Edit::Amount { column: 0, to: 3 }, &mut journal)?;
+//! sheet.edit_journaled(Edit::Upper { column: 0, to: 9 }, &mut journal)?;
+//! sheet.undo(&mut journal)?;
+//! assert_eq!((sheet.amount(0), sheet.upper(0)), (3, None));
+//!
+//! let mut again = kept.clone();
+//! again.replay(journal.file())?;
+//! assert_eq!(again, sheet);
+//!
+//! sheet.undo(&mut journal)?;
+//! assert_eq!(sheet, kept);
+//! assert_eq!(sheet.undo(&mut journal), Err(Refusal::NothingToUndo));
+//! # Ok::<(), Refusal>(())
+//! ```
+//!
 //! Every sum is exact in 64 bits within the sheet's limits. An edit costs only what it touches, and
 //! a sheet after any edits equals the one that would be opened afresh: that is proved, not tested.
 
@@ -62,7 +86,7 @@ use std::fmt;
 use crate::raw::{self, limits, FiguresMut, SheetMut, SheetRef};
 use crate::{wholes, ComparisonOp, Problem, Solution};
 
-pub use crate::raw::{BadFile, Refusal, Verdict};
+pub use crate::raw::{BadFile, Feed, Refusal, Verdict};
 pub use crate::wholes::{NotProposed, Proposal};
 
 /// A count of 1/1024, as multipliers, prices, floors and gaps are, shown as the decimal that it is.
@@ -178,7 +202,81 @@ impl Edit {
     }
 }
 
-/// An open sheet. It owns its numbers, so only [`edit`](Sheet::edit) changes them.
+/// One entry of a [`Journal`].
+#[derive(Clone, Copy, Debug, PartialEq, Eq, Hash)]
+pub struct Entry {
+    /// The edit's kind, as [`Edit::kind`] has it.
+    pub kind: u8,
+    /// The edit's row, 0 where its kind has none.
+    pub row: usize,
+    /// The edit's column, 0 where its kind has none.
+    pub column: usize,
+    /// The number before it.
+    pub old: i64,
+    /// The number after it; 0 where a bound is dropped.
+    pub new: i64,
+    /// Whether the bound was there before it; true for what is no bound.
+    pub before: bool,
+}
+
+/// A journal of edits: blocks of 512 bytes, as docs/FILES.md lays them out, 22 entries in each and
+/// the last one for the end.
+///
+/// Its bytes may come from anywhere: damaged ones are refused by each call, by number.
+#[derive(Clone, Debug, PartialEq, Eq)]
+pub struct Journal {
+    bytes: Vec<u8>,
+}
+
+/// The kind of a journal's last block.
+const END: u8 = 255;
+
+impl Journal {
+    /// An empty journal with so many blocks; one more than 0, since the end needs it.
+    pub fn new(blocks: usize) -> Journal {
+        let mut bytes = vec![0; limits::BLOCK * blocks.max(1)];
+        raw::begin_journal(&mut bytes).expect("one block is enough");
+        Journal { bytes }
+    }
+
+    /// The journal in a file, with so many blocks of room behind it.
+    pub fn from_bytes(file: &[u8], room: usize) -> Journal {
+        let mut bytes = file.to_vec();
+        bytes.resize(file.len() + limits::BLOCK * room, 0);
+        Journal { bytes }
+    }
+
+    /// The journal's file: its blocks up to the end.
+    pub fn file(&self) -> &[u8] {
+        let mut blocks = self.bytes.chunks(limits::BLOCK);
+        match blocks.position(|block| block[0] == END) {
+            Some(last) => &self.bytes[..(limits::BLOCK * (last + 1)).min(self.bytes.len())],
+            None => &self.bytes,
+        }
+    }
+
+    /// The entries, the oldest first, as they stand in a file that isn't damaged.
+    pub fn entries(&self) -> Vec<Entry> {
+        let blocks = self.file().chunks_exact(limits::BLOCK);
+        let entries = blocks.filter(|block| block[0] != END).flat_map(|block| {
+            let count = usize::from(block[3]);
+            block[4..].chunks_exact(22).take(count)
+        });
+        let two = |bytes: &[u8]| usize::from(bytes[0]) + 256 * usize::from(bytes[1]);
+        let eight = |bytes: &[u8]| i64::from_le_bytes(bytes.try_into().expect("eight bytes"));
+        let entry = |bytes: &[u8]| Entry {
+            kind: bytes[0],
+            row: two(&bytes[1..]),
+            column: two(&bytes[3..]),
+            old: eight(&bytes[5..13]),
+            new: eight(&bytes[13..21]),
+            before: bytes[21] != 0,
+        };
+        entries.map(entry).collect()
+    }
+}
+
+/// An open sheet. It owns its numbers, so only edits change them.
 #[derive(Clone, Debug, PartialEq, Eq)]
 pub struct Sheet {
     rows: usize,
@@ -268,6 +366,49 @@ impl Sheet {
     pub fn edit(&mut self, edit: Edit) -> Result<(), Refusal> {
         let (kind, row, column, number) = edit.numbers();
         self.lend().edit(kind, row, column, number)
+    }
+
+    /// Changes one number as [`edit`](Sheet::edit) does, and writes it into a journal.
+    ///
+    /// # Errors
+    ///
+    /// 31 to 34 where the journal is damaged; else the edit's own; else
+    /// [`Refusal::JournalFull`] (37). Nothing has changed.
+    pub fn edit_journaled(&mut self, edit: Edit, journal: &mut Journal) -> Result<(), Refusal> {
+        let (kind, row, column, number) = edit.numbers();
+        self.lend()
+            .edit_journaled(kind, row, column, number, &mut journal.bytes)
+    }
+
+    /// Takes the journal's last edit back. Where the sheet was changed since by journaled edits and
+    /// undos alone it is the sheet before that edit, every number of it.
+    ///
+    /// # Errors
+    ///
+    /// 31 to 34 where the journal is damaged; else [`Refusal::NothingToUndo`] (35); else the number
+    /// of the edit back; else [`Refusal::Disagrees`] (36). Nothing has changed.
+    pub fn undo(&mut self, journal: &mut Journal) -> Result<(), Refusal> {
+        self.lend().undo(&mut journal.bytes)
+    }
+
+    /// Applies the next piece of a journal's file; see [`SheetMut::feed`].
+    ///
+    /// # Errors
+    ///
+    /// Those of [`SheetMut::feed`].
+    pub fn feed(&mut self, piece: &[u8], feed: &mut Feed) -> Result<(), Refusal> {
+        self.lend().feed(piece, feed)
+    }
+
+    /// Applies a whole journal's file, and closes the feed.
+    ///
+    /// # Errors
+    ///
+    /// Those of [`feed`](Sheet::feed) and [`Feed::close`]. Entries before a refused one stay.
+    pub fn replay(&mut self, file: &[u8]) -> Result<(), Refusal> {
+        let mut feed = Feed::new();
+        self.feed(file, &mut feed)?;
+        feed.close()
     }
 
     /// What the sheet says of its plan.

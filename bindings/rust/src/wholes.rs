@@ -84,7 +84,11 @@ impl fmt::Display for NotProposed {
             NotProposed::Nothing => f.write_str("the last run isn't optimal"),
             NotProposed::BadMaps => f.write_str("41: the rows or maps aren't those of a run"),
             NotProposed::Amount { column, case } => {
-                write!(f, "the amount of column {column} {}", said(*case, limits::SHEET_AMOUNT))
+                write!(
+                    f,
+                    "the amount of column {column} {}",
+                    said(*case, limits::SHEET_AMOUNT)
+                )
             }
             NotProposed::Multiplier { row, case } => write!(
                 f,

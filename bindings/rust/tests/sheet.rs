@@ -427,7 +427,7 @@ fn every_refusal_of_the_raw_calls() {
 
 #[test]
 fn numbers_and_sentences_of_the_refusals() {
-    let numbers = [11, 12, 13, 14, 15, 16, 31, 32, 33, 34];
+    let numbers = [11, 12, 13, 14, 15, 16, 31, 32, 33, 34, 35, 36, 37];
     assert_eq!(Refusal::ALL.len(), numbers.len());
     for (refusal, number) in Refusal::ALL.into_iter().zip(numbers) {
         assert_eq!(usize::from(refusal.number()), number);
@@ -436,7 +436,7 @@ fn numbers_and_sentences_of_the_refusals() {
         assert!(shown.starts_with(&format!("{number}: ")));
         let _: &dyn std::error::Error = &refusal;
     }
-    for number in [0, 10, 17, 30, 35] {
+    for number in [0, 10, 17, 30, 38] {
         assert_eq!(Refusal::from_number(number), None);
     }
 }

@@ -42,8 +42,8 @@ pub record Kept (p : Plan) (m : Memory) : Type 0 where
   pub rows : (r : ℕ) → r < mOf (problemOf p) → m .kept # r ≡ keptRows p # r
   pub maps : Maps (problemOf p) (m .ws)
 
--- what 41 says: "kept rows' count or numbers aren't the plan's; or a map's cell is too large, or some place's variable
--- isn't mapped back to it"
+-- 41's own words: the kept rows' count or numbers aren't the plan's, or a map's cell is too large, or the variable at some
+-- place or row isn't mapped back to it
 module _ (P : Problem) (m : Memory) where
   abbrev pub OtherRows : Type 0
   OtherRows = (¬ (m .counts # 0 ≡ mOf P)) ⊎ ((r : ℕ) × (r < mOf P) × (¬ (m .kept # r ≡ P .kept # r)))

@@ -77,7 +77,7 @@ proposal l =
       | false ↦ Refused 1
     ]
 
--- ---- with what is lent afterwards: 02: where any number isn't whole nothing is written
+-- ---- with what is lent afterwards: nothing is written unless every number is whole
 pub record Handed : Type 0 where
   pub answer : Proposal
   pub amounts-left : List ℤ

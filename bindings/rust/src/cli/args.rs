@@ -2,7 +2,8 @@
 
 use std::ffi::{OsStr, OsString};
 
-use super::plan::shown;
+use super::desk::Act;
+use super::plan::{shown, Plan};
 use super::source::Format;
 
 #[derive(Clone, Debug)]
@@ -14,6 +15,7 @@ pub enum Command {
     Audit(Request),
     Why(Request),
     Keep(Request),
+    Desk(Act, Request),
     Night(Night),
 }
 
@@ -29,6 +31,18 @@ pub struct Request {
     pub json: bool,
     /// Where `keep` puts the plan.
     pub out: OsString,
+    /// What `what-if` changes, and the journal's file.
+    pub sets: Vec<String>,
+    pub journal: OsString,
+}
+
+impl Request {
+    /// Budget, tolerance and direction as the command line says.
+    pub fn settle(&self, plan: &mut Plan) {
+        plan.budget = self.budget.unwrap_or(plan.budget);
+        plan.tolerance = self.tolerance.unwrap_or(plan.tolerance);
+        plan.turn(self.maximise.unwrap_or(plan.maximise));
+    }
 }
 
 #[derive(Clone, Debug, Default)]
@@ -45,11 +59,17 @@ usage: tevalumi solve FILE    solve a plan and print its values
        tevalumi why FILE      say why a plan in whole numbers has no solution
        tevalumi keep FILE -o PLAN.tev
                               keep a solved plan in whole numbers over a power cut
+       tevalumi what-if FILE --set WHAT:NAME=NUMBER [--journal JOURNAL]
+                              change numbers of the sheet and say what it then says
+       tevalumi undo FILE JOURNAL
+                              take the journal's last change back
+       tevalumi replay FILE JOURNAL [-o PLAN.tev]
+                              make the journal's changes on the plan's sheet again
        tevalumi night         the bundled frost night, once with each set of costs
        tevalumi COMMAND --help
 
-exit status: 0 Optimal; 1 refused (answers 1 to 7); 3 not solved (answers 20 to 24);
-             2 the command line or the file is wrong
+exit status: 0 Optimal; 1 refused (answers 1 to 7; a change of the sheet: 11 to 16, 35 to 37);
+             3 not solved (answers 20 to 24); 2 the command line or the file is wrong
 ";
 
 pub const HELP_SOLVE: &str = "\
@@ -138,6 +158,57 @@ exit status: 0 kept; 1 and 3 the plan isn't solved, as for `tevalumi solve`, and
              2 the command line or a file is wrong, or the plan isn't in whole numbers
 ";
 
+pub const HELP_WHAT_IF: &str = "\
+usage: tevalumi what-if [OPTIONS] FILE --set WHAT:NAME=NUMBER ...
+
+Opens the sheet of the plan in FILE, as it was kept or else as `tevalumi audit` would, changes the
+numbers that are named, one after another, and prints the sheet and its verdict. Nothing is solved
+again: the sheet says what the changed amounts, costs and bounds mean.
+
+  --set amount:COLUMN=N    a column's amount     --set cost:COLUMN=N      its cost
+  --set lower:COLUMN=N     its lower bound       --set upper:COLUMN=N     its upper bound
+  --set lower:COLUMN=none  drops it              --set upper:COLUMN=none  drops it
+  --set right:ROW=N        a row's right side    --set mult:ROW=X         its multiplier
+  --set coef:ROW:COLUMN=N  a coefficient
+
+  --journal JOURNAL        a file with the changes so far, which are made first (it is begun where
+                           there is none); the new ones are appended to it
+  -o PLAN.tev              keep the changed sheet, as `tevalumi keep` does
+
+The sheet of a maximised plan minimises: its costs are those of the file with their signs turned.
+Where a change is refused nothing is written. Columns of a kept plan are x0, x1, .. and its rows r0,
+r1, ..
+
+options: --format, --max, --min, --relax, --budget, --tol, --json as for `tevalumi solve`
+
+exit status: 0 done, whatever the verdict; 1 a change is refused (11 to 16); 1 and 3 the plan isn't
+             solved, as for `tevalumi solve`; 2 the command line or a file is wrong, or the plan
+             isn't in whole numbers
+";
+
+pub const HELP_UNDO: &str = "\
+usage: tevalumi undo [OPTIONS] FILE JOURNAL
+
+Makes the changes of JOURNAL on the sheet of the plan in FILE, takes the last one back, and writes
+JOURNAL without it. The sheet is then as it was before that change, every number of it.
+
+options: -o PLAN.tev and those of `tevalumi what-if`
+
+exit status: 0 done; 1 no change is left (35); else as for `tevalumi what-if`
+";
+
+pub const HELP_REPLAY: &str = "\
+usage: tevalumi replay [OPTIONS] FILE JOURNAL
+
+Makes the changes of JOURNAL on the sheet of the plan in FILE again, as after a power cut, and
+prints the sheet and its verdict. A change that the sheet refuses, or whose old number the sheet
+doesn't hold (36), and a damaged journal (31 to 34) are told by number.
+
+options: -o PLAN.tev and those of `tevalumi what-if`
+
+exit status: 0 done; else as for `tevalumi what-if`
+";
+
 pub const HELP_NIGHT: &str = "\
 usage: tevalumi night [--ascii] [--sheets]
 
@@ -156,13 +227,19 @@ pub type Usage = String;
 
 pub fn parse(args: &[OsString]) -> Result<Command, Usage> {
     let Some((command, rest)) = args.split_first() else {
-        return Err("expected a command: solve, audit, why, keep or night".to_string());
+        return Err(
+            "expected a command: solve, audit, why, keep, what-if, undo, replay or night"
+                .to_string(),
+        );
     };
     let help = match command.to_str() {
         Some("solve") => HELP_SOLVE,
         Some("audit") => HELP_AUDIT,
         Some("why") => HELP_WHY,
         Some("keep") => HELP_KEEP,
+        Some("what-if") => HELP_WHAT_IF,
+        Some("undo") => HELP_UNDO,
+        Some("replay") => HELP_REPLAY,
         Some("night") => HELP_NIGHT,
         Some("--help" | "-h") => return Ok(Command::Help(HELP)),
         Some("--version" | "-V") => return Ok(Command::Version),
@@ -174,7 +251,7 @@ pub fn parse(args: &[OsString]) -> Result<Command, Usage> {
         }
         _ => {
             return Err(format!(
-                "expected solve, audit, why, keep or night, found `{}`",
+                "expected solve, audit, why, keep, what-if, undo, replay or night, found `{}`",
                 text(command)
             ))
         }
@@ -192,6 +269,12 @@ pub fn parse(args: &[OsString]) -> Result<Command, Usage> {
             }
             request => Ok(Command::Keep(request)),
         },
+        Some("what-if") => {
+            let own = ["-o", "--set", "--journal"];
+            request(rest, &own).map(|request| Command::Desk(Act::WhatIf, request))
+        }
+        Some("undo") => with_journal(rest).map(|request| Command::Desk(Act::Undo, request)),
+        Some("replay") => with_journal(rest).map(|request| Command::Desk(Act::Replay, request)),
         _ => request(rest, &["--bits"]).map(Command::Solve),
     }
 }
@@ -217,6 +300,17 @@ fn night(args: &[OsString]) -> Result<Night, Usage> {
     Ok(options)
 }
 
+/// A file and a journal.
+fn with_journal(args: &[OsString]) -> Result<Request, Usage> {
+    match request(args, &["-o", JOURNAL])? {
+        Request { journal, .. } if journal.is_empty() => Err("expected a journal".to_string()),
+        request => Ok(request),
+    }
+}
+
+/// Among a command's own options: its second file is a journal.
+const JOURNAL: &str = "JOURNAL";
+
 /// `own` are the options that not every command has.
 fn request(args: &[OsString], own: &[&str]) -> Result<Request, Usage> {
     let mut file = None;
@@ -230,14 +324,23 @@ fn request(args: &[OsString], own: &[&str]) -> Result<Request, Usage> {
         bits: false,
         json: false,
         out: OsString::new(),
+        sets: Vec::new(),
+        journal: OsString::new(),
     };
     let mut args = args.iter();
     let mut only_files = false;
     while let Some(arg) = args.next() {
         let word = arg.to_str().unwrap_or("");
         if only_files || !word.starts_with('-') || word == "-" {
-            if file.replace(arg.clone()).is_some() {
-                return Err(format!("expected one file, found `{}` too", text(arg)));
+            match &file {
+                None => file = Some(arg.clone()),
+                Some(_) if own.contains(&JOURNAL) && request.journal.is_empty() => {
+                    request.journal.clone_from(arg);
+                }
+                Some(_) if own.contains(&JOURNAL) => {
+                    return Err(format!("expected two files, found `{}` too", text(arg)));
+                }
+                Some(_) => return Err(format!("expected one file, found `{}` too", text(arg))),
             }
             continue;
         }
@@ -262,9 +365,14 @@ fn request(args: &[OsString], own: &[&str]) -> Result<Request, Usage> {
             "--relax" => request.relax = true,
             "--json" => request.json = true,
             "--bits" if own.contains(&option) => request.bits = true,
-            "-o" if own.contains(&option) => {
+            "--set" if own.contains(&option) => request.sets.push(value()?),
+            "-o" | "--journal" if own.contains(&option) => {
                 let file = given.map(OsString::from).or_else(|| args.next().cloned());
-                request.out = file.ok_or("expected a file behind -o")?;
+                let file = file.ok_or(format!("expected a file behind {option}"))?;
+                match option {
+                    "-o" => request.out = file,
+                    _ => request.journal = file,
+                }
             }
             _ => return Err(format!("there is no option `{}` here", text(arg))),
         }

@@ -2,6 +2,7 @@
 
 pub mod args;
 pub mod audit;
+pub mod desk;
 pub mod engine;
 pub mod kept;
 pub mod lp;
@@ -20,7 +21,7 @@ use std::io;
 use tevalumi::raw::Status;
 
 use args::{Command, Request};
-use plan::{shown, Fault, Plan};
+use plan::{shown, Plan};
 
 /// The exit status for a wrong command line or file.
 pub const WRONG: u8 = 2;
@@ -64,6 +65,7 @@ pub fn run(args: &[OsString], files: &dyn Files) -> Outcome {
         Ok(Command::Audit(request)) => (request, Task::Audit),
         Ok(Command::Why(request)) => (request, Task::Why),
         Ok(Command::Keep(request)) => (request, Task::Keep),
+        Ok(Command::Desk(act, request)) => return desk::run(&request, act, files),
         Err(usage) => return wrong(format!("{usage}\nTry `tevalumi --help`.")),
     };
     let file = shown(&request.file.to_string_lossy());
@@ -78,8 +80,7 @@ pub fn run(args: &[OsString], files: &dyn Files) -> Outcome {
             plans.len()
         )),
         Ok(plans) => answer(&file, plans, &request, task, files),
-        Err(Fault { line: 0, what }) => wrong(format!("{file}: {what}")),
-        Err(Fault { line, what }) => wrong(format!("{file}:{line}: {what}")),
+        Err(fault) => wrong(source::told(&file, fault)),
     }
 }
 
@@ -98,6 +99,13 @@ fn wrong(what: String) -> Outcome {
     }
 }
 
+fn not_whole(file: &str, plan: &Plan, what: &str) -> String {
+    format!(
+        "{file}: plan {} isn't in whole numbers within the sheet's limits: {what}",
+        shown(&plan.name)
+    )
+}
+
 /// Each plan in turn. The exit status of several is 2 if one has it, else the largest.
 fn answer(
     file: &str,
@@ -108,15 +116,9 @@ fn answer(
 ) -> Outcome {
     let mut all = Outcome::default();
     for mut plan in plans {
-        plan.budget = request.budget.unwrap_or(plan.budget);
-        plan.tolerance = request.tolerance.unwrap_or(plan.tolerance);
-        plan.turn(request.maximise.unwrap_or(plan.maximise));
-        let one = one(&plan, request, task, files).unwrap_or_else(|what| {
-            wrong(format!(
-                "{file}: plan {} isn't in whole numbers within the sheet's limits: {what}",
-                shown(&plan.name)
-            ))
-        });
+        request.settle(&mut plan);
+        let one = one(&plan, request, task, files)
+            .unwrap_or_else(|what| wrong(not_whole(file, &plan, &what)));
         if !(request.json || all.out.is_empty() || one.out.is_empty()) {
             all.out.push('\n');
         }

@@ -42,11 +42,21 @@ impl Format {
 }
 
 /// A kept plan's first block is of kind 1, a byte that begins no text.
-const KEPT: u8 = 1;
+pub fn is_kept(bytes: &[u8]) -> bool {
+    bytes.first() == Some(&1)
+}
+
+/// A fault with its file and line.
+pub fn told(file: &str, fault: Fault) -> String {
+    match fault {
+        Fault { line: 0, what } => format!("{file}: {what}"),
+        Fault { line, what } => format!("{file}:{line}: {what}"),
+    }
+}
 
 /// The plans of a file: one, but for the project's own text.
 pub fn read(bytes: &[u8], format: Format, relax: bool) -> Result<Vec<Plan>, Fault> {
-    if format == Format::Kept || format == Format::Auto && bytes.first() == Some(&KEPT) {
+    if format == Format::Kept || format == Format::Auto && is_kept(bytes) {
         return Ok(vec![kept::plan(&kept::sheet(bytes)?)]);
     }
     let text = String::from_utf8_lossy(bytes);

@@ -8,6 +8,7 @@ mod cli;
 
 mod answers;
 mod damage;
+mod desk;
 mod formats;
 mod kept;
 mod peers;

@@ -113,7 +113,9 @@ fn exit_statuses() {
 
 #[test]
 fn help_for_each() {
-    for command in ["solve", "audit", "why", "keep", "night"] {
+    for command in [
+        "solve", "audit", "why", "keep", "what-if", "undo", "replay", "night",
+    ] {
         let output = start(&[command, "--help"], "");
         assert_eq!(output.status.code(), Some(0));
         let usage = format!("usage: tevalumi {command}");
