@@ -25,6 +25,33 @@ target/staticlib/libtevalumi.a: $(shell find crates crates.txt)
 	rt check $(shell sed -n 's/^tevalumi://p' crates.txt)
 	rt staticlib tevalumi
 
+# The shared library, with the calls of include/tevalumi.h and no others; and the one for this machine's Python.
+SHARED = -shared -Wl,-soname,libtevalumi.so.0 -Wl,--no-undefined -Wl,--version-script=packaging/exports -Wl,--whole-archive
+build/libtevalumi.so.0: target/staticlib/libtevalumi.a packaging/exports
+	@mkdir -p build
+	ci/linked cc $(SHARED) $< -Wl,--no-whole-archive -o $@
+
+build/python/libtevalumi.so: target/staticlib/libtevalumi.a packaging/exports
+	@mkdir -p build/python
+	gcc $(SHARED) "$$(ci/native)/libtevalumi.a" -Wl,--no-whole-archive -o $@
+
+.PHONY: python
+python: build/python/libtevalumi.so
+
+# docs/night.svg: README's picture, drawn from what the program tells.
+.PHONY: picture
+picture: tevalumi
+	packaging/picture build/tevalumi > docs/night.svg
+
+# Libraries, headers, pkg-config file, program, man page and bash completion, under PREFIX (and DESTDIR before it).
+.PHONY: install uninstall
+PREFIX ?= /usr/local
+install: tevalumi build/libtevalumi.so.0
+	packaging/install "$(PREFIX)"
+
+uninstall:
+	packaging/install --remove "$(PREFIX)"
+
 # build/oracle: plans, triangles and pairs of them in, answer lines out (docs/EXCHANGE.md).
 oracle:
 	$(CARGO) build --release --offline --manifest-path oracle/Cargo.toml
@@ -71,7 +98,7 @@ driver: oracle target/staticlib/libtevalumi.a
 checks:
 	ci/checks
 
-# The proved library beside the oracle's solver on 200 plans: a line for each, then the ratios of medians. With GLPK too, through its C library, which Debian
+# The proved library beside the oracle's solver on 200 plans and 100 longer ones: a line for each, then the ratios of medians. With GLPK too, through its C library, which Debian
 # has as libglpk-dev. And where the library's instructions go.
 bench: target/staticlib/libtevalumi.a
 	bench/run

@@ -27,8 +27,9 @@ extern "C" {
  *            5 an empty row that is false                            6 no longer given
  *            7 a slack that starts outside its bounds
  *            ended with the state after the last whole step, and the values left alone:
- *            20 unbounded   21 the budget is spent   22 the eta store is full
+ *            20 unbounded   21 the budget is spent   22 no longer given
  *            23 a number of the step isn't finite    24 the final check rejects
+ *            25 the basis after an exchange can't be factored
  * objective  of that state
  * steps      taken, at most the budget
  * place      what at and within name: 0 nothing; 1 a row (at) and a place in it (within), with status
@@ -56,9 +57,11 @@ typedef struct {
  *   ops, rhs                       rows; 0 is <=, 1 is =, 2 is >=
  * Written on status 0:
  *   values                         columns + rows: the columns' values, then the kept rows' slacks
- * Written on status 0 and 20 to 24, the state, each array whole whatever the plan's sizes:
+ * Written on status 0 and 20 to 25, the state, each array whole whatever the plan's sizes:
  *   numbers                        TEVALUMI_NUMBERS cells
  *   doubles                        TEVALUMI_DOUBLES cells
+ *   factor_numbers                 TEVALUMI_FACTOR_NUMBERS cells
+ *   factor_coeffs                  TEVALUMI_FACTOR_COEFFS cells
  * A section stands at its name's cell; its first cells are written, and all others stay:
  *   KEPT                           the plan's numbers of its kept (not empty) rows
  *   BASIC_VARS, BASIC_VAR_VALS     of the kept rows; variable columns + k is the slack of kept row k
@@ -67,8 +70,17 @@ typedef struct {
  *   VAR_STATES                     columns + kept rows: a variable's place, columns + row where it is basic
  *   ETA_LEAVING, ETA_STARTS        a column's leaving row, and where its entries start
  *   ETA_ROWS, ETA_COEFFS           the entries
- *   COUNTS                         5: kept rows, eta columns, eta entries, steps, status
- *   OBJECTIVE                      1 */
+ *   COUNTS                         7: kept rows, eta columns, eta entries, steps, status, 1 where there is
+ *                                  a factor, factorings since the start
+ *   OBJECTIVE                      1
+ * The factor is L and U of a basis by columns, rows as pivot numbers; where there is none both are the
+ * identity, and no cell of its arrays is written:
+ *   PIVOTS, PIVOT_PLACES           kept rows: the row of each pivot number, and each row's pivot number
+ *   L_STARTS, L_ROWS, L_COEFFS     kept rows + 1, and the entries: L without its diagonal of ones
+ *   U_STARTS, U_ROWS, U_COEFFS     U without its diagonal
+ *   DIAG                           kept rows: U's diagonal
+ *   LT_STARTS, LT_ROWS, LT_COEFFS, UT_STARTS, UT_ROWS, UT_COEFFS
+ *                                  the transposes of L and U */
 #define TEVALUMI_BASIC_VARS 0
 #define TEVALUMI_NB_VARS (TEVALUMI_BASIC_VARS + 96)
 #define TEVALUMI_VAR_STATES (TEVALUMI_NB_VARS + 128)
@@ -78,7 +90,7 @@ typedef struct {
 #define TEVALUMI_ETA_ROWS (TEVALUMI_ETA_STARTS + 257)
 #define TEVALUMI_KEPT (TEVALUMI_ETA_ROWS + 4096)
 #define TEVALUMI_COUNTS (TEVALUMI_KEPT + 96)
-#define TEVALUMI_NUMBERS (TEVALUMI_COUNTS + 5)
+#define TEVALUMI_NUMBERS (TEVALUMI_COUNTS + 7)
 
 #define TEVALUMI_BASIC_VAR_VALS 0
 #define TEVALUMI_NB_VAR_VALS (TEVALUMI_BASIC_VAR_VALS + 96)
@@ -87,6 +99,25 @@ typedef struct {
 #define TEVALUMI_ETA_COEFFS (TEVALUMI_NORMS + 128)
 #define TEVALUMI_OBJECTIVE (TEVALUMI_ETA_COEFFS + 4096)
 #define TEVALUMI_DOUBLES (TEVALUMI_OBJECTIVE + 1)
+
+#define TEVALUMI_PIVOTS 0
+#define TEVALUMI_PIVOT_PLACES (TEVALUMI_PIVOTS + 96)
+#define TEVALUMI_L_STARTS (TEVALUMI_PIVOT_PLACES + 96)
+#define TEVALUMI_L_ROWS (TEVALUMI_L_STARTS + 97)
+#define TEVALUMI_U_STARTS (TEVALUMI_L_ROWS + 4560)
+#define TEVALUMI_U_ROWS (TEVALUMI_U_STARTS + 97)
+#define TEVALUMI_LT_STARTS (TEVALUMI_U_ROWS + 4560)
+#define TEVALUMI_LT_ROWS (TEVALUMI_LT_STARTS + 97)
+#define TEVALUMI_UT_STARTS (TEVALUMI_LT_ROWS + 4560)
+#define TEVALUMI_UT_ROWS (TEVALUMI_UT_STARTS + 97)
+#define TEVALUMI_FACTOR_NUMBERS (TEVALUMI_UT_ROWS + 4560)
+
+#define TEVALUMI_L_COEFFS 0
+#define TEVALUMI_U_COEFFS (TEVALUMI_L_COEFFS + 4560)
+#define TEVALUMI_LT_COEFFS (TEVALUMI_U_COEFFS + 4560)
+#define TEVALUMI_UT_COEFFS (TEVALUMI_LT_COEFFS + 4560)
+#define TEVALUMI_DIAG (TEVALUMI_UT_COEFFS + 4560)
+#define TEVALUMI_FACTOR_COEFFS (TEVALUMI_DIAG + 96)
 
 TevalumiAnswer tevalumi_solve(
     size_t columns, size_t rows, size_t entries, size_t budget, double tolerance,
@@ -100,7 +131,9 @@ TevalumiAnswer tevalumi_solve(
     const double *rhs, size_t rhs_len,
     double *values, size_t values_len,
     size_t *numbers, size_t numbers_len,
-    double *doubles, size_t doubles_len);
+    double *doubles, size_t doubles_len,
+    size_t *factor_numbers, size_t factor_numbers_len,
+    double *factor_coeffs, size_t factor_coeffs_len);
 
 /* ---- Triangles ----
  * Solves a triangle that is stored by columns, or two of them, one after the other.

@@ -1,5 +1,5 @@
-//! The proved library beside the oracle's solver: the same 200 plans, both release builds, called
-//! in one process on memory that is prepared beforehand.
+//! The proved library beside the oracle's solver: the same 200 plans and 100 longer ones, both release
+//! builds, called in one process on memory that is prepared beforehand.
 //!
 //! | call | what it does |
 //! |---|---|
@@ -50,7 +50,8 @@ fn mode() -> Result<Mode, String> {
 }
 
 fn run(mode: Mode) -> Result<ExitCode, String> {
-    let plans = plans::all();
+    let mut plans = plans::gateway();
+    plans.extend(plans::long());
     let (mut races, mut failed) = (vec![], 0);
     for plan in &plans {
         match Race::new(plan) {
@@ -80,8 +81,11 @@ fn run(mode: Mode) -> Result<ExitCode, String> {
     for race in &races {
         println!("{}", race.line());
     }
-    println!();
-    summary(&races, rounds);
+    let (gateway, long) = races.split_at(plans::COUNT);
+    for (name, races) in [("the gateway's plans", gateway), ("the longer plans", long)] {
+        println!("\n{name}:");
+        summary(races, rounds);
+    }
     Ok(ExitCode::SUCCESS)
 }
 
@@ -109,7 +113,7 @@ impl<'a> Race<'a> {
     /// Solves the plan once on both sides; an error says how they differ.
     fn new(plan: &'a Plan) -> Result<Race<'a>, String> {
         if sides::needs_copies(plan) {
-            return Err("the oracle answers 23: not a plan for the benchmark".to_string());
+            return Err("the oracle answers 23 or 25: not a plan for the benchmark".to_string());
         }
         let mut library = Library::new(plan);
         let seen = library.solve(plan);

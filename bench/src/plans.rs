@@ -1,23 +1,44 @@
-//! 200 seeded plans of the gateway's sizes: units that want radio milliseconds, and rows that
-//! share them out.
+//! 200 seeded plans of the gateway's sizes, and 100 longer ones: units that want radio milliseconds, and
+//! rows that share them out.
 
+use oracle::limits;
 use oracle::plan::Plan;
 use oracle::rng::Rng;
 
 pub const COUNT: usize = 200;
+pub const LONG_COUNT: usize = 100;
 const SEED: u64 = 2_026;
 
-/// Every plan: 10 to 64 rows, 20 to 128 columns, 5 to 20 % dense.
-pub fn all() -> Vec<Plan> {
+/// 10 to 64 rows, 20 to 128 columns, 5 to 20 % dense.
+pub fn gateway() -> Vec<Plan> {
     let mut rng = Rng::named(SEED, "bench");
-    (0..COUNT).map(|number| plan(number, &mut rng)).collect()
+    let next = |number| {
+        let (rows, columns) = (rng.between(10, 64), rng.between(20, 128));
+        let percent = rng.between(5, 20);
+        plan(format!("bench.{number}"), rows, columns, percent, &mut rng)
+    };
+    (0..COUNT).map(next).collect()
 }
 
-fn plan(number: usize, rng: &mut Rng) -> Plan {
-    let (rows, columns) = (rng.between(10, 64), rng.between(20, 128));
-    let percent = rng.between(5, 20);
+/// 64 to 96 rows, 128 columns, 10 to 20 % dense, as far as the entries' limit allows: most runs factor their basis.
+pub fn long() -> Vec<Plan> {
+    let mut rng = Rng::named(SEED, "long");
+    let mut plans = vec![];
+    while plans.len() < LONG_COUNT {
+        let (rows, percent) = (rng.between(64, 96), rng.between(10, 20));
+        let columns = limits::COLUMNS as usize;
+        let id = format!("long.{}", plans.len());
+        let plan = plan(id, rows, columns, percent, &mut rng);
+        if plan.entries <= limits::ENTRIES {
+            plans.push(plan);
+        }
+    }
+    plans
+}
+
+fn plan(id: String, rows: usize, columns: usize, percent: usize, rng: &mut Rng) -> Plan {
     let mut plan = Plan {
-        id: format!("bench.{number}"),
+        id,
         columns: columns as u64,
         rows: rows as u64,
         budget: 10_000,

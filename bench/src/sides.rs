@@ -84,8 +84,8 @@ pub fn oracle(plan: &Plan) -> (Seen, Vec<f64>) {
     (seen, answer.values)
 }
 
-/// Whether the oracle would need its copies: it answers 23.
+/// Whether the oracle would need its copies: it answers 23 or 25.
 pub fn needs_copies(plan: &Plan) -> bool {
     let outcome = gate::solve(plan, Options::default()).outcome;
-    matches!(outcome, Outcome::NotFinite { .. })
+    matches!(outcome, Outcome::NotFinite { .. } | Outcome::Singular)
 }

@@ -24,16 +24,26 @@ static void check(int holds, const char *what) {
 #define MARK 77
 
 /* N2's plan: costs -3, -1; bounds 0 to none, 0 to 2; x0 + x1 <= 4. Each array has a cell more than needed. */
-static TevalumiAnswer solve(double *values, size_t *numbers, size_t numbers_len, double *doubles, size_t doubles_len) {
+static size_t factor_numbers[TEVALUMI_FACTOR_NUMBERS + 1];
+static double factor_coeffs[TEVALUMI_FACTOR_COEFFS + 1];
+
+static TevalumiAnswer solve_with(double *values, size_t *numbers, size_t numbers_len, double *doubles, size_t doubles_len, size_t factor_numbers_len,
+    size_t factor_coeffs_len) {
     const double costs[] = {-3, -1}, lowers[] = {0, 0}, uppers[] = {HUGE_VAL, 2}, coeffs[] = {1, 1}, rhs[] = {4};
     const size_t starts[] = {0, 2}, cols[] = {0, 1};
     const uint8_t ops[] = {0};
     return tevalumi_solve(2, 1, 2, 10, 1e-9, ARRAY(costs), ARRAY(lowers), ARRAY(uppers), ARRAY(starts), ARRAY(cols), ARRAY(coeffs), ARRAY(ops), ARRAY(rhs),
-        values, 4, numbers, numbers_len, doubles, doubles_len);
+        values, 4, numbers, numbers_len, doubles, doubles_len, factor_numbers, factor_numbers_len, factor_coeffs, factor_coeffs_len);
+}
+
+static TevalumiAnswer solve(double *values, size_t *numbers, size_t numbers_len, double *doubles, size_t doubles_len) {
+    return solve_with(values, numbers, numbers_len, doubles, doubles_len, LEN(factor_numbers), LEN(factor_coeffs));
 }
 
 /* Whether the cells of the array from one place up to another are marked. */
 #define MARKED(array, from, to) marked_##array(array, from, to)
+#define marked_factor_numbers marked_numbers
+#define marked_factor_coeffs marked_doubles
 
 static int marked_numbers(const size_t *numbers, size_t from, size_t to) {
     while (from < to && numbers[from] == MARK) {
@@ -59,17 +69,27 @@ static void plan(void) {
     for (size_t i = 0; i < LEN(doubles); i++) {
         doubles[i] = MARK;
     }
+    for (size_t i = 0; i < LEN(factor_numbers); i++) {
+        factor_numbers[i] = MARK;
+    }
+    for (size_t i = 0; i < LEN(factor_coeffs); i++) {
+        factor_coeffs[i] = MARK;
+    }
     TevalumiAnswer a = solve(values, numbers, TEVALUMI_NUMBERS - 1, doubles, TEVALUMI_DOUBLES);
     check(a.status == 1, "numbers a cell short: 1");
     a = solve(values, numbers, TEVALUMI_NUMBERS, doubles, TEVALUMI_DOUBLES - 1);
     check(a.status == 1, "doubles a cell short: 1");
+    a = solve_with(values, numbers, LEN(numbers), doubles, LEN(doubles), TEVALUMI_FACTOR_NUMBERS - 1, TEVALUMI_FACTOR_COEFFS);
+    check(a.status == 1, "factor_numbers a cell short: 1");
+    a = solve_with(values, numbers, LEN(numbers), doubles, LEN(doubles), TEVALUMI_FACTOR_NUMBERS, TEVALUMI_FACTOR_COEFFS - 1);
+    check(a.status == 1, "factor_coeffs a cell short: 1");
     check(MARKED(numbers, 0, LEN(numbers)) && MARKED(doubles, 0, LEN(doubles)) && values[0] == MARK, "and nothing changed");
 
     a = solve(values, numbers, LEN(numbers), doubles, LEN(doubles));
     check(a.status == 0 && a.steps == 2 && a.objective == -12, "N2's answer");
     check(values[0] == 4 && values[1] == 0 && values[2] == 0 && values[3] == MARK, "its values, and the cell past them");
     const size_t *counts = numbers + TEVALUMI_COUNTS;
-    check(counts[0] == 1 && counts[1] == 1 && counts[3] == 2 && counts[4] == 0, "the counts");
+    check(counts[0] == 1 && counts[1] == 1 && counts[3] == 2 && counts[4] == 0 && counts[5] == 0 && counts[6] == 0, "the counts");
     check(doubles[TEVALUMI_OBJECTIVE] == -12 && numbers[TEVALUMI_KEPT] == 0, "the objective, the kept row");
     check(numbers[TEVALUMI_BASIC_VARS] == 0 && doubles[TEVALUMI_BASIC_VAR_VALS] == 4, "column 0 is basic");
     check(numbers[TEVALUMI_NB_VARS] == 2 && numbers[TEVALUMI_NB_VARS + 1] == 1, "the slack and column 1 are not");
@@ -86,6 +106,7 @@ static void plan(void) {
             && MARKED(doubles, TEVALUMI_NORMS + 2, TEVALUMI_ETA_COEFFS) && MARKED(doubles, TEVALUMI_ETA_COEFFS + counts[2], TEVALUMI_OBJECTIVE)
             && MARKED(doubles, TEVALUMI_DOUBLES, LEN(doubles)),
         "all other cells of doubles");
+    check(MARKED(factor_numbers, 0, LEN(factor_numbers)) && MARKED(factor_coeffs, 0, LEN(factor_coeffs)), "and no factor");
 }
 
 /* 2 x0 = 6 and 2 x0 + 4 x1 = 0, by columns; cells past the second are marked. */

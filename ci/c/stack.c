@@ -25,11 +25,45 @@ static void *solve(void *answer) {
     const double uppers[] = {INFINITY, 2};
     static const size_t starts[] = {0, 2}, cols[] = {0, 1};
     static const uint8_t ops[] = {0};
-    static double values[COLUMNS + ROWS], doubles[TEVALUMI_DOUBLES];
-    static size_t numbers[TEVALUMI_NUMBERS];
+    static double values[COLUMNS + ROWS], doubles[TEVALUMI_DOUBLES], factor_coeffs[TEVALUMI_FACTOR_COEFFS];
+    static size_t numbers[TEVALUMI_NUMBERS], factor_numbers[TEVALUMI_FACTOR_NUMBERS];
     TevalumiAnswer a = tevalumi_solve(2, 1, 2, 10, 1e-9, ARRAY(costs), ARRAY(lowers), ARRAY(uppers), ARRAY(starts), ARRAY(cols), ARRAY(coeffs), ARRAY(ops),
-        ARRAY(rhs), ARRAY(values), ARRAY(numbers), ARRAY(doubles));
+        ARRAY(rhs), ARRAY(values), ARRAY(numbers), ARRAY(doubles), ARRAY(factor_numbers), ARRAY(factor_coeffs));
     *(int *)answer = a.status == 0 && a.steps == 2 && a.objective == -12 && a.excess == 0;
+    return NULL;
+}
+
+enum { CUBE = 8 };
+
+/* A cube whose run has more exchanges than the eta store has room for: the basis is factored. */
+static void *factor(void *answer) {
+    static double costs[CUBE], lowers[CUBE], uppers[CUBE], coeffs[4 * CUBE], rhs[2 * CUBE], values[COLUMNS + ROWS], doubles[TEVALUMI_DOUBLES],
+        factor_coeffs[TEVALUMI_FACTOR_COEFFS];
+    static size_t starts[2 * CUBE], cols[4 * CUBE], numbers[TEVALUMI_NUMBERS], factor_numbers[TEVALUMI_FACTOR_NUMBERS];
+    static uint8_t ops[2 * CUBE];
+    size_t rows = 1, entries = 1;
+    double right = 0.016;
+    for (size_t k = CUBE; k-- > 0;) {
+        costs[k] = k + 1 == CUBE ? -0.1 : costs[k + 1] * 1.25;
+        uppers[k] = INFINITY;
+    }
+    coeffs[0] = rhs[0] = 0.001;
+    for (size_t k = 1; k < CUBE; k++) {
+        for (int below = 1; below >= 0; below--, rows++) {
+            starts[rows] = entries;
+            ops[rows] = below ? 2 : 0;
+            rhs[rows] = below ? 0 : right;
+            cols[entries] = k - 1;
+            coeffs[entries++] = below ? -0.004 : 0.004;
+            cols[entries] = k;
+            coeffs[entries++] = 0.001;
+        }
+        right *= 16;
+    }
+    starts[rows] = entries;
+    TevalumiAnswer a = tevalumi_solve(CUBE, rows, entries, 10000, 1e-6, ARRAY(costs), ARRAY(lowers), ARRAY(uppers), ARRAY(starts), ARRAY(cols), ARRAY(coeffs),
+        ARRAY(ops), ARRAY(rhs), ARRAY(values), ARRAY(numbers), ARRAY(doubles), ARRAY(factor_numbers), ARRAY(factor_coeffs));
+    *(int *)answer = a.status == 0 && numbers[TEVALUMI_COUNTS + 5] == 1 && numbers[TEVALUMI_COUNTS + 6] == 1;
     return NULL;
 }
 
@@ -98,8 +132,9 @@ static void measure(const char *name, void *(*body)(void *), size_t limit) {
 }
 
 int main(void) {
-    measure("tevalumi_solve", solve, 96 << 10);
-    measure("tevalumi_lower_sparse", triangle, 16 << 10);
+    measure("tevalumi_solve", solve, 512 << 10);
+    measure("tevalumi_solve with a factor", factor, 512 << 10);
+    measure("tevalumi_lower_sparse", triangle, 24 << 10);
     measure("tevalumi_open and tevalumi_edit", edit, 8 << 10);
     printf("%d passed, %d failed\n", passed, failed);
     return failed != 0;

@@ -11,7 +11,7 @@ pub mod lent;
 #[path = "../../bindings/rust/src/ffi.rs"]
 mod library;
 pub mod plans;
-/// Where the sections of a solve's two arrays stand, as the Rust crate has them.
+/// Where the sections of a solve's four arrays stand, as the Rust crate has them.
 #[path = "../../bindings/rust/src/sections.rs"]
 pub mod sections;
 pub mod sheets;

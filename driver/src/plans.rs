@@ -2,7 +2,7 @@
 
 use std::ops::Range;
 
-use oracle::answer::State;
+use oracle::answer::{Factor, State};
 use oracle::exchange::{Line, Place};
 use oracle::limits;
 use oracle::plan::{Lent as Name, Plan};
@@ -12,11 +12,13 @@ use crate::lent::Lent;
 use crate::library::{tevalumi_solve, Answer};
 use crate::{sections, EXTRA};
 
-/// A section of one of the two arrays that hold the state.
+/// A section of one of the arrays that hold the state.
 #[derive(Clone, Debug)]
 pub enum Section {
     Numbers(Range<usize>),
     Doubles(Range<usize>),
+    FactorNumbers(Range<usize>),
+    FactorCoeffs(Range<usize>),
 }
 
 /// Where each array of docs/EXCHANGE.md stands.
@@ -39,6 +41,8 @@ pub fn section(name: Name) -> Section {
         Name::Obj => Section::Doubles(sections::OBJECTIVE),
         Name::Numbers => Section::Numbers(0..sections::NUMBERS),
         Name::Doubles => Section::Doubles(0..sections::DOUBLES),
+        Name::FactorNumbers => Section::FactorNumbers(0..sections::FACTOR_NUMBERS),
+        Name::FactorCoeffs => Section::FactorCoeffs(0..sections::FACTOR_COEFFS),
     }
 }
 
@@ -48,6 +52,8 @@ pub struct Lengths {
     pub values: usize,
     pub numbers: usize,
     pub doubles: usize,
+    pub factor_numbers: usize,
+    pub factor_coeffs: usize,
 }
 
 /// A size past its limit is said, but not lent.
@@ -66,6 +72,8 @@ impl Lengths {
             values: (columns + rows) as usize,
             numbers: sections::NUMBERS,
             doubles: sections::DOUBLES,
+            factor_numbers: sections::FACTOR_NUMBERS,
+            factor_coeffs: sections::FACTOR_COEFFS,
         }
     }
 
@@ -80,6 +88,8 @@ impl Lengths {
             },
             numbers: needed.numbers + rng.below(EXTRA),
             doubles: needed.doubles + rng.below(EXTRA),
+            factor_numbers: needed.factor_numbers + rng.below(EXTRA),
+            factor_coeffs: needed.factor_coeffs + rng.below(EXTRA),
         };
         // A plan that is too large is refused whatever is lent.
         let small = plan.columns <= limits::COLUMNS && plan.rows <= limits::ROWS;
@@ -95,6 +105,10 @@ impl Lengths {
             match name {
                 Name::Numbers => lengths.numbers = told(length, needed.numbers),
                 Name::Doubles => lengths.doubles = told(length, needed.doubles),
+                Name::FactorNumbers => {
+                    lengths.factor_numbers = told(length, needed.factor_numbers);
+                }
+                Name::FactorCoeffs => lengths.factor_coeffs = told(length, needed.factor_coeffs),
                 _ => {}
             }
         }
@@ -155,9 +169,11 @@ struct Memory {
     values: Lent<f64>,
     numbers: Lent<usize>,
     doubles: Lent<f64>,
+    factor_numbers: Lent<usize>,
+    factor_coeffs: Lent<f64>,
 }
 
-/// How much of the state an answer of 0 or 20 to 24 wrote.
+/// How much of the state an answer of 0 or 20 to 25 wrote.
 #[derive(Clone, Copy)]
 struct Wrote {
     values: usize,
@@ -165,6 +181,9 @@ struct Wrote {
     kept: usize,
     etas: usize,
     entries: usize,
+    factorings: usize,
+    /// The entries of L and U, where there is a factor.
+    factor: Option<[usize; 2]>,
 }
 
 impl Wrote {
@@ -174,14 +193,52 @@ impl Wrote {
             Name::Kept | Name::Basic | Name::Bval => self.kept,
             Name::Nonbasic | Name::Nval | Name::Price | Name::Norm | Name::Flags => self.columns,
             Name::Where => self.columns + self.kept,
+            // What a factoring emptied may have been longer.
+            Name::Etarow | Name::Etaptr | Name::Etaidx | Name::Etaval if self.factorings > 0 => {
+                name.needed(0, 0) as usize
+            }
             Name::Etarow => self.etas,
             Name::Etaptr => self.etas + 1,
             Name::Etaidx | Name::Etaval => self.entries,
-            Name::Counts => 5,
+            Name::Counts => 7,
             Name::Obj => 1,
-            Name::Numbers | Name::Doubles => 0,
+            Name::Numbers | Name::Doubles | Name::FactorNumbers | Name::FactorCoeffs => 0,
         }
     }
+
+    /// The cells of `factor_numbers` that a factor with these entries doesn't use. A factoring writes each part whole: no
+    /// number there, and no pivot number of a row that isn't kept.
+    fn factor_numbers_unused(&self, [lower, upper]: [usize; 2]) -> [(Range<usize>, usize); 10] {
+        let (rows, starts) = (self.kept, self.kept + 1);
+        [
+            (past(sections::PIVOTS, rows), 0),
+            (past(sections::PIVOT_PLACES, rows), sections::PIVOTS.len()),
+            (past(sections::L_STARTS, starts), 0),
+            (past(sections::L_ROWS, lower), 0),
+            (past(sections::U_STARTS, starts), 0),
+            (past(sections::U_ROWS, upper), 0),
+            (past(sections::LT_STARTS, starts), 0),
+            (past(sections::LT_ROWS, lower), 0),
+            (past(sections::UT_STARTS, starts), 0),
+            (past(sections::UT_ROWS, upper), 0),
+        ]
+    }
+
+    /// The cells of `factor_coeffs` that it doesn't use: each holds 0.0.
+    fn factor_coeffs_unused(&self, [lower, upper]: [usize; 2]) -> [Range<usize>; 5] {
+        [
+            past(sections::L_COEFFS, lower),
+            past(sections::U_COEFFS, upper),
+            past(sections::LT_COEFFS, lower),
+            past(sections::UT_COEFFS, upper),
+            past(sections::DIAG, self.kept),
+        ]
+    }
+}
+
+/// The cells of a section past its written ones.
+fn past(section: Range<usize>, written: usize) -> Range<usize> {
+    section.start + written..section.end
 }
 
 impl Memory {
@@ -190,6 +247,8 @@ impl Memory {
             values: Lent::marked(lengths.values),
             numbers: Lent::marked(lengths.numbers),
             doubles: Lent::marked(lengths.doubles),
+            factor_numbers: Lent::marked(lengths.factor_numbers),
+            factor_coeffs: Lent::marked(lengths.factor_coeffs),
         }
     }
 
@@ -211,6 +270,8 @@ impl Memory {
             self.values.lend(),
             self.numbers.lend(),
             self.doubles.lend(),
+            self.factor_numbers.lend(),
+            self.factor_coeffs.lend(),
         )
     }
 
@@ -221,27 +282,53 @@ impl Memory {
             return Some("values");
         }
         let Some(wrote) = wrote else {
-            let numbers = self.numbers.stayed(&before.numbers, 0);
-            let doubles = self.doubles.stayed(&before.doubles, 0);
-            return match (numbers, doubles) {
-                (true, true) => None,
-                (false, _) => Some("numbers"),
-                (true, false) => Some("doubles"),
-            };
+            return self.array_changed(before, [0; 4]);
         };
         // What an answer wrote was lent whole: each section past its written cells, then what stands past the sections.
-        let past = |cells: Range<usize>, name| cells.start + wrote.cells(name)..cells.end;
+        let left = |cells: Range<usize>, name| past(cells, wrote.cells(name));
         let kept = |&name: &Name| match section(name) {
-            Section::Numbers(cells) => self.numbers.kept(&before.numbers, past(cells, name)),
-            Section::Doubles(cells) => self.doubles.kept(&before.doubles, past(cells, name)),
+            Section::Numbers(cells) => self.numbers.kept(&before.numbers, left(cells, name)),
+            Section::Doubles(cells) => self.doubles.kept(&before.doubles, left(cells, name)),
+            Section::FactorNumbers(_) | Section::FactorCoeffs(_) => true,
         };
         if let Some(name) = Name::ALL.into_iter().find(|name| !kept(name)) {
             return Some(name.name());
         }
-        if !self.numbers.stayed(&before.numbers, sections::NUMBERS) {
-            return Some("numbers");
+        let mut whole = Name::ARRAYS.map(|name| name.needed(0, 0) as usize);
+        match wrote.factor {
+            None => whole[2..].fill(0),
+            Some(entries) => {
+                let is = self.factor_numbers.get();
+                let mut numbers = wrote.factor_numbers_unused(entries).into_iter();
+                if !numbers.all(|(cells, blank)| is[cells].iter().all(|&cell| cell == blank)) {
+                    return Some("factor_numbers");
+                }
+                let is = self.factor_coeffs.get();
+                let mut coeffs = wrote.factor_coeffs_unused(entries).into_iter();
+                if !coeffs.all(|cells| is[cells].iter().all(|cell| cell.to_bits() == 0)) {
+                    return Some("factor_coeffs");
+                }
+            }
         }
-        (!self.doubles.stayed(&before.doubles, sections::DOUBLES)).then_some("doubles")
+        self.array_changed(before, whole)
+    }
+
+    /// The first of the state's arrays with a changed cell past so many of each.
+    fn array_changed(&self, before: &Memory, written: [usize; 4]) -> Option<&'static str> {
+        let [numbers, doubles, factor_numbers, factor_coeffs] = written;
+        let (was, is) = (before, self);
+        let stayed = [
+            is.numbers.stayed(&was.numbers, numbers),
+            is.doubles.stayed(&was.doubles, doubles),
+            is.factor_numbers
+                .stayed(&was.factor_numbers, factor_numbers),
+            is.factor_coeffs.stayed(&was.factor_coeffs, factor_coeffs),
+        ];
+        let changed = Name::ARRAYS
+            .into_iter()
+            .zip(stayed)
+            .find(|(_, stayed)| !stayed);
+        changed.map(|(name, _)| name.name())
     }
 
     fn numbers(&self, cells: Range<usize>, count: usize) -> &[usize] {
@@ -280,7 +367,66 @@ impl Memory {
             etaptr: self.numbers(sections::ETA_STARTS, etas + 1).to_vec(),
             etaidx: self.numbers(sections::ETA_ROWS, entries).to_vec(),
             etaval: self.doubles(sections::ETA_COEFFS, entries),
+            factor: wrote.factor.map(|entries| self.factor(kept, entries)),
+            factorings: wrote.factorings,
         }
+    }
+
+    fn factor_numbers(&self, cells: Range<usize>, count: usize) -> Vec<usize> {
+        self.factor_numbers.get()[cells][..count].to_vec()
+    }
+
+    fn factor_coeffs(&self, cells: Range<usize>, count: usize) -> Vec<f64> {
+        self.factor_coeffs.get()[cells][..count].to_vec()
+    }
+
+    fn factor(&self, size: usize, [lower, upper]: [usize; 2]) -> Factor {
+        Factor {
+            pivots: self.factor_numbers(sections::PIVOTS, size),
+            lptr: self.factor_numbers(sections::L_STARTS, size + 1),
+            lidx: self.factor_numbers(sections::L_ROWS, lower),
+            lval: self.factor_coeffs(sections::L_COEFFS, lower),
+            uptr: self.factor_numbers(sections::U_STARTS, size + 1),
+            uidx: self.factor_numbers(sections::U_ROWS, upper),
+            uval: self.factor_coeffs(sections::U_COEFFS, upper),
+            udiag: self.factor_coeffs(sections::DIAG, size),
+        }
+    }
+
+    /// The entries of L and U; an error says what of a factor's arrays doesn't agree with the rest of them.
+    fn factor_entries(&self, size: usize) -> Result<[usize; 2], String> {
+        let ends = [sections::L_STARTS, sections::U_STARTS]
+            .map(|starts| self.factor_numbers.get()[starts.start + size]);
+        if ends.into_iter().any(|end| end > sections::L_ROWS.len()) {
+            return Err(format!("a factor of {ends:?} entries doesn't fit"));
+        }
+        let factor = self.factor(size, ends);
+        let places = self.factor_numbers(sections::PIVOT_PLACES, size);
+        let back = |(number, &row): (usize, &usize)| places.get(row) == Some(&number);
+        if !factor.pivots.iter().enumerate().all(back) {
+            return Err("the pivot places aren't the pivots' inverse".into());
+        }
+        let [lower, upper] = ends;
+        let lt = Columns {
+            starts: self.factor_numbers(sections::LT_STARTS, size + 1),
+            rows: self.factor_numbers(sections::LT_ROWS, lower),
+            vals: self.factor_coeffs(sections::LT_COEFFS, lower),
+        };
+        let ut = Columns {
+            starts: self.factor_numbers(sections::UT_STARTS, size + 1),
+            rows: self.factor_numbers(sections::UT_ROWS, upper),
+            vals: self.factor_coeffs(sections::UT_COEFFS, upper),
+        };
+        let of = |starts: &[usize], rows: &[usize], vals: &[f64]| {
+            Columns::transposed(size, starts, rows, vals)
+        };
+        if of(&factor.lptr, &factor.lidx, &factor.lval).as_ref() != Some(&lt) {
+            return Err("the transpose of L isn't L's".into());
+        }
+        if of(&factor.uptr, &factor.uidx, &factor.uval).as_ref() != Some(&ut) {
+            return Err("the transpose of U isn't U's".into());
+        }
+        Ok(ends)
     }
 
     /// Whether each variable's cell says where the maps have it: a place below the columns, or the
@@ -292,6 +438,38 @@ impl Memory {
         let basic = self.numbers(sections::BASIC_VARS, kept).iter();
         non_basic.enumerate().all(|(c, var)| at(var, c))
             && basic.enumerate().all(|(r, var)| at(var, columns + r))
+    }
+}
+
+/// A matrix by columns.
+#[derive(PartialEq)]
+struct Columns {
+    starts: Vec<usize>,
+    rows: Vec<usize>,
+    vals: Vec<f64>,
+}
+
+impl Columns {
+    /// 02's transpose: a column lists its entries by falling column number of the original. None where the starts
+    /// or rows are out of range.
+    fn transposed(size: usize, starts: &[usize], rows: &[usize], vals: &[f64]) -> Option<Columns> {
+        let mut columns = vec![vec![]; size];
+        for col in (0..size).rev() {
+            let cells = starts[col]..starts[col + 1];
+            let entries = rows.get(cells.clone())?.iter().zip(vals.get(cells)?);
+            for (&row, &val) in entries {
+                columns.get_mut(row)?.push((col, val));
+            }
+        }
+        let mut ends = vec![0];
+        for column in &columns {
+            ends.push(ends[ends.len() - 1] + column.len());
+        }
+        Some(Columns {
+            starts: ends,
+            rows: columns.iter().flatten().map(|&(row, _)| row).collect(),
+            vals: columns.iter().flatten().map(|&(_, val)| val).collect(),
+        })
     }
 }
 
@@ -307,7 +485,7 @@ pub fn line(plan: &Plan, lengths: &Lengths, with_state: bool) -> String {
         faults.push("the plan changed".to_string());
     }
     let wrote = match answer.status {
-        0 | 20..=24 => wrote(plan, &answer, &memory)
+        0 | 20..=25 => wrote(plan, &answer, &memory)
             .map_err(|fault| faults.push(fault))
             .ok(),
         _ => None,
@@ -331,19 +509,20 @@ pub fn line(plan: &Plan, lengths: &Lengths, with_state: bool) -> String {
     })
 }
 
-/// What an answer of 0 or 20 to 24 wrote, by its own counts, and whether these are the answer's.
+/// What an answer of 0 or 20 to 25 wrote, by its own counts, and whether these are the answer's.
 fn wrote(plan: &Plan, answer: &Answer, memory: &Memory) -> Result<Wrote, String> {
     let columns = plan.columns as usize;
-    let [kept, etas, entries, steps, status] = *memory.numbers(sections::COUNTS, 5) else {
-        unreachable!("five counts were lent")
+    let counts = memory.numbers(sections::COUNTS, 7);
+    let [kept, etas, entries, steps, status, factor, factorings] = *counts else {
+        unreachable!("seven counts were lent")
     };
     let fits = kept <= plan.rows as usize
         && etas as u64 <= limits::ETA_COLUMNS
-        && entries as u64 <= limits::ETA_ENTRIES;
+        && entries as u64 <= limits::ETA_ENTRIES
+        && factor == usize::from(factorings > 0)
+        && factorings <= steps;
     if !fits || (steps, status) != (answer.steps, answer.status) {
-        return Err(format!(
-            "counts {kept} {etas} {entries} {steps} {status} don't fit"
-        ));
+        return Err(format!("counts {counts:?} don't fit"));
     }
     let objective = memory.doubles(sections::OBJECTIVE, 1)[0];
     if objective.to_bits() != answer.objective.to_bits() {
@@ -358,6 +537,11 @@ fn wrote(plan: &Plan, answer: &Answer, memory: &Memory) -> Result<Wrote, String>
         kept,
         etas,
         entries,
+        factorings,
+        factor: match factor {
+            0 => None,
+            _ => Some(memory.factor_entries(kept)?),
+        },
     })
 }
 

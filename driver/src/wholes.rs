@@ -221,6 +221,8 @@ fn run(plan: &Plan) -> Run {
     let mut values = vec![f64::MARK; plan.cost.len() + plan.rhs.len()];
     let mut numbers = vec![usize::MARK; sections::NUMBERS];
     let mut doubles = vec![f64::MARK; sections::DOUBLES];
+    let mut factor_numbers = vec![usize::MARK; sections::FACTOR_NUMBERS];
+    let mut factor_coeffs = vec![f64::MARK; sections::FACTOR_COEFFS];
     let answer = tevalumi_solve(
         plan.columns as usize,
         plan.rows as usize,
@@ -238,6 +240,8 @@ fn run(plan: &Plan) -> Run {
         &mut values,
         &mut numbers,
         &mut doubles,
+        &mut factor_numbers,
+        &mut factor_coeffs,
     );
     Run {
         status: answer.status,
@@ -387,7 +391,7 @@ pub fn plans(text: &str, tally: &mut Tally) -> Result<(), String> {
                 optimal(&plan, &run, &mut rng, tally);
                 others(&plan, &mut run, &mut rng, tally);
             }
-            20..=24 => {
+            20..=25 => {
                 let (answer, _, _, stayed) = propose(&plan, &run, 0);
                 tally.nothing += 1;
                 tally.check(bare(&answer, 0, 1) && stayed, || {

@@ -132,7 +132,7 @@ fn just_long_enough_gives_the_oracles_answer() {
                 .to_string(),
         );
     }
-    // 0 to 5, 7 and 20 to 24: since 02's limit of 1e12 no plan is answered with 6.
+    // 0 to 5, 7, 20, 21 and 23 to 25: since 02 no plan is answered with 6 or 22.
     tried.assert(12, 1);
 }
 
@@ -163,10 +163,16 @@ fn a_written_array_too_short_gives_1() {
     for (i, plan) in plans().into_iter().enumerate() {
         let needed = Lengths::needed(&plan);
         type Cut = fn(&mut Lengths, usize);
-        let arrays: [(&str, usize, Cut); 3] = [
+        let arrays: [(&str, usize, Cut); 5] = [
             ("values", needed.values, |l, to| l.values = to),
             ("numbers", needed.numbers, |l, to| l.numbers = to),
             ("doubles", needed.doubles, |l, to| l.doubles = to),
+            ("factor_numbers", needed.factor_numbers, |l, to| {
+                l.factor_numbers = to;
+            }),
+            ("factor_coeffs", needed.factor_coeffs, |l, to| {
+                l.factor_coeffs = to;
+            }),
         ];
         for (name, least, cut) in arrays {
             if least == 0 {
@@ -180,14 +186,25 @@ fn a_written_array_too_short_gives_1() {
             tried.add(name);
         }
     }
-    tried.assert(3, 300);
+    tried.assert(5, 300);
 }
 
-/// A section that is said to be shorter than needed, or just as long, and an array of them: as the oracle answers.
+/// The steps of an answer line.
+fn steps(line: &str) -> usize {
+    let word = line.split(' ').nth(4).expect("a line has its steps");
+    word.parse().expect("steps are a number")
+}
+
+/// A section that is said to be shorter than needed, or just as long, and an array of them: as the oracle answers. Each
+/// plan is solved some forty times, so long runs are left to the other tests.
 #[test]
 fn a_short_section_gives_1_and_one_just_long_enough_does_not() {
     let mut tried = Tried::default();
     for plan in plans() {
+        let told = told(&plan);
+        if steps(&told) > 60 {
+            continue;
+        }
         for name in Lent::ALL.into_iter().chain(Lent::ARRAYS) {
             let needed = name.needed(plan.columns, plan.rows);
             for length in [needed.checked_sub(1), Some(needed)].into_iter().flatten() {
@@ -196,14 +213,14 @@ fn a_short_section_gives_1_and_one_just_long_enough_does_not() {
                 let lengths = Lengths::told(&said, &mut Rng::named(1, "told"));
                 let want = match length < needed {
                     true => refused(&plan),
-                    false => told(&plan),
+                    false => told.clone(),
                 };
                 assert_eq!(line(&said, &lengths, true), want, "{}", name.name());
             }
             tried.add(name.name());
         }
     }
-    tried.assert(17, 300);
+    tried.assert(19, 300);
 }
 
 #[test]
@@ -214,6 +231,8 @@ fn what_stands_past_the_end_is_not_seen() {
         lengths.values += i % 3;
         lengths.numbers += i % 4;
         lengths.doubles += (i + 1) % 4;
+        lengths.factor_numbers += (i + 2) % 4;
+        lengths.factor_coeffs += (i + 3) % 4;
         let mut longer = plan.clone();
         for (at, name) in READ.iter().enumerate() {
             let length = needed(&plan, name) + 1 + (i + at) % 3;

@@ -49,7 +49,7 @@ fn defined(header: &str) -> Numbers {
     known
 }
 
-const SECTIONS: [(&str, Range<usize>); 15] = [
+const SECTIONS: [(&str, Range<usize>); 30] = [
     ("BASIC_VARS", BASIC_VARS),
     ("NB_VARS", NB_VARS),
     ("VAR_STATES", VAR_STATES),
@@ -65,7 +65,38 @@ const SECTIONS: [(&str, Range<usize>); 15] = [
     ("NORMS", NORMS),
     ("ETA_COEFFS", ETA_COEFFS),
     ("OBJECTIVE", OBJECTIVE),
+    ("PIVOTS", PIVOTS),
+    ("PIVOT_PLACES", PIVOT_PLACES),
+    ("L_STARTS", L_STARTS),
+    ("L_ROWS", L_ROWS),
+    ("U_STARTS", U_STARTS),
+    ("U_ROWS", U_ROWS),
+    ("LT_STARTS", LT_STARTS),
+    ("LT_ROWS", LT_ROWS),
+    ("UT_STARTS", UT_STARTS),
+    ("UT_ROWS", UT_ROWS),
+    ("L_COEFFS", L_COEFFS),
+    ("U_COEFFS", U_COEFFS),
+    ("LT_COEFFS", LT_COEFFS),
+    ("UT_COEFFS", UT_COEFFS),
+    ("DIAG", DIAG),
 ];
+
+const ARRAYS: [(&str, usize); 4] = [
+    ("NUMBERS", NUMBERS),
+    ("DOUBLES", DOUBLES),
+    ("FACTOR_NUMBERS", FACTOR_NUMBERS),
+    ("FACTOR_COEFFS", FACTOR_COEFFS),
+];
+
+/// A section's name in the proved code.
+fn proved_name(name: &str) -> &str {
+    match name {
+        "PIVOTS" => "ORDER",
+        "PIVOT_PLACES" => "NUMBER",
+        _ => name,
+    }
+}
 
 #[test]
 fn three_lists_are_one() {
@@ -73,39 +104,51 @@ fn three_lists_are_one() {
         include_str!("../../crates/doubles/src/lib.rt"),
         Numbers::new(),
     );
-    let proved = constants(
+    let state = constants(
         include_str!("../../crates/state/src/lib.rt"),
         limits.clone(),
     );
+    let factor = include_str!("../../crates/lu_factor_rules/src/lib.rt");
+    let proved = constants(factor, state);
     let header = defined(include_str!("../../include/tevalumi.h"));
     let ours = proved.len() - limits.len();
     assert_eq!(
         ours,
-        2 * SECTIONS.len() + 2,
+        2 * SECTIONS.len() + ARRAYS.len(),
         "a section that isn't listed here"
     );
     assert_eq!(
         header.len(),
-        SECTIONS.len() + 2,
+        SECTIONS.len() + ARRAYS.len(),
         "a section that isn't listed here"
     );
     for (name, cells) in SECTIONS {
-        assert_eq!(proved[name], cells.start, "{name}");
-        assert_eq!(proved[&format!("{name}_END")], cells.end, "{name}");
+        let proved_name = proved_name(name);
+        assert_eq!(proved[proved_name], cells.start, "{name}");
+        assert_eq!(proved[&format!("{proved_name}_END")], cells.end, "{name}");
         assert_eq!(header[name], cells.start, "{name}");
     }
-    for (name, cells) in [("NUMBERS", NUMBERS), ("DOUBLES", DOUBLES)] {
+    for (name, cells) in ARRAYS {
         assert_eq!((proved[name], header[name]), (cells, cells), "{name}");
     }
-    let oracle = (oracle::limits::NUMBERS, oracle::limits::DOUBLES);
-    assert_eq!(oracle, (NUMBERS as u64, DOUBLES as u64));
+    use oracle::limits;
+    let oracle = [
+        limits::NUMBERS,
+        limits::DOUBLES,
+        limits::FACTOR_NUMBERS,
+        limits::FACTOR_COEFFS,
+    ];
+    assert_eq!(oracle, ARRAYS.map(|(_, cells)| cells as u64));
 }
 
 /// Every cell of an array stands in just one section.
 #[test]
 fn sections_tile_their_array() {
-    let (numbers, doubles) = SECTIONS.split_at(9);
-    for (sections, end) in [(numbers, NUMBERS), (doubles, DOUBLES)] {
+    let (numbers, rest) = SECTIONS.split_at(9);
+    let (doubles, rest) = rest.split_at(6);
+    let (factor_numbers, factor_coeffs) = rest.split_at(10);
+    let parts = [numbers, doubles, factor_numbers, factor_coeffs];
+    for (sections, (_, end)) in parts.into_iter().zip(ARRAYS) {
         let last = sections.iter().fold(0, |from, (name, cells)| {
             assert_eq!(cells.start, from, "{name}");
             cells.end

@@ -17,11 +17,14 @@ pub enum Named {
     Leaving,
     Price,
     Norm,
+    /// The new eta column, where it fits.
     Eta,
+    /// The new basis' factor, where the column doesn't fit.
+    Factor,
 }
 
 impl Named {
-    pub const ALL: [Named; 13] = [
+    pub const ALL: [Named; 14] = [
         Named::Column,
         Named::Limit,
         Named::Quotient,
@@ -35,6 +38,7 @@ impl Named {
         Named::Price,
         Named::Norm,
         Named::Eta,
+        Named::Factor,
     ];
 
     pub fn name(self) -> &'static str {
@@ -52,6 +56,7 @@ impl Named {
             Named::Price => "price",
             Named::Norm => "norm",
             Named::Eta => "eta",
+            Named::Factor => "factor",
         }
     }
 }
@@ -64,13 +69,6 @@ pub enum StartNumber {
     Norm,
 }
 
-/// Which room of a 22 is too small; columns first where both are.
-#[derive(Clone, Copy, Debug, PartialEq, Eq, Hash)]
-pub enum Room {
-    Columns,
-    Entries,
-}
-
 /// 24's place, that of the largest excess: a value (columns, then kept slacks) or a kept row.
 #[derive(Clone, Copy, Debug, PartialEq, Eq, Hash)]
 pub enum Rejected {
@@ -81,7 +79,7 @@ pub enum Rejected {
 /// No number of 01's: where the shown text would have panicked.
 pub const PANICKED: usize = 99;
 
-/// Every answer of a call, 0 to 7 and 20 to 24.
+/// Every answer of a call, 0 to 7 and 20 to 25. 02: 22 is no longer given.
 #[derive(Clone, Copy, Debug, PartialEq, Eq, Hash)]
 pub enum Outcome {
     Optimal,
@@ -101,13 +99,14 @@ pub enum Outcome {
     SlackOutside,
     Unbounded,
     Spent,
-    NoRoom(Room),
     NotFinite {
         named: Named,
         /// Whether it arose while a flip was stored.
         flip: bool,
     },
     Rejected(Rejected),
+    /// 02: "no pivot of at least EPS gives the new status 25".
+    Singular,
     /// Only with `--shown`: the shown text would have panicked here.
     Panicked,
 }
@@ -126,9 +125,9 @@ impl Outcome {
             Outcome::SlackOutside => 7,
             Outcome::Unbounded => 20,
             Outcome::Spent => 21,
-            Outcome::NoRoom(_) => 22,
             Outcome::NotFinite { .. } => 23,
             Outcome::Rejected(_) => 24,
+            Outcome::Singular => 25,
             Outcome::Panicked => PANICKED as u8,
         }
     }
@@ -139,8 +138,6 @@ impl Outcome {
             Outcome::StartNotFinite(StartNumber::Value) => Some("slack"),
             Outcome::StartNotFinite(StartNumber::Objective) => Some("objective"),
             Outcome::StartNotFinite(StartNumber::Norm) => Some("norm"),
-            Outcome::NoRoom(Room::Columns) => Some("columns"),
-            Outcome::NoRoom(Room::Entries) => Some("entries"),
             Outcome::NotFinite { named, .. } => Some(named.name()),
             _ => None,
         }
@@ -162,6 +159,24 @@ pub struct State {
     pub etaptr: Vec<usize>,
     pub etaidx: Vec<usize>,
     pub etaval: Vec<f64>,
+    /// None is the identity.
+    pub factor: Option<Factor>,
+    /// How often a basis was factored; the text doesn't have it.
+    pub factorings: usize,
+}
+
+/// The factor in the state: L and U by columns in stored order, rows as pivot numbers.
+#[derive(Clone, Debug, Default, PartialEq)]
+pub struct Factor {
+    /// The kept row of each pivot number.
+    pub pivots: Vec<usize>,
+    pub lptr: Vec<usize>,
+    pub lidx: Vec<usize>,
+    pub lval: Vec<f64>,
+    pub uptr: Vec<usize>,
+    pub uidx: Vec<usize>,
+    pub uval: Vec<f64>,
+    pub udiag: Vec<f64>,
 }
 
 /// The outcome with its numbers: a refusal has objective 0.0, 0 steps, no values and no state.

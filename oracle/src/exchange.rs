@@ -7,7 +7,7 @@ use std::fmt::{self, Write as _};
 use std::io::{self, BufRead};
 
 use crate::{
-    answer::{Answer, Outcome, Rejected, State, PANICKED},
+    answer::{Answer, Factor, Outcome, Rejected, State, PANICKED},
     plan::{Lent, Plan},
     tri::{Factors, FactorsAnswer, Tri, TriAnswer},
 };
@@ -142,9 +142,7 @@ fn plan_field(
         }
         "short" => {
             let name = word(words.next())?;
-            let mut all = Lent::ALL.into_iter().chain(Lent::ARRAYS);
-            let lent = all.find(|lent| lent.name() == name);
-            let lent = lent.ok_or_else(|| format!("no lent array {}", name))?;
+            let lent = Lent::named(&name).ok_or_else(|| format!("no lent array {}", name))?;
             plan.short.push((lent, whole(words.next())?));
         }
         _ => return Err(format!("no line {} in a plan", key)),
@@ -432,6 +430,22 @@ fn push_state(line: &mut String, state: &State) {
     push_list(line, "etaptr", &state.etaptr);
     push_list(line, "etaidx", &state.etaidx);
     push_double_list(line, "etaval", &state.etaval);
+    line.push_str(" factor");
+    match &state.factor {
+        None => line.push_str(" none"),
+        Some(factor) => push_factor(line, factor),
+    }
+}
+
+fn push_factor(line: &mut String, factor: &Factor) {
+    push_list(line, "pivots", &factor.pivots);
+    push_list(line, "lptr", &factor.lptr);
+    push_list(line, "lidx", &factor.lidx);
+    push_double_list(line, "lval", &factor.lval);
+    push_list(line, "uptr", &factor.uptr);
+    push_list(line, "uidx", &factor.uidx);
+    push_double_list(line, "uval", &factor.uval);
+    push_double_list(line, "udiag", &factor.udiag);
 }
 
 /// `ID STATUS` and, where STATUS is 0, `list dec* sparse hex* dense hex*`.

@@ -1,7 +1,7 @@
 //! Seeded plans in families. Each family is aimed at some of the answers; `survey` counts what
 //! they reach. All ours.
 
-use crate::answer::{Outcome, Rejected, Room};
+use crate::answer::{Answer, Outcome, Rejected};
 use crate::gate;
 use crate::limits;
 use crate::plan::{Lent, Plan};
@@ -9,8 +9,10 @@ use crate::rng::Rng;
 use crate::shown::Options;
 
 mod growth;
+mod refactor;
 
 use growth::Cascade;
+use refactor::{cube, refactor};
 
 const INF: f64 = f64::INFINITY;
 const MAX: f64 = f64::MAX;
@@ -156,7 +158,7 @@ impl Sink<'_> {
 
 type Make = fn(&mut Rng, &mut Sink);
 
-pub const FAMILIES: [(&str, Make); 25] = [
+pub const FAMILIES: [(&str, Make); 26] = [
     ("tiny", tiny),
     ("plain", plain),
     ("ties", ties),
@@ -182,6 +184,7 @@ pub const FAMILIES: [(&str, Make); 25] = [
     ("wild", wild),
     ("damaged", damaged),
     ("free", free_columns),
+    ("refactor", refactor),
 ];
 
 /// Makes the plans of all families whose name `wanted` accepts, in order.
@@ -198,9 +201,14 @@ pub fn make(seed: u64, wanted: &dyn Fn(&str) -> bool, take: &mut dyn FnMut(Plan)
     }
 }
 
-fn outcome(draft: &Draft) -> (Outcome, u64) {
-    let answer = gate::solve(&draft.plan(), Options::default());
-    (answer.outcome, answer.steps)
+fn answer(draft: &Draft) -> Answer {
+    gate::solve(&draft.plan(), Options::default())
+}
+
+/// How many factors a run made, or tried to make where it ends in 25.
+pub fn factorings(answer: &Answer) -> usize {
+    let made = answer.state.as_ref().map_or(0, |state| state.factorings);
+    made + usize::from(answer.outcome == Outcome::Singular)
 }
 
 /// Makes drafts until `count` of them answer as wanted.
@@ -208,14 +216,13 @@ fn search(
     count: usize,
     sink: &mut Sink,
     mut make: impl FnMut() -> Draft,
-    wanted: impl Fn(Outcome, u64) -> bool,
+    wanted: impl Fn(&Answer) -> bool,
 ) {
     let mut found = 0;
     let mut tried = 0u64;
     while found < count {
         let draft = make();
-        let (outcome, steps) = outcome(&draft);
-        if wanted(outcome, steps) {
+        if wanted(&answer(&draft)) {
             sink.draft(&draft);
             found += 1;
         }
@@ -472,8 +479,8 @@ fn long(rng: &mut Rng, sink: &mut Sink) {
         }
         draft
     };
-    search(220, sink, make, |outcome, steps| {
-        steps > 60 && outcome == Outcome::Optimal
+    search(220, sink, make, |answer| {
+        answer.steps > 60 && answer.outcome == Outcome::Optimal
     });
 }
 
@@ -545,6 +552,9 @@ fn limits_and_past(rng: &mut Rng, sink: &mut Sink) {
     }
 }
 
+/// The kinds that the family "short" goes through in turn: the plan's arrays, rooms, and the state's.
+pub const SHORT_KINDS: usize = 8 * 3 + 8 + 4 * (Lent::ALL.len() + Lent::ARRAYS.len());
+
 /// Every lent array exactly as long as needed, one longer, one shorter and empty.
 fn short(rng: &mut Rng, sink: &mut Sink) {
     for _ in 0..40 {
@@ -582,7 +592,7 @@ fn short(rng: &mut Rng, sink: &mut Sink) {
             sink.plan(plan);
         }
 
-        for lent in Lent::ALL {
+        for lent in Lent::ALL.into_iter().chain(Lent::ARRAYS) {
             let needed = lent.needed(good.columns, good.rows);
             for length in [needed, needed - 1, needed + 1, 0] {
                 let mut plan = good.clone();
@@ -837,7 +847,7 @@ fn slack_outside(rng: &mut Rng, sink: &mut Sink) {
     }
 }
 
-// ---- 20 to 22
+// ---- 20, 21 and runs that fill the store
 
 /// A column that nothing stops, beside others that take some steps first.
 fn unbounded(rng: &mut Rng, sink: &mut Sink) {
@@ -893,47 +903,20 @@ fn spent(rng: &mut Rng, sink: &mut Sink) {
     }
 }
 
-/// 22 by entries: many rows, so that each exchange adds many entries.
+/// A store full of entries: many rows, so that each exchange adds many.
 fn store_entries(rng: &mut Rng, sink: &mut Sink) {
     let make = || big_draft(rng, limits::ROWS, &mut |rng| rng.whole(9) + rng.unit());
-    search(30, sink, make, |outcome, _| {
-        outcome == Outcome::NoRoom(Room::Entries)
-    });
+    search(30, sink, make, |answer| factorings(answer) > 0);
 }
 
 fn power_of_two(exponent: i32) -> f64 {
     f64::from_bits(((exponent + 1023) as u64) << 52)
 }
 
-/// 22 by columns: 257 exchanges with at most 16 rows. A cube in the manner of Klee and Minty: column
-/// k + 1 lies between a multiple of column k and what the same multiple leaves of a growing right side.
-/// With most of these numbers the rule goes to nearly all corners, to some of them twice.
-fn columns_draft(rng: &mut Rng) -> Draft {
-    let columns = 8;
-    let mut draft = Draft::new();
-    let ratio = 1.1 + 0.3 * rng.unit();
-    for col in 0..columns {
-        let cost = (col + 1..columns).fold(-0.1, |cost, _| cost * ratio);
-        draft.column(cost, 0.0, INF);
-    }
-    let entry = rng.pick(&[0.001, 0.005, 0.1, 1.0 / 1024.0]);
-    let multiple = entry * rng.pick(&[3.0, 4.0, 5.0]);
-    let growth = rng.pick(&[8.0, 12.0, 16.0, 20.0, 30.0]);
-    let mut rhs = entry * rng.pick(&[10.0, 12.0, 20.0, 30.0]);
-    draft.row(vec![(0, entry)], LE, entry);
-    for col in 1..columns {
-        draft.row(vec![(col - 1, -multiple), (col, entry)], GE, 0.0);
-        draft.row(vec![(col - 1, multiple), (col, entry)], LE, rhs);
-        rhs *= growth;
-    }
-    draft
-}
-
+/// A store full of columns: 257 exchanges with at most 16 rows.
 fn store_columns(rng: &mut Rng, sink: &mut Sink) {
-    let make = || columns_draft(rng);
-    search(900, sink, make, |outcome, _| {
-        outcome == Outcome::NoRoom(Room::Columns)
-    });
+    let make = || cube(rng, 8);
+    search(900, sink, make, |answer| factorings(answer) > 0);
 }
 
 // ---- 23
@@ -1023,8 +1006,8 @@ fn huge(rng: &mut Rng, sink: &mut Sink) {
         sink.draft(&draft);
     }
     let make = || cascades_draft(rng);
-    search(150, sink, make, |outcome, steps| {
-        outcome.number() == 23 && steps >= 3
+    search(150, sink, make, |answer| {
+        answer.outcome.number() == 23 && answer.steps >= 3
     });
 }
 
@@ -1038,8 +1021,7 @@ fn near(rng: &mut Rng, exponent: i32) -> f64 {
 fn named(rng: &mut Rng, sink: &mut Sink) {
     for _ in 0..100 {
         for (place, draft) in growth::drafts(rng) {
-            let (outcome, _) = outcome(&draft);
-            let reached = match outcome {
+            let reached = match answer(&draft).outcome {
                 Outcome::NotFinite { named, flip } => Some((named, flip)),
                 _ => None,
             };
@@ -1089,13 +1071,13 @@ fn strict(rng: &mut Rng, sink: &mut Sink) {
         let draft = strict_draft(rng);
         sink.draft(&draft);
     }
-    let kinds: [fn(Outcome, u64) -> bool; 4] = [
-        |outcome, _| matches!(outcome, Outcome::Rejected(Rejected::Value(_))),
-        |outcome, _| matches!(outcome, Outcome::Rejected(Rejected::Row(_))),
-        |outcome, steps| matches!(outcome, Outcome::Rejected(Rejected::Value(_))) && steps >= 3,
-        |outcome, steps| matches!(outcome, Outcome::Rejected(Rejected::Row(_))) && steps >= 3,
-    ];
-    for wanted in kinds {
+    let by_value =
+        |answer: &Answer| matches!(answer.outcome, Outcome::Rejected(Rejected::Value(_)));
+    let by_row = |answer: &Answer| matches!(answer.outcome, Outcome::Rejected(Rejected::Row(_)));
+    for least in [0, 3] {
+        let wanted = |answer: &Answer| by_value(answer) && answer.steps >= least;
+        search(250, sink, || strict_draft(rng), wanted);
+        let wanted = |answer: &Answer| by_row(answer) && answer.steps >= least;
         search(250, sink, || strict_draft(rng), wanted);
     }
 }

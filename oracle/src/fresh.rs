@@ -1,7 +1,7 @@
 //! A second solver, written from documents 01 and 02 alone, plain and slow. It shares no code with
 //! solver.rs; a test compares the two, so that a mistake in putting the oracle together shows.
 
-use crate::answer::{Answer, Named, Outcome, Rejected, Room, StartNumber, State};
+use crate::answer::{Answer, Factor, Named, Outcome, Rejected, StartNumber, State};
 use crate::plan::{Lent, Plan};
 
 /// "EPS is the double nearest 1e-8".
@@ -39,6 +39,16 @@ struct Eta {
     entries: Vec<(usize, f64)>,
 }
 
+/// 02's factor of a basis. Entries are by columns, in stored order, rows as pivot numbers.
+#[derive(Clone, Default)]
+struct Triangles {
+    /// The kept row of each pivot number.
+    pivots: Vec<usize>,
+    lower: Vec<Vec<(usize, f64)>>,
+    upper: Vec<Vec<(usize, f64)>>,
+    diag: Vec<f64>,
+}
+
 /// A plan that has passed refusals 1 to 5, its empty rows dropped.
 struct Rules {
     columns: usize,
@@ -63,6 +73,8 @@ struct Now {
     at_lower: Vec<bool>,
     at_upper: Vec<bool>,
     etas: Vec<Eta>,
+    factor: Option<Triangles>,
+    factorings: usize,
     objective: f64,
     steps: u64,
 }
@@ -132,10 +144,12 @@ fn too_large_or_short(plan: &Plan) -> bool {
             "etarow" => (room[1], 256),
             "etaptr" => (room[1].saturating_add(1), 257),
             "etaidx" | "etaval" => (room[2], 4096),
-            "counts" => (5, 5),
+            "counts" => (7, 7),
             "obj" => (1, 1),
-            "numbers" => (5286, 5286),
+            "numbers" => (5288, 5288),
             "doubles" => (4577, 4577),
+            "factor_numbers" => (18820, 18820),
+            "factor_coeffs" => (18336, 18336),
             _ => (columns, columns),
         };
         let mut length = by_default;
@@ -238,6 +252,8 @@ fn start(plan: &Plan) -> Result<(Rules, Now, bool), Outcome> {
         at_lower: vec![],
         at_upper: vec![],
         etas: vec![],
+        factor: None,
+        factorings: 0,
         objective: 0.0,
         steps: 0,
     };
@@ -332,9 +348,130 @@ fn sum_of_squares(list: &Touched) -> f64 {
     sum
 }
 
-/// "The first factor is the identity", so a solve is its etas.
-fn solve_column(etas: &[Eta], mut col: Touched) -> Touched {
-    for eta in etas {
+/// A post-order walk from a place: each child before its parent, visited places once.
+fn walk(
+    place: usize,
+    children: &dyn Fn(usize) -> Vec<usize>,
+    finished: &mut Vec<usize>,
+    seen: &mut Vec<usize>,
+) {
+    seen.push(place);
+    for child in children(place) {
+        if !seen.contains(&child) {
+            walk(child, children, finished, seen);
+        }
+    }
+    finished.push(place);
+}
+
+/// Walks from the listed places that `begins` accepts, in listed order, and lists what is new; the
+/// places in finishing order.
+fn reached(
+    list: &mut Touched,
+    begins: &dyn Fn(usize) -> bool,
+    children: &dyn Fn(usize) -> Vec<usize>,
+) -> Vec<usize> {
+    let (mut finished, mut seen) = (vec![], vec![]);
+    for &(place, _) in &list.0 {
+        if begins(place) && !seen.contains(&place) {
+            walk(place, children, &mut finished, &mut seen);
+        }
+    }
+    for &place in &finished {
+        list.touch(place);
+    }
+    finished
+}
+
+/// 01's sparse solve: "Processing is the reverse of finishing order".
+fn solve_triangle(
+    columns: &[Vec<(usize, f64)>],
+    diag: Option<&[f64]>,
+    mut list: Touched,
+) -> Touched {
+    let rows = |place: usize| columns[place].iter().map(|&(r, _)| r).collect();
+    for &place in reached(&mut list, &|_| true, &rows).iter().rev() {
+        if let Some(diag) = diag {
+            *list.touch(place) /= diag[place];
+        }
+        let x = list.get(place);
+        for &(r, a) in &columns[place] {
+            *list.touch(r) -= x * a;
+        }
+    }
+    list
+}
+
+/// "A transposed column lists its entries by FALLING column number of the original".
+fn transposed(columns: &[Vec<(usize, f64)>]) -> Vec<Vec<(usize, f64)>> {
+    let mut rows = vec![vec![]; columns.len()];
+    for (c, column) in columns.iter().enumerate().rev() {
+        for &(r, a) in column {
+            rows[r].push((c, a));
+        }
+    }
+    rows
+}
+
+/// 02: "Factor the basis with the shown lu_factorize in a stated order: columns left to right, pivot in
+/// each the remaining row with the largest size, first on a tie".
+fn factored(rules: &Rules, basic: &[usize]) -> Result<Triangles, Outcome> {
+    let mut made = Triangles::default();
+    for &var in basic {
+        let number = |row: usize| made.pivots.iter().position(|&pivot| pivot == row);
+        let below = |row: usize| number(row).map_or(vec![], |j| made.lower[j].clone());
+        let mut col = column(rules, var);
+        let begins = |row: usize| number(row).is_some();
+        let children = |row: usize| below(row).iter().map(|&(r, _)| r).collect();
+        for &row in reached(&mut col, &begins, &children).iter().rev() {
+            let x = col.get(row);
+            for (r, a) in below(row) {
+                *col.touch(r) -= x * a;
+            }
+        }
+        for &(_, val) in &col.0 {
+            finite(Named::Factor, val, false)?;
+        }
+        let mut pivot: Option<(usize, f64)> = None;
+        for &(row, val) in &col.0 {
+            let larger = val.abs() > pivot.map_or(0.0, |(_, best)| best.abs());
+            if number(row).is_none() && larger {
+                pivot = Some((row, val));
+            }
+        }
+        let Some((row, pivot)) = pivot.filter(|(_, val)| val.abs() >= EPS) else {
+            return Err(Outcome::Singular);
+        };
+        let (mut lower, mut upper) = (vec![], vec![]);
+        for &(r, val) in col.0.iter().filter(|&&(r, val)| val != 0.0 && r != row) {
+            match number(r) {
+                Some(j) => upper.push((j, val)),
+                None => lower.push((r, val / pivot)),
+            }
+        }
+        made.pivots.push(row);
+        made.lower.push(lower);
+        made.upper.push(upper);
+        made.diag.push(pivot);
+    }
+    for (row, _) in made.lower.iter_mut().flatten() {
+        *row = made.pivots.iter().position(|pivot| pivot == row).unwrap();
+    }
+    Ok(made)
+}
+
+fn with_places(list: Touched, place: impl Fn(usize) -> usize) -> Touched {
+    Touched(list.0.into_iter().map(|(p, val)| (place(p), val)).collect())
+}
+
+/// "The first factor is the identity": with no factor a solve is its etas.
+fn solve_column(now: &Now, mut col: Touched) -> Touched {
+    if let Some(factor) = &now.factor {
+        let number = |row| factor.pivots.iter().position(|&p| p == row).unwrap();
+        col = solve_triangle(&factor.lower, None, with_places(col, number));
+        col = solve_triangle(&factor.upper, Some(&factor.diag), col);
+    }
+    for eta in &now.etas {
         let factor = col.get(eta.row);
         for &(r, val) in &eta.entries {
             *col.touch(r) -= factor * val;
@@ -343,13 +480,18 @@ fn solve_column(etas: &[Eta], mut col: Touched) -> Touched {
     col
 }
 
-fn solve_row(etas: &[Eta], mut row: Touched) -> Touched {
-    for eta in etas.iter().rev() {
+fn solve_row(now: &Now, mut row: Touched) -> Touched {
+    for eta in now.etas.iter().rev() {
         let mut sum = 0.0;
         for &(r, val) in &eta.entries {
             sum += val * row.get(r);
         }
         *row.touch(eta.row) -= sum;
+    }
+    if let Some(factor) = &now.factor {
+        row = solve_triangle(&transposed(&factor.upper), Some(&factor.diag), row);
+        row = solve_triangle(&transposed(&factor.lower), None, row);
+        row = with_places(row, |number| factor.pivots[number]);
     }
     row
 }
@@ -375,8 +517,8 @@ fn finite(named: Named, val: f64, flip: bool) -> Result<(), Outcome> {
     }
 }
 
-/// "Order: entering column (none: final check); budget; column solve; ratio; Unbounded; eta room;
-/// row solve; all new numbers; store."
+/// "Order: entering column (none: final check); budget; column solve; ratio; Unbounded; row solve; all
+/// new numbers; store." 02: "then the eta entries (where the column fits) or the factor (where not)".
 fn step(rules: &Rules, now: &Now, budget: u64) -> Result<Option<Now>, Outcome> {
     let mut entering: Option<(usize, f64)> = None;
     for c in 0..rules.columns {
@@ -408,7 +550,7 @@ fn step(rules: &Rules, now: &Now, budget: u64) -> Result<Option<Now>, Outcome> {
         rules.lower[var]
     };
     let distance = (other - now.nval[c]).abs();
-    let col = solve_column(&now.etas, column(rules, var));
+    let mut col = solve_column(now, column(rules, var));
     for &(_, a) in &col.0 {
         finite(Named::Column, a, false)?;
     }
@@ -470,20 +612,15 @@ fn step(rules: &Rules, now: &Now, budget: u64) -> Result<Option<Now>, Outcome> {
         return Ok(Some(next));
     };
 
-    if now.etas.len() + 1 > 256 {
-        return Err(Outcome::NoRoom(Room::Columns));
-    }
-    let stored: usize = now.etas.iter().map(|eta| eta.entries.len()).sum();
-    if stored + col.0.len() > 4096 {
-        return Err(Outcome::NoRoom(Room::Entries));
-    }
-
     let unit = Touched(vec![(row, 1.0)]);
-    let coefs = over_nonbasic(rules, now, &solve_row(&now.etas, unit));
+    let mut coefs = over_nonbasic(rules, now, &solve_row(now, unit));
     for &(_, a) in &coefs.0 {
         finite(Named::Row, a, false)?;
     }
-    let helper = over_nonbasic(rules, now, &solve_row(&now.etas, col.clone()));
+    // The two touches.
+    coefs.touch(c);
+    col.touch(row);
+    let helper = over_nonbasic(rules, now, &solve_row(now, col.clone()));
     for &(_, h) in &helper.0 {
         finite(Named::Helper, h, false)?;
     }
@@ -524,6 +661,20 @@ fn step(rules: &Rules, now: &Now, budget: u64) -> Result<Option<Now>, Outcome> {
         finite(Named::Norm, next.norm[p], false)?;
     }
 
+    next.basic[row] = var;
+    next.nonbasic[c] = left;
+    let stored: usize = now.etas.iter().map(|eta| eta.entries.len()).sum();
+    if now.etas.len() < 256 && stored + col.0.len() <= 4096 {
+        next.etas.push(eta(&col, row, pivot)?);
+    } else {
+        next.factor = Some(factored(rules, &next.basic)?);
+        next.factorings += 1;
+        next.etas.clear();
+    }
+    Ok(Some(next))
+}
+
+fn eta(col: &Touched, row: usize, pivot: f64) -> Result<Eta, Outcome> {
     let mut entries = vec![];
     for &(r, a) in &col.0 {
         let val = if r == row {
@@ -534,10 +685,7 @@ fn step(rules: &Rules, now: &Now, budget: u64) -> Result<Option<Now>, Outcome> {
         finite(Named::Eta, val, false)?;
         entries.push((r, val));
     }
-    next.etas.push(Eta { row, entries });
-    next.basic[row] = var;
-    next.nonbasic[c] = left;
-    Ok(Some(next))
+    Ok(Eta { row, entries })
 }
 
 fn values(rules: &Rules, now: &Now) -> Vec<f64> {
@@ -597,6 +745,8 @@ fn state(rules: &Rules, now: &Now) -> State {
         price: now.price.clone(),
         norm: now.norm.clone(),
         etaptr: vec![0],
+        factor: now.factor.as_ref().map(stored_factor),
+        factorings: now.factorings,
         ..State::default()
     };
     for c in 0..rules.columns {
@@ -613,4 +763,28 @@ fn state(rules: &Rules, now: &Now) -> State {
         state.etaptr.push(state.etaidx.len());
     }
     state
+}
+
+fn stored_factor(factor: &Triangles) -> Factor {
+    let parts = |columns: &[Vec<(usize, f64)>]| {
+        let (mut starts, mut rows, mut vals) = (vec![0], vec![], vec![]);
+        for column in columns {
+            rows.extend(column.iter().map(|&(r, _)| r));
+            vals.extend(column.iter().map(|&(_, val)| val));
+            starts.push(rows.len());
+        }
+        (starts, rows, vals)
+    };
+    let (lptr, lidx, lval) = parts(&factor.lower);
+    let (uptr, uidx, uval) = parts(&factor.upper);
+    Factor {
+        pivots: factor.pivots.clone(),
+        lptr,
+        lidx,
+        lval,
+        uptr,
+        uidx,
+        uval,
+        udiag: factor.diag.clone(),
+    }
 }

@@ -50,9 +50,11 @@ pub mod limits {
     pub const BUDGET: u64 = 10_000;
     pub const ETA_COLUMNS: u64 = 256;
     pub const ETA_ENTRIES: u64 = 4_096;
-    /// The cells of the two arrays that hold the state: every section, whatever the plan's sizes.
-    pub const NUMBERS: u64 = 5_286;
+    /// The cells of the four arrays that hold the state: every section, whatever the plan's sizes.
+    pub const NUMBERS: u64 = 5_288;
     pub const DOUBLES: u64 = 4_577;
+    pub const FACTOR_NUMBERS: u64 = 18_820;
+    pub const FACTOR_COEFFS: u64 = 18_336;
     pub const TRI_PLACES: u64 = 96;
     pub const TRI_ENTRIES: u64 = 4_560;
     pub const NUMBER: f64 = 1e12;

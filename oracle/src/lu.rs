@@ -1,7 +1,14 @@
 //! From minilp 0.2.2, src/lu.rs, Apache-2.0, changed: the first factor is the identity;
-//! lu_factorize stands in shown.rs; the Debug text is left out.
+//! lu_factorize takes columns in order and the largest pivot, and answers with document 02's numbers
+//! (as shown it stands in shown.rs); logging and the Debug text are left out.
 
-use crate::sparse::{Perm, ScatteredVec, TriangleMat};
+use crate::{
+    answer::Factor,
+    sparse::{Perm, ScatteredVec, SparseMat, TriangleMat},
+};
+
+// ours: "EPS is the double nearest 1e-8".
+const EPS: f64 = 1e-8;
 
 #[derive(Clone, Debug)]
 pub struct LUFactors {
@@ -43,6 +50,23 @@ impl LUFactors {
             row_perm: None,
             col_perm: None,
         }
+    }
+
+    // ours: the state after the last whole step is printed with its factor. None is the identity.
+    pub fn to_factor(&self) -> Option<Factor> {
+        let row_perm = self.row_perm.as_ref()?;
+        let (lptr, lidx, lval) = self.lower.nondiag.raw_parts();
+        let (uptr, uidx, uval) = self.upper.nondiag.raw_parts();
+        Some(Factor {
+            pivots: row_perm.new2orig.clone(),
+            lptr: lptr.to_vec(),
+            lidx: lidx.to_vec(),
+            lval: lval.to_vec(),
+            uptr: uptr.to_vec(),
+            uidx: uidx.to_vec(),
+            uval: uval.to_vec(),
+            udiag: self.upper.diag.clone().unwrap_or_default(),
+        })
     }
 
     pub fn nnz(&self) -> usize {
@@ -109,6 +133,167 @@ impl LUFactors {
             col_perm: self.row_perm.clone(),
         }
     }
+}
+
+// ours: why there is no factor. The shown text has one error, and asserts the rest.
+#[derive(Clone, Copy, Debug, PartialEq, Eq)]
+pub enum NoFactor {
+    /// 23: "a factor number that isn't finite gives 23".
+    NotFinite,
+    /// 25: "no pivot of at least EPS gives the new status 25".
+    Singular,
+}
+
+// ours: the shown text takes a stability coefficient for its threshold.
+pub fn lu_factorize<'a>(
+    size: usize,
+    get_col: impl Fn(usize) -> (&'a [usize], &'a [f64]),
+    scratch: &mut ScratchSpace,
+) -> Result<LUFactors, NoFactor> {
+    // Implementation of the Gilbert-Peierls algorithm:
+    //
+    // Gilbert, John R., and Tim Peierls. "Sparse partial pivoting in time
+    // proportional to arithmetic operations." SIAM Journal on Scientific and
+    // Statistical Computing 9.5 (1988): 862-874.
+    //
+    // https://ecommons.cornell.edu/bitstream/handle/1813/6623/86-783.pdf
+
+    // ours: "columns left to right", so no order_simple and no column permutation. The row counts are
+    // left out with the heuristic that reads them.
+
+    scratch.clear_sparse(size);
+
+    let mut lower = SparseMat::new(size);
+    let mut upper = SparseMat::new(size);
+    let mut upper_diag = Vec::with_capacity(size);
+
+    let mut new2orig_row = (0..size).collect::<Vec<_>>();
+    let mut orig2new_row = new2orig_row.clone();
+
+    for i_col in 0..size {
+        // ours: "columns left to right".
+        let mat_col = get_col(i_col);
+
+        // Solve the equation L'_j * x = a_j (x will be in scratch.rhs).
+        // L'_j is a sq. matrix with the first j columns of L
+        // and columns of identity matrix after j.
+        // Part of x above the diagonal (in the new row indices) is the column of U
+        // and part of x below the diagonal divided by the pivot value is the column of L
+
+        scratch.rhs.set(mat_col.0.iter().copied().zip(mat_col.1));
+
+        scratch.mark_nonzero.run(
+            &mut scratch.rhs,
+            |new_i| lower.col_rows(new_i),
+            |new_i| new_i < i_col,
+            |orig_r| orig2new_row[orig_r],
+        );
+
+        // At this point all future nonzero positions of scratch.rhs are marked
+        // and the order in which variables depend on each other is determined.
+        // rev() because DFS returns vertices in reverse topological order.
+        for &orig_i in scratch.mark_nonzero.visited.iter().rev() {
+            // values[orig_i] is already fully calculated, diag coeff = 1.0.
+            let new_i = orig2new_row[orig_i];
+            if new_i < i_col {
+                let x_val = scratch.rhs.values[orig_i];
+                for (orig_r, coeff) in lower.col_iter(new_i) {
+                    scratch.rhs.values[orig_r] -= x_val * coeff;
+                }
+            }
+        }
+
+        // ours: "a factor number that isn't finite gives 23". The shown text asserts is_normal of the
+        // largest value alone.
+        if scratch.rhs.iter().any(|(_, val)| !val.is_finite()) {
+            return Err(NoFactor::NotFinite);
+        }
+
+        // Next we choose a pivot among values of x below the diagonal.
+        // ours: "pivot in each the remaining row with the largest size, first on a tie", that is first
+        // in the list. The shown text takes, of those within its threshold, a row with few elements.
+
+        let pivot_orig_r = {
+            let mut max_abs = 0.0;
+            let mut best_orig_r = None;
+            for &orig_r in &scratch.rhs.nonzero {
+                if orig2new_row[orig_r] < i_col {
+                    continue;
+                }
+
+                let abs = f64::abs(scratch.rhs.values[orig_r]);
+                if abs > max_abs {
+                    max_abs = abs;
+                    best_orig_r = Some(orig_r);
+                }
+            }
+
+            // ours: "no pivot of at least EPS gives the new status 25"; the shown caller unwraps.
+            match best_orig_r {
+                Some(orig_r) if max_abs >= EPS => orig_r,
+                _ => return Err(NoFactor::Singular),
+            }
+        };
+
+        let pivot_val = scratch.rhs.values[pivot_orig_r];
+
+        {
+            // Keep track of row permutations.
+            let row = i_col;
+            let orig_row = new2orig_row[row];
+            let pivot_row = orig2new_row[pivot_orig_r];
+            new2orig_row.swap(row, pivot_row);
+            orig2new_row.swap(orig_row, pivot_orig_r);
+        }
+
+        // Gather the values of x into lower and upper matrices.
+
+        for &orig_r in &scratch.rhs.nonzero {
+            let val = scratch.rhs.values[orig_r];
+
+            if val == 0.0 {
+                continue;
+            }
+
+            let new_r = orig2new_row[orig_r];
+            if new_r < i_col {
+                upper.push(new_r, val);
+            } else if new_r == i_col {
+                upper_diag.push(pivot_val);
+            } else {
+                lower.push(orig_r, val / pivot_val);
+            }
+        }
+
+        upper.seal_column();
+        lower.seal_column();
+    }
+
+    // permute rows of lower to "new" indices.
+    for i_col in 0..lower.cols() {
+        for r in lower.col_rows_mut(i_col) {
+            *r = orig2new_row[*r];
+        }
+    }
+
+    let res = LUFactors {
+        lower: TriangleMat {
+            nondiag: lower,
+            diag: None,
+        },
+        upper: TriangleMat {
+            nondiag: upper,
+            diag: Some(upper_diag),
+        },
+        row_perm: Some(Perm {
+            orig2new: orig2new_row,
+            new2orig: new2orig_row,
+        }),
+        // ours: the result's places are basis places.
+        col_perm: None,
+    };
+
+    Ok(res)
 }
 
 #[derive(Clone, Debug)]

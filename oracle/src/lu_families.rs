@@ -3,7 +3,9 @@
 use std::collections::BTreeMap;
 
 use crate::limits;
+use crate::lu::{lu_factorize, ScratchSpace};
 use crate::rng::Rng;
+use crate::sparse::TriangleMat;
 use crate::tri::{solve_dense, Factors, FactorsAnswer, Tri};
 use crate::tri_families::{column_of, from_columns, number, unlisted};
 
@@ -26,7 +28,7 @@ type Make = fn(&mut Rng, &mut Sink);
 
 /// Makes all pairs, family by family.
 pub fn make(seed: u64, take: &mut dyn FnMut(Factors)) {
-    let families: [(&str, Make); 8] = [
+    let families: [(&str, Make); 9] = [
         ("lu-tiny", tiny),
         ("lu-sizes", sizes),
         ("lu-full", full),
@@ -35,6 +37,7 @@ pub fn make(seed: u64, take: &mut dyn FnMut(Factors)) {
         ("lu-number", bad_numbers),
         ("lu-both", both),
         ("lu-longer", longer),
+        ("lu-factored", factored),
     ];
     for (family, make) in families {
         let mut sink = Sink {
@@ -187,6 +190,47 @@ fn between(rng: &mut Rng, sink: &mut Sink) {
         if not_finite(&after_lower(&factors)) {
             sink.factors(factors);
         }
+    }
+}
+
+/// What factoring a matrix makes: L, and U with its diagonal. Every other time the transposes: U's is the
+/// lower one then, with the diagonal, and L's the upper one.
+fn factored(rng: &mut Rng, sink: &mut Sink) {
+    while sink.count < 500 {
+        let size = rng.between(1, limits::TRI_PLACES as usize);
+        let sparse = rng.between(1, 12);
+        let columns: Vec<(Vec<usize>, Vec<f64>)> = (0..size)
+            .map(|col| {
+                let rows = (0..size).filter(|&row| row == col || rng.one_in(sparse));
+                let rows: Vec<usize> = rows.collect();
+                let vals = rows.iter().map(|_| number(rng, false)).collect();
+                (rows, vals)
+            })
+            .collect();
+        let get_col = |col: usize| (&columns[col].0[..], &columns[col].1[..]);
+        let made = lu_factorize(size, get_col, &mut ScratchSpace::with_capacity(size));
+        let Ok(mut made) = made else { continue };
+        if sink.count % 2 == 1 {
+            made = made.transpose();
+        }
+        let values = (0..size).map(|_| number(rng, false)).collect();
+        let (lower, upper) = (lent(false, &made.lower), lent(true, &made.upper));
+        sink.factors(pair(lower, upper, values));
+    }
+}
+
+fn lent(upper: bool, triangle: &TriangleMat) -> Tri {
+    let (starts, rows, vals) = triangle.nondiag.raw_parts();
+    let wholes = |places: &[usize]| places.iter().map(|&place| place as u64).collect();
+    Tri {
+        upper,
+        size: triangle.cols() as u64,
+        entries: rows.len() as u64,
+        starts: wholes(starts),
+        rows: wholes(rows),
+        vals: vals.to_vec(),
+        diag: triangle.diag.clone(),
+        ..Tri::default()
     }
 }
 
@@ -466,6 +510,9 @@ impl Survey {
         }
         self.tick(&format!("size {}", factors.size()));
         self.tick(diagonals(factors));
+        if let Some(("lu-factored", _)) = family(factors) {
+            self.tick("made by factoring");
+        }
         for (tri, name) in [(&factors.lower, SIDES[0]), (&factors.upper, SIDES[1])] {
             let most = factors.size() * factors.size().saturating_sub(1) / 2;
             if most >= 10 && tri.entries * 2 > most {
@@ -539,6 +586,7 @@ impl Survey {
             (500, "an infinite result"),
             (500, "a result of -0.0"),
             (200, "cells past the values"),
+            (500, "made by factoring"),
         ] {
             at_least(least, name.into());
         }

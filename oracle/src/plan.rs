@@ -42,17 +42,26 @@ pub enum Lent {
     Etaptr,
     Etaidx,
     Etaval,
-    /// Kept rows, eta columns, eta entries, steps, status of the last run.
+    /// Kept rows, eta columns, eta entries, steps, status of the last run, whether a factor is there,
+    /// factorings since the start.
     Counts,
     Obj,
     /// The array that holds the state's whole numbers, and the one that holds its doubles.
     Numbers,
     Doubles,
+    /// The arrays that hold the factor's.
+    FactorNumbers,
+    FactorCoeffs,
 }
 
 impl Lent {
     /// The arrays that the sections stand in.
-    pub const ARRAYS: [Lent; 2] = [Lent::Numbers, Lent::Doubles];
+    pub const ARRAYS: [Lent; 4] = [
+        Lent::Numbers,
+        Lent::Doubles,
+        Lent::FactorNumbers,
+        Lent::FactorCoeffs,
+    ];
 
     /// The sections.
     pub const ALL: [Lent; 15] = [
@@ -92,6 +101,20 @@ impl Lent {
             Lent::Obj => "obj",
             Lent::Numbers => "numbers",
             Lent::Doubles => "doubles",
+            Lent::FactorNumbers => "factor_numbers",
+            Lent::FactorCoeffs => "factor_coeffs",
+        }
+    }
+
+    /// By its name, or by the short one that a factor's array has too.
+    pub fn named(name: &str) -> Option<Lent> {
+        match name {
+            "fnum" => Some(Lent::FactorNumbers),
+            "fval" => Some(Lent::FactorCoeffs),
+            _ => Lent::ALL
+                .into_iter()
+                .chain(Lent::ARRAYS)
+                .find(|lent| lent.name() == name),
         }
     }
 
@@ -106,10 +129,12 @@ impl Lent {
             Lent::Etarow => limits::ETA_COLUMNS,
             Lent::Etaptr => limits::ETA_COLUMNS + 1,
             Lent::Etaidx | Lent::Etaval => limits::ETA_ENTRIES,
-            Lent::Counts => 5,
+            Lent::Counts => 7,
             Lent::Obj => 1,
             Lent::Numbers => limits::NUMBERS,
             Lent::Doubles => limits::DOUBLES,
+            Lent::FactorNumbers => limits::FACTOR_NUMBERS,
+            Lent::FactorCoeffs => limits::FACTOR_COEFFS,
         }
     }
 }

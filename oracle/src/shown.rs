@@ -18,7 +18,9 @@ pub enum Correction {
     StaleHelper,
     /// "The source lets NaN bounds through": refusal 2 doesn't look at NaN bounds.
     NanBounds,
-    /// "No refactoring in the base": the shown pivot resets, and 22 has no meaning then.
+    /// 02, Ask 5: a basis is factored only "when an exchange's eta column doesn't fit", and in
+    /// our order; the shown pivot factors as soon as the etas have as many entries as the factor, in its
+    /// own order and with its own pivots. The two touches of an exchange are ours too.
     Reset,
     /// "A norm, reckoned for every plan": the shown try_new skips it if dual feasible.
     Norms,

@@ -1,14 +1,14 @@
 //! From minilp 0.2.2, src/solver.rs, Apache-2.0, changed: the rules and corrections of document 01,
 //! and of 02 where it says so, are put in, each marked `// ours:` with their words. Left out: the
 //! dual choice and dual norms, restore_feasibility, fix_var and unfix_var, add_constraint, Gomory
-//! cuts, logging and the parts that only these use. lu_factorize and recalc_obj_coeffs stand in
-//! shown.rs.
+//! cuts, logging and the parts that only these use. The shown lu_factorize and recalc_obj_coeffs
+//! stand in shown.rs.
 
 use crate::{
-    answer::{Named, Outcome, Rejected, Room, StartNumber, State},
+    answer::{Named, Outcome, Rejected, StartNumber, State},
     limits,
-    lu::{LUFactors, ScratchSpace},
-    shown::{lu_factorize, Correction, Options},
+    lu::{self, LUFactors, NoFactor, ScratchSpace},
+    shown::{self, Correction, Options},
     sparse::{ScatteredVec, SparseMat, SparseVec},
     sprs::{CsMat, CsVec},
     ComparisonOp,
@@ -35,11 +35,13 @@ pub struct Solver {
     is_primal_feasible: bool,
     is_dual_feasible: bool,
 
-    // ours: the plan's number of each kept row, the budget, the steps taken, the first number of
-    // 01's order that isn't finite, and the corrections that are switched off.
+    // ours: the plan's number of each kept row, the budget, the steps taken, how often a basis was
+    // factored, the first number of 01's order that isn't finite, and the corrections that are
+    // switched off.
     kept_rows: Vec<usize>,
     budget: u64,
     steps: u64,
+    factorings: usize,
     not_finite: Option<Named>,
     options: Options,
 
@@ -307,6 +309,7 @@ impl Solver {
             kept_rows,
             budget,
             steps: 0,
+            factorings: 0,
             not_finite: None,
             options,
             var_states,
@@ -374,15 +377,12 @@ impl Solver {
         loop {
             if let Some(pivot_info) = self.choose_pivot()? {
                 // ours: "20 to 24 leave the values array alone; the workspace then holds the state
-                // after the last whole step", so a step with a number that isn't finite is undone.
+                // after the last whole step", so a step with a number that isn't finite is undone,
+                // and so is one whose new basis has no factor.
                 let before = (!self.options.no_copies).then(|| self.clone());
-                self.pivot(&pivot_info)?;
-                if let Some(named) = self.not_finite {
-                    *self = before.expect("a plan that answers 23 is run with copies");
-                    return Err(Outcome::NotFinite {
-                        named,
-                        flip: pivot_info.elem.is_none(),
-                    });
+                if let Err(outcome) = self.pivot(&pivot_info) {
+                    *self = before.expect("a plan that answers 23 or 25 is run with copies");
+                    return Err(outcome);
                 }
                 // ours: "The step count in the answer is the number of steps the rules took."
                 self.steps += 1;
@@ -598,14 +598,18 @@ impl Solver {
         }
 
         if let Some(row) = leaving_r {
-            // ours: 22: "the next eta column doesn't fit the room left", before the row solve.
-            self.check_eta_room()?;
-
             self.calc_row_coeffs(row);
 
             // ours: "Column, row and helper entries ... must be finite, else 23".
             for (_, &coeff) in self.row_coeffs.iter() {
                 check_finite(Named::Row, coeff)?;
+            }
+
+            // ours: "Before the new numbers of an exchange the entering place is touched in the row,
+            // and the leaving row in the column".
+            if !self.options.shows(Correction::Reset) {
+                self.row_coeffs.get_mut(entering_c);
+                self.col_coeffs.touch(row);
             }
 
             let entering_diff = (self.basic_var_vals[row] - leaving_new_val) / pivot_coeff;
@@ -637,20 +641,19 @@ impl Solver {
         }
     }
 
-    // ours: "The eta store has 256 columns and 4,096 entries." The shown store grows, and the shown
-    // pivot resets it.
-    fn check_eta_room(&self) -> Result<(), Outcome> {
-        if self.options.shows(Correction::Reset) {
-            return Ok(());
-        }
+    // ours: "The eta store has 256 columns and 4,096 entries." The shown store grows.
+    fn eta_fits(&self) -> bool {
         let eta_matrices = &self.basis_solver.eta_matrices;
-        if eta_matrices.len() + 1 > limits::ETA_COLUMNS as usize {
-            return Err(Outcome::NoRoom(Room::Columns));
+        eta_matrices.len() < limits::ETA_COLUMNS as usize
+            && eta_matrices.coeff_cols.nnz() + self.col_coeffs.len() <= limits::ETA_ENTRIES as usize
+    }
+
+    // ours: the numbers noted so far.
+    fn check_noted(&self, flip: bool) -> Result<(), Outcome> {
+        match self.not_finite {
+            Some(named) => Err(Outcome::NotFinite { named, flip }),
+            None => Ok(()),
         }
-        if eta_matrices.coeff_cols.nnz() + self.col_coeffs.len() > limits::ETA_ENTRIES as usize {
-            return Err(Outcome::NoRoom(Room::Entries));
-        }
-        Ok(())
     }
 
     // ours: "every number to be stored must be finite, else 23". Each is noted where it is stored;
@@ -680,7 +683,7 @@ impl Solver {
             let var_state = &mut self.nb_var_states[pivot_info.col];
             var_state.at_min = pivot_info.entering_new_val == self.orig_var_mins[entering_var];
             var_state.at_max = pivot_info.entering_new_val == self.orig_var_maxs[entering_var];
-            return Ok(());
+            return self.check_noted(true);
         }
 
         let pivot_elem = pivot_info.elem.as_ref().unwrap();
@@ -739,14 +742,23 @@ impl Solver {
         self.nb_vars[pivot_info.col] = leaving_var;
         self.var_states[leaving_var] = VarState::NonBasic(pivot_info.col);
 
-        // ours: "No refactoring in the base." The shown heuristic runs only if it is switched on.
+        // ours: "An exchange whose eta column doesn't fit is made, and the new basis is factored in
+        // place of storing the column". "23 by another new number comes before 25." The shown
+        // heuristic runs only if it is switched on.
+        self.check_noted(false)?;
         if !self.options.shows(Correction::Reset) {
-            self.basis_solver
-                .push_eta_matrix(&self.col_coeffs, pivot_elem.row, pivot_coeff);
-            for &val in self.basis_solver.eta_matrices.last_col_data() {
-                note(&mut self.not_finite, Named::Eta, val);
+            if self.eta_fits() {
+                self.basis_solver
+                    .push_eta_matrix(&self.col_coeffs, pivot_elem.row, pivot_coeff);
+                for &val in self.basis_solver.eta_matrices.last_col_data() {
+                    note(&mut self.not_finite, Named::Eta, val);
+                }
+                return self.check_noted(false);
             }
-            return Ok(());
+            self.factorings += 1;
+            return self
+                .basis_solver
+                .factor(&self.orig_constraints_csc, &self.basic_vars);
         }
 
         // A simple heuristic to choose when to recompute LU factorization.
@@ -758,6 +770,7 @@ impl Solver {
                 .push_eta_matrix(&self.col_coeffs, pivot_elem.row, pivot_coeff);
             Ok(())
         } else {
+            self.factorings += 1;
             self.basis_solver
                 .reset(&self.orig_constraints_csc, &self.basic_vars)
         }
@@ -942,6 +955,8 @@ impl Solver {
             etaptr: etaptr.to_vec(),
             etaidx: etaidx.to_vec(),
             etaval: etaval.to_vec(),
+            factor: self.basis_solver.lu_factors.to_factor(),
+            factorings: self.factorings,
         }
     }
 }
@@ -1012,7 +1027,7 @@ impl BasisSolver {
         self.scratch.clear_sparse(basic_vars.len());
         self.eta_matrices.clear_and_resize(basic_vars.len());
         self.rhs.clear_and_resize(basic_vars.len());
-        self.lu_factors = lu_factorize(
+        self.lu_factors = shown::lu_factorize(
             basic_vars.len(),
             |c| {
                 orig_constraints_csc
@@ -1025,6 +1040,29 @@ impl BasisSolver {
         )
         .map_err(|_| Outcome::Panicked)?; // the shown text unwraps
         self.lu_factors_transp = self.lu_factors.transpose();
+        Ok(())
+    }
+
+    // ours: as reset, with our factor, whose refusals are 23 and 25.
+    fn factor(
+        &mut self,
+        orig_constraints_csc: &CsMat,
+        basic_vars: &[usize],
+    ) -> Result<(), Outcome> {
+        let get_col = |c: usize| {
+            let col = orig_constraints_csc.outer_view(basic_vars[c]).unwrap();
+            col.into_raw_storage()
+        };
+        let factors = lu::lu_factorize(basic_vars.len(), get_col, &mut self.scratch);
+        self.lu_factors = factors.map_err(|err| match err {
+            NoFactor::NotFinite => Outcome::NotFinite {
+                named: Named::Factor,
+                flip: false,
+            },
+            NoFactor::Singular => Outcome::Singular,
+        })?;
+        self.lu_factors_transp = self.lu_factors.transpose();
+        self.eta_matrices.clear_and_resize(basic_vars.len());
         Ok(())
     }
 
@@ -1173,8 +1211,8 @@ mod tests {
     fn the_first_factor_is_the_identity() {
         let mut scratch = ScratchSpace::with_capacity(3);
         let cols = [([0usize], [1.0]), ([1], [1.0]), ([2], [1.0])];
-        let shown =
-            lu_factorize(3, |c| (&cols[c].0[..], &cols[c].1[..]), 0.1, &mut scratch).unwrap();
+        let shown = shown::lu_factorize(3, |c| (&cols[c].0[..], &cols[c].1[..]), 0.1, &mut scratch)
+            .unwrap();
         for factors in [shown.clone(), shown.transpose(), LUFactors::identity(3)] {
             let mut rhs = ScatteredVec::empty(3);
             rhs.set([(2, &-0.0), (0, &0.3)]);

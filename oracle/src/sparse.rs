@@ -20,9 +20,17 @@ impl SparseVec {
         self.values.clear();
     }
 
-    // ours: 22: "the next eta column doesn't fit the room left" counts listed places.
+    // ours: "An exchange whose eta column doesn't fit": its room counts listed places.
     pub(crate) fn len(&self) -> usize {
         self.indices.len()
+    }
+
+    // ours: a touched place that wasn't listed holds 0.0.
+    pub(crate) fn touch(&mut self, i: usize) {
+        if !self.indices.contains(&i) {
+            self.indices.push(i);
+            self.values.push(0.0);
+        }
     }
 
     pub(crate) fn iter(&self) -> impl Iterator<Item = (usize, &f64)> {

@@ -4,15 +4,20 @@
 use std::collections::{BTreeMap, HashSet};
 use std::hash::{DefaultHasher, Hash, Hasher};
 
-use crate::answer::{Answer, Named, Outcome, Rejected, Room, StartNumber, State};
-use crate::families::{bad_number_kind, BAD_NUMBERS, FREE_KINDS, LARGEST, TURNING};
+use crate::answer::{Answer, Named, Outcome, Rejected, StartNumber, State};
+use crate::families::{
+    bad_number_kind, factorings, BAD_NUMBERS, FREE_KINDS, LARGEST, SHORT_KINDS, TURNING,
+};
 use crate::gate;
 use crate::limits;
 use crate::plan::Plan;
 use crate::shown::{Correction, Options};
 
-/// The answers of the table. 02: "6 is no longer given".
-pub const NUMBERS: [u8; 13] = [0, 1, 2, 3, 4, 5, 6, 7, 20, 21, 22, 23, 24];
+/// The answers of the table. 02: 6 and 22 are no longer given.
+pub const NUMBERS: [u8; 14] = [0, 1, 2, 3, 4, 5, 6, 7, 20, 21, 22, 23, 24, 25];
+
+/// The answers of the table that no plan gets.
+const GONE: [u8; 2] = [6, 22];
 
 #[derive(Default)]
 pub struct Survey {
@@ -36,8 +41,6 @@ impl Survey {
             self.count(format!("{} after 3 or more steps", number));
         }
         match answer.outcome {
-            Outcome::NoRoom(Room::Columns) => self.count("22 by columns"),
-            Outcome::NoRoom(Room::Entries) => self.count("22 by entries"),
             Outcome::NotFinite { named, flip } => {
                 let on = if flip { " on a flip" } else { "" };
                 self.count(format!("23 by {}{}", named.name(), on));
@@ -69,6 +72,7 @@ impl Survey {
         if answer.steps > 60 {
             self.count("runs of over 60 steps");
         }
+        self.add_factorings(plan, answer);
         if let Some(state) = &answer.state {
             if (state.kept.len() as u64) < plan.rows {
                 self.count("runs with dropped rows");
@@ -77,6 +81,25 @@ impl Survey {
         }
         if let Some((family, _)) = family(plan) {
             self.count(format!("family {}", family));
+        }
+    }
+
+    /// How often a run factored its basis, a last try that gives 25 counted.
+    fn add_factorings(&mut self, plan: &Plan, answer: &Answer) {
+        let number = answer.outcome.number();
+        match factorings(answer) {
+            0 => return,
+            1 => self.count("factored once"),
+            2 => self.count("factored twice"),
+            3..=9 => self.count("factored 3 to 9 times"),
+            _ => self.count("factored 10 times or more"),
+        }
+        if plan.rows == limits::ROWS && plan.columns == limits::COLUMNS {
+            self.count("factored, 96 rows and 128 columns");
+        }
+        self.count(format!("factored, answer {}", number));
+        if number == 25 && factorings(answer) > 1 {
+            self.count("25 after a factor");
         }
     }
 
@@ -151,19 +174,20 @@ impl Survey {
     pub fn targets(&self) -> Vec<(String, u64, u64)> {
         let mut targets = vec![("plans".to_string(), 120_000, self.plans)];
         for number in NUMBERS {
-            if number == 6 {
-                let others = self.plans - self.different(6);
-                targets.push(("plans not for 6".to_string(), self.plans, others));
+            let different = self.different(number);
+            if GONE.contains(&number) {
+                let name = format!("plans not for {}", number);
+                targets.push((name, self.plans, self.plans - different));
             } else {
-                let name = format!("different plans for {}", number);
-                targets.push((name, 1_000, self.different(number)));
+                let least = if number == 25 { 100 } else { 1_000 };
+                targets.push((format!("different plans for {}", number), least, different));
             }
         }
         let mut at_least = |least: u64, name: String| {
             let count = self.get(&name);
             targets.push((name, least, count));
         };
-        for number in 20..=24 {
+        for number in [20, 21, 23, 24, 25] {
             at_least(100, format!("{} after 3 or more steps", number));
         }
         for kind in BAD_NUMBERS {
@@ -176,8 +200,15 @@ impl Survey {
             (100, "2, once 6 by a slack"),
             (100, "2, once 6 by the objective"),
             (100, "2, once 6 by a norm"),
-            (100, "22 by columns"),
-            (100, "22 by entries"),
+            (500, "factored once"),
+            (50, "factored twice"),
+            (30, "factored 10 times or more"),
+            (100, "factored, 96 rows and 128 columns"),
+            (500, "factored, answer 0"),
+            (20, "factored, answer 20"),
+            (10, "factored, answer 21"),
+            (20, "factored, answer 24"),
+            (10, "25 after a factor"),
             (100, "24 by a column"),
             (100, "24 by a slack"),
             (100, "24 by a row"),
@@ -193,6 +224,7 @@ impl Survey {
             (1_000, "family wild"),
             (1_000, "family damaged"),
             (1_000, "family free"),
+            (400, "family refactor"),
         ] {
             at_least(least, name.into());
         }
@@ -240,12 +272,13 @@ pub fn met(targets: &[(String, u64, u64)]) -> bool {
 }
 
 /// Places of document 01's order that no plan reaches; docs/DECISIONS.md, "23's places", says why.
-pub const UNREACHED: [Named; 5] = [
+pub const UNREACHED: [Named; 6] = [
     Named::Limit,
     Named::Distance,
     Named::Value,
     Named::Leaving,
     Named::Eta,
+    Named::Factor,
 ];
 
 /// The name of a count of free columns.
@@ -272,7 +305,7 @@ fn hash_of(plan: &Plan) -> u64 {
 }
 
 /// Picks the plans of the fixed list: of each family, of each kind of answer, the first few that
-/// are short. A 22 and a 23 may be long.
+/// are short. A 23, a 25 and a run with a factor may be long.
 #[derive(Default)]
 pub struct Fixed {
     taken: BTreeMap<(String, String), usize>,
@@ -284,7 +317,7 @@ impl Fixed {
         let (family, index) = family(plan).unwrap_or(("", 0));
         let kind = match answer.outcome {
             // The families "short", "number", "largest" and "free" go through their kinds in turn.
-            Outcome::BadSize if family == "short" => format!("1, {}", index % 92),
+            Outcome::BadSize if family == "short" => format!("1, {}", index % SHORT_KINDS),
             Outcome::BadNumber if family == "number" => bad_number_kind(index).to_string(),
             Outcome::BadNumber if family == "overflow" => {
                 format!("2, once {:?}", of_any_size(plan))
@@ -295,6 +328,10 @@ impl Fixed {
             outcome if family == "free" => {
                 format!("{}, {}", outcome.number(), index % FREE_KINDS)
             }
+            outcome if factorings(&answer) > 0 => {
+                let times = factorings(&answer).min(3);
+                format!("{}, factored {}", outcome.number(), times)
+            }
             Outcome::BadEntry { .. } => "3".to_string(),
             Outcome::CrossedBounds { .. } => "4".to_string(),
             Outcome::FalseEmptyRow { .. } => "5".to_string(),
@@ -303,7 +340,7 @@ impl Fixed {
             outcome => format!("{:?} {}", outcome, answer.steps.min(3)),
         };
         let (most_taken, longest) = match answer.outcome.number() {
-            22 => (1, usize::MAX),
+            _ if factorings(&answer) > 0 => (1, usize::MAX),
             23 => (2, usize::MAX),
             1 | 2 => (1, 700),
             3..=7 => (4, 700),

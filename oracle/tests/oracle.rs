@@ -2,7 +2,7 @@
 
 use std::io::Cursor;
 
-use oracle::answer::{Answer, Outcome};
+use oracle::answer::{Answer, Outcome, State};
 use oracle::exchange::{answer_line, factors_answer_line, tri_answer_line, Extras, Item, Reader};
 use oracle::families;
 use oracle::fresh;
@@ -120,6 +120,7 @@ fn the_second_solver_agrees() {
             answer_line(&plan.id, &fresh, ALL)
         );
         assert_eq!(ours.outcome, fresh.outcome);
+        assert_eq!(families::factorings(&ours), families::factorings(&fresh));
         compared += 1;
     });
     assert!(compared > 120_000);
@@ -170,6 +171,86 @@ fn plans_without_a_reset_are_the_same_as_shown() {
         }
     });
     assert!(same > 1_000);
+}
+
+/// Makes the plans whose runs fill the eta store: once, twice and ten times, ends in 25 among them.
+fn refactoring(seed: u64, take: &mut dyn FnMut(Plan, Answer, State)) {
+    let wanted = |family: &str| ["entries", "refactor"].contains(&family);
+    families::make(seed, &wanted, &mut |plan| {
+        let answer = gate::solve(&plan, Options::default());
+        if families::factorings(&answer) > 0 {
+            let state = answer.state.clone().expect("a run has a state");
+            take(plan, answer, state);
+        }
+    });
+}
+
+/// Where the shown factorisation, by its own order and pivots, ends Optimal too, the objective is the
+/// same to 1e-9 of its size.
+#[test]
+fn objectives_are_those_of_the_shown_factor() {
+    let mut both = 0;
+    refactoring(8, &mut |plan, answer, _| {
+        let shown = gate::solve(&plan, Options::showing(Correction::Reset));
+        if (answer.outcome, shown.outcome) == (Outcome::Optimal, Outcome::Optimal) {
+            let apart = (answer.objective - shown.objective).abs();
+            assert!(
+                apart <= 1e-9 * answer.objective.abs().max(1.0),
+                "{}",
+                plan.id
+            );
+            both += 1;
+        }
+    });
+    assert!(both >= 200, "{}", both);
+}
+
+/// Rows of L's column i are above i and its numbers at most 1 in size, rows of U's column i are below i
+/// and its numbers aren't 0.0, a diagonal's size is at least EPS, the pivot rows are a permutation.
+#[test]
+fn a_factor_keeps_its_shape() {
+    let mut seen = 0;
+    refactoring(9, &mut |plan, _, state| {
+        let Some(factor) = state.factor else { return };
+        let size = state.kept.len();
+        let mut pivots = factor.pivots.clone();
+        pivots.sort_unstable();
+        assert_eq!(pivots, (0..size).collect::<Vec<_>>(), "{}", plan.id);
+        assert!(factor.udiag.len() == size && factor.udiag.iter().all(|val| val.abs() >= 1e-8));
+        for col in 0..size {
+            let lower = factor.lptr[col]..factor.lptr[col + 1];
+            assert!(factor.lidx[lower.clone()].iter().all(|&row| row > col));
+            assert!(factor.lval[lower].iter().all(|val| val.abs() <= 1.0));
+            let upper = factor.uptr[col]..factor.uptr[col + 1];
+            assert!(factor.uidx[upper.clone()].iter().all(|&row| row < col));
+            assert!(factor.uval[upper].iter().all(|&val| val != 0.0));
+        }
+        seen += 1;
+    });
+    assert!(seen >= 250, "{}", seen);
+}
+
+/// "On 23 and 25 the state is the one before the step": it is what a budget of the steps taken leaves.
+#[test]
+fn a_25_leaves_the_state_before_the_step() {
+    let mut seen = 0;
+    refactoring(10, &mut |plan, answer, state| {
+        if answer.outcome != Outcome::Singular {
+            return;
+        }
+        let spent = gate::solve(
+            &Plan {
+                budget: answer.steps,
+                ..plan.clone()
+            },
+            Options::default(),
+        );
+        assert_eq!(spent.outcome, Outcome::Spent, "{}", plan.id);
+        assert_eq!(spent.objective.to_bits(), answer.objective.to_bits());
+        assert_eq!(spent.state, Some(state), "{}", plan.id);
+        seen += 1;
+    });
+    assert!(seen >= 100, "{}", seen);
 }
 
 /// One column x from 0.0 up with cost 1.0 and one row x <= 1.0, changed.

@@ -129,12 +129,13 @@ macro_rules! call {
 }
 
 call! {
-    /// Solves a plan. Reads the plan's eight slices; writes the values and the state's two arrays.
+    /// Solves a plan. Reads the plan's eight slices; writes the values and the state's four arrays.
     fn tevalumi_solve(
         columns: usize, rows: usize, entries: usize, budget: usize, tolerance: f64,
         costs: &[f64], lowers: &[f64], uppers: &[f64],
         starts: &[usize], cols: &[usize], coeffs: &[f64], ops: &[u8], rhs: &[f64],
         values: &mut [f64], numbers: &mut [usize], doubles: &mut [f64],
+        factor_numbers: &mut [usize], factor_coeffs: &mut [f64],
     ) -> Answer
 }
 

@@ -12,8 +12,9 @@ sheet in whole numbers that bounds how much cheaper any other plan could be.
 
 | module | for whom |
 |---|---|
-| this one | programs that use minilp: the same [`Problem`], [`LinearExpr`], [`Solution`] |
+| this one | programs that use minilp: the same [`Problem`], [`LinearExpr`], [`Solution`], [`MpsFile`] |
 | [`sheet`] | whoever must say, after a bad night, whether a plan was the cheapest one |
+| [`proposals`] | whoever wants the best whole plan near a run's doubles |
 | [`why`] | whoever must say why there was no plan at all |
 | [`raw`], [`triangle`] | firmware: the library's calls over lent memory, without allocation |
 
@@ -48,12 +49,16 @@ Change `use minilp::…` to `use tevalumi::…`. What differs:
 | any start | each constraint must hold where the variables start (below), else error 7 |
 | runs until it is done | at most [`Problem::set_budget`] steps (10,000 unless set), else error 21 |
 | no check of the result | every value and constraint is checked within [`Problem::set_tolerance`] (1e-6 unless set), else error 24 |
-| refactors the basis | a store of 256 exchanges and 4,096 entries; when it is full, error 22 |
+| refactors the basis as soon as its exchanges have as many entries as it, and panics where it can't | refactors when a store of 256 exchanges and 4,096 entries is full; where it can't, error 25 |
 | NaN, numbers above 1e12 and overflow go on | errors 2 and 23 |
 | a variable with no bounds enters at any reduced cost: one with coefficient 0 in no constraint can be called unbounded | it enters only where its reduced cost is at least 1e-8 in size, as every variable does |
-| `Error::Infeasible`, `Error::Unbounded` | [`Error::status`] is one of [`Status`]; [`Status::Unbounded`] is 20; [`Status::CrossedBounds`] (4) and [`Status::FalseEmptyRow`] (5) are infeasible, [`Status::SlackOutside`] (7) may be |
+| `Error::Infeasible`, `Error::Unbounded` | the same, and a third case: [`Error::Other`] with every other number. [`Status::CrossedBounds`] (4) and [`Status::FalseEmptyRow`] (5) are `Infeasible`; a problem that is refused with [`Status::SlackOutside`] (7) may be |
 | `add_constraint` panics where a variable stands twice or is of a larger problem | [`Problem::solve`] gives error 3 and names the constraint |
-| `Solution::add_constraint`, `fix_var`, `unfix_var`, `add_gomory_cut`, `MpsFile` | left out; solve a new [`Problem`] |
+| `Solution::add_constraint` goes on from the solution | [`Solution::add_constraint`] solves the longer problem anew |
+| `MpsFile` | [`MpsFile`], with `constant` beside its fields |
+| `fix_var`, `unfix_var`, `add_gomory_cut` | left out; solve a new [`Problem`] |
+
+The page docs/FROM-MINILP.md of the repository has each public item of minilp beside ours.
 
 A variable starts at its fixed value; at 0 if it has no bounds; else at the bound that its
 objective coefficient prefers, or at its other bound if that one is infinite; at its lower bound,
@@ -61,18 +66,19 @@ if there is one, where the coefficient is 0.
 
 # Errors
 
-Every solve answers; none panics, whatever it is given. An [`Error`] carries document 01's number,
-the place, and a sentence:
+Every solve answers; none panics, whatever it is given. [`Problem::solve`] has minilp's names for the
+errors; [`Problem::answer`] says document 01's number, the place, and a sentence in a [`Failure`]:
 
 ```
 # use tevalumi::*;
 let mut problem = Problem::new(OptimizationDirection::Minimize);
 let _ = problem.add_var(1.0, (0.0, 9.0));
 let _ = problem.add_var(1.0, (3.0, 2.0));
-let error = problem.solve().unwrap_err();
-assert_eq!(error.number(), 4);
-assert_eq!(error.variable().map(|var| var.idx()), Some(1));
-assert_eq!(error.to_string(), "4: a lower bound is above its upper bound (variable 1)");
+assert_eq!(problem.solve().unwrap_err(), Error::Infeasible);
+let failure = problem.answer().unwrap_err();
+assert_eq!(failure.number(), 4);
+assert_eq!(failure.variable().map(|var| var.idx()), Some(1));
+assert_eq!(failure.to_string(), "4: a lower bound is above its upper bound (variable 1)");
 ```
 
 # What is proved and what is trusted
@@ -94,7 +100,9 @@ The static library `libtevalumi.a` is looked for in `target/staticlib` of the re
 #![warn(missing_docs)]
 
 mod ffi;
+mod mps;
 mod problem;
+pub mod proposals;
 pub mod raw;
 mod sections;
 pub mod sheet;
@@ -102,8 +110,9 @@ pub mod triangle;
 pub mod wholes;
 pub mod why;
 
+pub use mps::MpsFile;
 pub use problem::{
-    ComparisonOp, Error, LinearExpr, LinearTerm, OptimizationDirection, Problem, Solution,
+    ComparisonOp, Error, Failure, LinearExpr, LinearTerm, OptimizationDirection, Problem, Solution,
     SolutionIter, Variable,
 };
 pub use raw::{Place, Status};

@@ -244,7 +244,7 @@ impl Problem {
     /// assert_eq!(problem.solve().unwrap().steps(), 1);
     ///
     /// problem.set_budget(0);
-    /// assert_eq!(problem.solve().unwrap_err().status(), Status::Spent);
+    /// assert_eq!(problem.answer().unwrap_err().status(), Status::Spent);
     /// ```
     pub fn set_budget(&mut self, steps: usize) {
         self.budget = steps;
@@ -278,6 +278,28 @@ impl Problem {
         }
     }
 
+    /// The first constraint that doesn't hold where the variables start, for an error's words. The
+    /// library has settled that there is one.
+    fn broken_at_start(&self) -> Option<usize> {
+        let start = |var: usize| {
+            let wanted = match self.costs[var] < 0.0 {
+                true => [self.uppers[var], self.lowers[var]],
+                false => [self.lowers[var], self.uppers[var]],
+            };
+            wanted.into_iter().find(|x| x.is_finite()).unwrap_or(0.0)
+        };
+        (0..self.rhs.len()).find(|&row| {
+            let terms = self.starts[row]..self.starts[row + 1];
+            let sum = terms.fold(0.0, |sum, e| sum + self.coeffs[e] * start(self.cols[e]));
+            let slack = self.rhs[row] - sum;
+            match self.ops[row] {
+                ops::LE => slack < 0.0,
+                ops::EQ => slack != 0.0,
+                _ => slack > 0.0,
+            }
+        })
+    }
+
     /// Solve the problem, finding the optimal objective function value and variable values.
     ///
     /// # Errors
@@ -287,22 +309,31 @@ impl Problem {
     /// unbounded, if the budget or the eta store is spent, if a number isn't finite, or if the
     /// final check rejects the values.
     pub fn solve(&self) -> Result<Solution, Error> {
-        self.solve_in(&mut Box::default())
+        Ok(self.answer()?)
     }
 
-    /// As [`solve`](Problem::solve), in a workspace that can be used again and again.
-    ///
-    /// After errors 20 to 24 the workspace holds the state after the last whole step.
+    /// As [`solve`](Problem::solve), with document 01's number, the place and a sentence in every error.
     ///
     /// # Errors
     ///
     /// As [`solve`](Problem::solve).
-    pub fn solve_in(&self, work: &mut Workspace) -> Result<Solution, Error> {
+    pub fn answer(&self) -> Result<Solution, Failure> {
+        self.solve_in(&mut Box::default())
+    }
+
+    /// As [`answer`](Problem::answer), in a workspace that can be used again and again.
+    ///
+    /// After errors 20 to 25 the workspace holds the state after the last whole step.
+    ///
+    /// # Errors
+    ///
+    /// As [`solve`](Problem::solve).
+    pub fn solve_in(&self, work: &mut Workspace) -> Result<Solution, Failure> {
         let plan = self.plan();
         let mut values = vec![0.0; plan.columns + plan.rows];
         let answer = solve_into(&plan, work, &mut values);
         if answer.status != Status::Optimal {
-            return Err(Error::new(self, work, answer));
+            return Err(Failure::new(self, work, answer));
         }
         Ok(Solution::new(self, work, answer, values))
     }
@@ -317,16 +348,16 @@ impl Problem {
 /// let mut problem = Problem::new(OptimizationDirection::Minimize);
 /// let x = problem.add_var(1.0, (0.0, 9.0));
 /// problem.add_constraint([(x, 1.0), (x, 2.0)], ComparisonOp::Le, 4.0);
-/// let error = problem.solve().unwrap_err();
-/// assert_eq!(error.number(), 3);
-/// assert_eq!(error.place(), Place::Entry { row: 0, within: 1 });
+/// let failure = problem.answer().unwrap_err();
+/// assert_eq!(failure.number(), 3);
+/// assert_eq!(failure.place(), Place::Entry { row: 0, within: 1 });
 /// assert_eq!(
-///     error.to_string(),
+///     failure.to_string(),
 ///     "3: a row names a column twice, out of order, or that isn't there (constraint 0, variable 0)"
 /// );
 /// ```
 #[derive(Clone, Debug, PartialEq)]
-pub struct Error {
+pub struct Failure {
     direction: OptimizationDirection,
     answer: Answer,
     variable: Option<Variable>,
@@ -343,10 +374,13 @@ struct Over {
     limit: usize,
 }
 
-impl Error {
-    fn new(problem: &Problem, work: &Workspace, answer: Answer) -> Error {
+impl Failure {
+    fn new(problem: &Problem, work: &Workspace, answer: Answer) -> Failure {
         let columns = problem.costs.len();
         let (variable, constraint) = match answer.place {
+            Place::Nowhere if answer.status == Status::SlackOutside => {
+                (None, problem.broken_at_start())
+            }
             Place::Nowhere => (None, None),
             Place::Entry { row, within } => {
                 let var = problem.cols[problem.starts[row] + within];
@@ -364,7 +398,7 @@ impl Error {
             ("terms", problem.cols.len(), limits::ENTRIES),
             ("steps of budget", problem.budget, limits::BUDGET),
         ];
-        Error {
+        Failure {
             direction: problem.direction,
             answer,
             variable,
@@ -381,7 +415,7 @@ impl Error {
         self.answer.status
     }
 
-    /// Document 01's number: 1 to 7 or 20 to 24.
+    /// Document 01's number: 1 to 7 or 20 to 25.
     pub fn number(&self) -> u8 {
         self.answer.status.number()
     }
@@ -398,7 +432,8 @@ impl Error {
     }
 
     /// The constraint that the place names, if it names one: its number in the order of
-    /// [`Problem::add_constraint`], from 0.
+    /// [`Problem::add_constraint`], from 0. With error 7, whose place names none, the first constraint
+    /// that doesn't hold where the variables start.
     pub fn constraint(&self) -> Option<usize> {
         self.constraint
     }
@@ -421,7 +456,7 @@ impl Error {
     }
 }
 
-impl fmt::Display for Error {
+impl fmt::Display for Failure {
     fn fmt(&self, f: &mut fmt::Formatter<'_>) -> fmt::Result {
         write!(f, "{}: ", self.number())?;
         match self.over.as_deref() {
@@ -435,6 +470,57 @@ impl fmt::Display for Error {
             (Some(row), None) => write!(f, " (constraint {row})"),
             (None, Some(var)) => write!(f, " (variable {})", var.0),
             (None, None) => Ok(()),
+        }
+    }
+}
+
+impl std::error::Error for Failure {}
+
+/// An error encountered while solving a problem, by minilp's names.
+///
+/// [`Infeasible`](Error::Infeasible) and [`Unbounded`](Error::Unbounded) have no room for document 01's
+/// number, the place and the sentence: [`Problem::answer`] has them for every error.
+///
+/// ```
+/// # use tevalumi::*;
+/// let mut problem = Problem::new(OptimizationDirection::Maximize);
+/// let x = problem.add_var(1.0, (0.0, f64::INFINITY));
+/// match problem.solve() {
+///     Err(Error::Infeasible) => println!("no values keep every constraint"),
+///     Err(Error::Unbounded) => println!("the objective rises without end"),
+///     Err(Error::Other(failure)) => println!("number {}", failure.number()),
+///     Ok(solution) => println!("{}", solution[x]),
+/// }
+/// assert_eq!(problem.solve().unwrap_err(), Error::Unbounded);
+/// assert_eq!(problem.answer().unwrap_err().number(), 20);
+/// ```
+#[derive(Clone, Debug, PartialEq)]
+pub enum Error {
+    /// Constraints can't simultaneously be satisfied: numbers 4 (a lower bound above its upper bound)
+    /// and 5 (a constraint without terms that is false).
+    Infeasible,
+    /// The objective function is unbounded: number 20.
+    Unbounded,
+    /// Every other number. minilp has none of them.
+    Other(Failure),
+}
+
+impl From<Failure> for Error {
+    fn from(failure: Failure) -> Error {
+        match failure.status() {
+            Status::CrossedBounds | Status::FalseEmptyRow => Error::Infeasible,
+            Status::Unbounded => Error::Unbounded,
+            _ => Error::Other(failure),
+        }
+    }
+}
+
+impl fmt::Display for Error {
+    fn fmt(&self, f: &mut fmt::Formatter<'_>) -> fmt::Result {
+        match self {
+            Error::Infeasible => f.write_str("problem is infeasible"),
+            Error::Unbounded => f.write_str("problem is unbounded"),
+            Error::Other(failure) => failure.fmt(f),
         }
     }
 }
@@ -466,6 +552,7 @@ impl std::error::Error for Error {}
 /// ```
 #[derive(Clone)]
 pub struct Solution {
+    problem: Problem,
     direction: OptimizationDirection,
     num_vars: usize,
     num_constraints: usize,
@@ -507,6 +594,7 @@ impl Solution {
             prices[var] = price;
         }
         Solution {
+            problem: problem.clone(),
             direction: problem.direction,
             num_vars,
             num_constraints: problem.rhs.len(),
@@ -551,6 +639,41 @@ impl Solution {
             solution: self,
             var_idx: 0,
         }
+    }
+
+    /// Add another constraint and return the solution to the updated problem.
+    ///
+    /// This method will consume the solution and not return it in case of error. See also
+    /// examples of specifying the left-hand side in the docs for the [`Problem::add_constraint`]
+    /// method. The updated problem is solved anew, not from this solution on, so the constraint has to
+    /// hold where the variables start, as every constraint has to.
+    ///
+    /// ```
+    /// # use tevalumi::*;
+    /// let mut problem = Problem::new(OptimizationDirection::Maximize);
+    /// let x = problem.add_var(3.0, (0.0, f64::INFINITY));
+    /// let y = problem.add_var(1.0, (0.0, f64::INFINITY));
+    /// problem.add_constraint([(x, 1.0), (y, 1.0)], ComparisonOp::Le, 4.0);
+    /// let solution = problem.solve()?;
+    /// assert_eq!(solution.objective(), 12.0);
+    ///
+    /// let solution = solution.add_constraint([(x, 1.0)], ComparisonOp::Le, 3.0)?;
+    /// assert_eq!((solution[x], solution[y], solution.objective()), (3.0, 1.0, 10.0));
+    /// # Ok::<(), Error>(())
+    /// ```
+    ///
+    /// # Errors
+    ///
+    /// As [`Problem::solve`].
+    pub fn add_constraint(
+        self,
+        expr: impl Into<LinearExpr>,
+        cmp_op: ComparisonOp,
+        rhs: f64,
+    ) -> Result<Self, Error> {
+        let mut problem = self.problem;
+        problem.add_constraint(expr, cmp_op, rhs);
+        problem.solve()
     }
 
     /// How many steps the solver took.

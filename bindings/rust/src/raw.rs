@@ -1,6 +1,6 @@
 //! The library's own calls over memory that the caller lends: nothing here allocates.
 //!
-//! This is the level for firmware. A [`PlanRef`] borrows the plan's arrays, a [`Workspace`] is two
+//! This is the level for firmware. A [`PlanRef`] borrows the plan's arrays, a [`Workspace`] is four
 //! fixed arrays that can stand in a `static`, and [`solve_into`] answers an [`Answer`].
 //! A caller with memory of its own lends a [`WorkspaceMut`] to [`solve_lent`]. The audit
 //! sheet's arrays are lent as a [`SheetMut`]; its plan is written into a file's bytes by
@@ -42,7 +42,7 @@
 
 use crate::ffi;
 
-/// Where each section of a [`Workspace`]'s two arrays stands, by cells.
+/// Where each section of a [`Workspace`]'s four arrays stands, by cells.
 pub mod sections {
     pub use crate::sections::*;
 }
@@ -95,7 +95,7 @@ pub mod ops {
 
 /// What a solve ends with: document 01's numbers.
 ///
-/// 1 to 7 are refusals: no lent cell has changed. 20 to 24 leave the values alone, and the
+/// 1 to 7 are refusals: no lent cell has changed. 20 to 25 leave the values alone, and the
 /// workspace holds the state after the last whole step.
 #[derive(Clone, Copy, Debug, PartialEq, Eq, Hash)]
 pub enum Status {
@@ -120,21 +120,26 @@ pub enum Status {
     /// 7: a row's slack starts outside its bounds, so the slack start isn't feasible. The plan
     /// may have a solution all the same.
     SlackOutside = 7,
-    /// 20: the objective falls without end.
+    /// 20: the objective falls without end, as far as coefficients of at least 1e-8 in size say: a
+    /// smaller one stops nothing.
     Unbounded = 20,
     /// 21: the budget is spent and a column would still enter.
     Spent = 21,
-    /// 22: the eta store has no room for the next column.
+    /// 22: the eta store has no room for the next column. No longer given: the basis is factored
+    /// instead.
     NoRoom = 22,
     /// 23: a number of the step isn't finite.
     NotFinite = 23,
     /// 24: the final check rejects the values.
     Rejected = 24,
+    /// 25: the basis after an exchange can't be factored: every remaining entry of some column is under
+    /// EPS (1e-8) in size.
+    Singular = 25,
 }
 
 impl Status {
     /// Every status, in the order of its number.
-    pub const ALL: [Status; 13] = [
+    pub const ALL: [Status; 14] = [
         Status::Optimal,
         Status::BadSize,
         Status::BadNumber,
@@ -148,6 +153,7 @@ impl Status {
         Status::NoRoom,
         Status::NotFinite,
         Status::Rejected,
+        Status::Singular,
     ];
 
     /// Document 01's number.
@@ -178,11 +184,12 @@ impl Status {
             Status::FalseEmptyRow => "a row without entries is false",
             Status::StartNotFinite => "a number of the start isn't finite",
             Status::SlackOutside => "a row isn't kept at the start, and this solver only begins at plans that keep every row",
-            Status::Unbounded => "unbounded: the cost falls without end",
+            Status::Unbounded => "unbounded: no bound and no row's coefficient of at least 1e-8 in size stops a column that makes the plan cheaper",
             Status::Spent => "the step budget is spent",
             Status::NoRoom => "the eta store is full",
             Status::NotFinite => "a number of a step isn't finite",
             Status::Rejected => "the final check rejects the values",
+            Status::Singular => "the basis after an exchange can't be factored: every remaining entry of some column is under EPS",
         }
     }
 }
@@ -285,9 +292,9 @@ pub struct PlanRef<'a> {
     pub rhs: &'a [f64],
 }
 
-/// The memory of a solve: two arrays, room for every plan within the limits. [`sections`] says where what stands.
+/// The memory of a solve: four arrays, room for every plan within the limits. [`sections`] says where what stands.
 ///
-/// It is some 76 KB, and it can stand in a `static`:
+/// It is some 376 KB, of which 297 KB are the factor's, and it can stand in a `static`:
 ///
 /// ```
 /// use std::sync::Mutex;
@@ -297,13 +304,17 @@ pub struct PlanRef<'a> {
 /// # assert!(WORK.lock().unwrap().kept_rows() == 0);
 /// ```
 ///
-/// After answers 0 and 20 to 24 it holds the state after the last whole step.
+/// After answers 0 and 20 to 25 it holds the state after the last whole step.
 #[derive(Clone, Debug)]
 pub struct Workspace {
     /// Variables, places, flags, the eta store's rows and starts, the kept rows, and the counts.
     pub numbers: [usize; sections::NUMBERS],
     /// Values, prices, norms, the eta store's coefficients, and the objective.
     pub doubles: [f64; sections::DOUBLES],
+    /// The factor's pivot rows, starts and rows, where there is one.
+    pub factor_numbers: [usize; sections::FACTOR_NUMBERS],
+    /// The factor's coefficients and diagonal.
+    pub factor_coeffs: [f64; sections::FACTOR_COEFFS],
 }
 
 impl Workspace {
@@ -312,6 +323,8 @@ impl Workspace {
         Workspace {
             numbers: [0; sections::NUMBERS],
             doubles: [0.0; sections::DOUBLES],
+            factor_numbers: [0; sections::FACTOR_NUMBERS],
+            factor_coeffs: [0.0; sections::FACTOR_COEFFS],
         }
     }
 
@@ -320,7 +333,14 @@ impl Workspace {
         WorkspaceMut {
             numbers: &mut self.numbers,
             doubles: &mut self.doubles,
+            factor_numbers: &mut self.factor_numbers,
+            factor_coeffs: &mut self.factor_coeffs,
         }
+    }
+
+    /// How often the last run factored its basis.
+    pub fn factorings(&self) -> usize {
+        self.numbers[sections::COUNTS][6]
     }
 
     /// How many rows the last run kept.
@@ -342,12 +362,15 @@ impl Default for Workspace {
 
 /// The memory of a solve as the caller lends it.
 ///
-/// Needed are [`sections::NUMBERS`] and [`sections::DOUBLES`] cells, whatever the plan's sizes. One cell less is answer 1.
+/// Needed are [`sections::NUMBERS`], [`sections::DOUBLES`], [`sections::FACTOR_NUMBERS`] and [`sections::FACTOR_COEFFS`]
+/// cells, whatever the plan's sizes. One cell less is answer 1.
 #[derive(Debug)]
 #[allow(missing_docs)] // The fields are Workspace's.
 pub struct WorkspaceMut<'a> {
     pub numbers: &'a mut [usize],
     pub doubles: &'a mut [f64],
+    pub factor_numbers: &'a mut [usize],
+    pub factor_coeffs: &'a mut [f64],
 }
 
 /// Solves a plan in a [`Workspace`]. `values` needs `columns + rows` cells; on
@@ -375,6 +398,8 @@ pub fn solve_lent(plan: &PlanRef<'_>, work: &mut WorkspaceMut<'_>, values: &mut 
         values,
         work.numbers,
         work.doubles,
+        work.factor_numbers,
+        work.factor_coeffs,
     ))
 }
 
@@ -474,13 +499,13 @@ impl Refusal {
     }
 }
 
-impl std::fmt::Display for Refusal {
-    fn fmt(&self, f: &mut std::fmt::Formatter<'_>) -> std::fmt::Result {
+impl core::fmt::Display for Refusal {
+    fn fmt(&self, f: &mut core::fmt::Formatter<'_>) -> core::fmt::Result {
         write!(f, "{}: {}", self.number(), self.sentence())
     }
 }
 
-impl std::error::Error for Refusal {}
+impl core::error::Error for Refusal {}
 
 /// What a sheet says of its plan.
 #[derive(Clone, Copy, Debug, PartialEq, Eq, Hash)]
@@ -800,13 +825,13 @@ pub struct BadFile {
     pub block: usize,
 }
 
-impl std::fmt::Display for BadFile {
-    fn fmt(&self, f: &mut std::fmt::Formatter<'_>) -> std::fmt::Result {
+impl core::fmt::Display for BadFile {
+    fn fmt(&self, f: &mut core::fmt::Formatter<'_>) -> core::fmt::Result {
         write!(f, "{} (block {})", self.refusal, self.block)
     }
 }
 
-impl std::error::Error for BadFile {}
+impl core::error::Error for BadFile {}
 
 /// The ten arrays of a sheet that a file holds, lent to be written. Those of [`SheetMut`] without
 /// the kept numbers; the file says how many rows and columns there are.

@@ -1,8 +1,8 @@
-//! Where each section of a solve's two arrays stands, by cells. The proved library has the same names in
-//! crates/state/src/lib.rt, and C has them in include/tevalumi.h; the driver's tests compare all three. The driver has this
-//! file too.
+//! Where each section of a solve's four arrays stands, by cells. The proved library has the same places in
+//! crates/state/src/lib.rt and crates/lu_factor_rules/src/lib.rt, and C has them in include/tevalumi.h; the driver's tests
+//! compare all three. The driver has this file too.
 
-use std::ops::Range;
+use core::ops::Range;
 
 /// The cells that follow a section.
 const fn after(before: &Range<usize>, cells: usize) -> Range<usize> {
@@ -26,8 +26,9 @@ pub const ETA_STARTS: Range<usize> = after(&ETA_LEAVING, 257);
 pub const ETA_ROWS: Range<usize> = after(&ETA_STARTS, 4_096);
 /// In `numbers`: the plan's number of each kept row. A row without entries is dropped.
 pub const KEPT: Range<usize> = after(&ETA_ROWS, 96);
-/// In `numbers`: kept rows, eta columns, eta entries, steps, and the status number of the last run.
-pub const COUNTS: Range<usize> = after(&KEPT, 5);
+/// In `numbers`: kept rows, eta columns, eta entries, steps, the status number of the last run, 1 where there is a factor,
+/// and factorings since the start.
+pub const COUNTS: Range<usize> = after(&KEPT, 7);
 /// The cells of `numbers`.
 pub const NUMBERS: usize = COUNTS.end;
 
@@ -45,3 +46,39 @@ pub const ETA_COEFFS: Range<usize> = after(&NORMS, 4_096);
 pub const OBJECTIVE: Range<usize> = after(&ETA_COEFFS, 1);
 /// The cells of `doubles`.
 pub const DOUBLES: usize = OBJECTIVE.end;
+
+/// In `factor_numbers`: the kept row of each pivot number.
+pub const PIVOTS: Range<usize> = 0..96;
+/// In `factor_numbers`: its inverse, the pivot number of each kept row.
+pub const PIVOT_PLACES: Range<usize> = after(&PIVOTS, 96);
+/// In `factor_numbers`: where each column of L starts, and at the end the number of its entries.
+pub const L_STARTS: Range<usize> = after(&PIVOT_PLACES, 97);
+/// In `factor_numbers`: the row of each entry of L, by its pivot number.
+pub const L_ROWS: Range<usize> = after(&L_STARTS, 4_560);
+/// In `factor_numbers`: where each column of U starts.
+pub const U_STARTS: Range<usize> = after(&L_ROWS, 97);
+/// In `factor_numbers`: the row of each entry of U beside its diagonal.
+pub const U_ROWS: Range<usize> = after(&U_STARTS, 4_560);
+/// In `factor_numbers`: where each column of the transpose of L starts.
+pub const LT_STARTS: Range<usize> = after(&U_ROWS, 97);
+/// In `factor_numbers`: the rows of the transpose of L.
+pub const LT_ROWS: Range<usize> = after(&LT_STARTS, 4_560);
+/// In `factor_numbers`: where each column of the transpose of U starts.
+pub const UT_STARTS: Range<usize> = after(&LT_ROWS, 97);
+/// In `factor_numbers`: the rows of the transpose of U.
+pub const UT_ROWS: Range<usize> = after(&UT_STARTS, 4_560);
+/// The cells of `factor_numbers`.
+pub const FACTOR_NUMBERS: usize = UT_ROWS.end;
+
+/// In `factor_coeffs`: the number of each entry of L.
+pub const L_COEFFS: Range<usize> = 0..4_560;
+/// In `factor_coeffs`: the number of each entry of U.
+pub const U_COEFFS: Range<usize> = after(&L_COEFFS, 4_560);
+/// In `factor_coeffs`: the numbers of the transpose of L.
+pub const LT_COEFFS: Range<usize> = after(&U_COEFFS, 4_560);
+/// In `factor_coeffs`: the numbers of the transpose of U.
+pub const UT_COEFFS: Range<usize> = after(&LT_COEFFS, 4_560);
+/// In `factor_coeffs`: the diagonal of U.
+pub const DIAG: Range<usize> = after(&UT_COEFFS, 96);
+/// The cells of `factor_coeffs`.
+pub const FACTOR_COEFFS: usize = DIAG.end;

@@ -6,7 +6,7 @@ use common::Rng;
 use std::collections::BTreeSet;
 use tevalumi::raw::{limits, sections, solve_into, solve_lent, PlanRef, Workspace};
 use tevalumi::{
-    ComparisonOp, Error, LinearExpr, OptimizationDirection, Place, Problem, Status, Variable,
+    ComparisonOp, Failure, LinearExpr, OptimizationDirection, Place, Problem, Status, Variable,
 };
 
 const INF: f64 = f64::INFINITY;
@@ -28,8 +28,8 @@ fn one_column(cost: f64, bounds: (f64, f64), rows: &[(f64, ComparisonOp, f64)]) 
     problem
 }
 
-fn error(problem: &Problem) -> Error {
-    problem.solve().unwrap_err()
+fn error(problem: &Problem) -> Failure {
+    problem.answer().unwrap_err()
 }
 
 /// Many rows and many steps: each exchange adds up to 96 entries to the store.
@@ -48,6 +48,31 @@ fn crowded() -> Problem {
         }
         problem.add_constraint(expr, LE, rng.between(100, 500) as f64);
     }
+    problem
+}
+
+/// A cube in the manner of Klee and Minty, whose run goes to nearly all corners: 262 steps, so that the store is full once.
+fn cube() -> (Problem, Vec<Variable>) {
+    let mut problem = minimise();
+    let vars: Vec<Variable> = (0..8)
+        .map(|k| problem.add_var(-0.1 * 1.25f64.powi(7 - k), (0.0, INF)))
+        .collect();
+    problem.add_constraint([(vars[0], 0.001)], LE, 0.001);
+    let mut right = 0.016;
+    for pair in vars.windows(2) {
+        problem.add_constraint([(pair[0], -0.004), (pair[1], 0.001)], GE, 0.0);
+        problem.add_constraint([(pair[0], 0.004), (pair[1], 0.001)], LE, right);
+        right *= 16.0;
+    }
+    (problem, vars)
+}
+
+/// The cube beside two rows that each have a pivot over EPS in a step, and together none in a factor.
+fn near_singular() -> Problem {
+    let (mut problem, _) = cube();
+    let [x, y, z] = [-10.0, -0.1, -10_000.0].map(|cost| problem.add_var(cost, (0.0, INF)));
+    problem.add_constraint([(x, 1e-5), (z, 3e-7)], LE, 1e-9);
+    problem.add_constraint([(y, 1e-5), (z, 0.001)], LE, 10.0);
     problem
 }
 
@@ -85,10 +110,10 @@ fn growing() -> Problem {
     problem
 }
 
-/// 02: "6 is no longer given".
+/// 02: 6 and 22 are no longer given.
 fn given() -> impl Iterator<Item = Status> {
     let all = Status::ALL.into_iter();
-    all.filter(|&status| status != Status::StartNotFinite)
+    all.filter(|status| ![Status::StartNotFinite, Status::NoRoom].contains(status))
 }
 
 /// A problem for each number that is given.
@@ -117,7 +142,7 @@ fn reaching(status: Status) -> Problem {
             problem.add_constraint(LinearExpr::empty(), LE, -1.0);
             problem
         }
-        Status::StartNotFinite => unreachable!("6 is no longer given"),
+        Status::StartNotFinite | Status::NoRoom => unreachable!("no longer given"),
         Status::SlackOutside => one_column(1.0, (0.0, INF), &[(1.0, GE, 1.0)]),
         Status::Unbounded => one_column(-1.0, (0.0, INF), &[(-1.0, LE, 4.0)]),
         Status::Spent => {
@@ -125,9 +150,9 @@ fn reaching(status: Status) -> Problem {
             problem.set_budget(0);
             problem
         }
-        Status::NoRoom => crowded(),
         Status::NotFinite => growing(),
         Status::Rejected => nearly(0.0),
+        Status::Singular => near_singular(),
     }
 }
 
@@ -135,7 +160,7 @@ fn reaching(status: Status) -> Problem {
 fn every_number_is_reached_by_a_problem() {
     for status in given() {
         let problem = reaching(status);
-        match problem.solve() {
+        match problem.answer() {
             Ok(_) => assert_eq!(status, Status::Optimal),
             Err(error) => {
                 assert_eq!(error.status(), status, "{error}");
@@ -179,10 +204,10 @@ fn every_number_is_reached_by_the_raw_call() {
 #[test]
 fn numbers_and_sentences_are_told_apart() {
     let numbers: Vec<u8> = Status::ALL.iter().map(|status| status.number()).collect();
-    assert_eq!(numbers, [0, 1, 2, 3, 4, 5, 6, 7, 20, 21, 22, 23, 24]);
+    assert_eq!(numbers, [0, 1, 2, 3, 4, 5, 6, 7, 20, 21, 22, 23, 24, 25]);
     let sentences: BTreeSet<&str> = Status::ALL.iter().map(|status| status.sentence()).collect();
     assert_eq!(sentences.len(), Status::ALL.len());
-    for number in (8..20).chain(25..40) {
+    for number in (8..20).chain(26..40) {
         assert_eq!(Status::from_number(number), None);
     }
 }
@@ -276,7 +301,7 @@ fn a_number_above_1e12_is_2() {
     let above = f64::from_bits(limits::NUMBER.to_bits() + 1);
     for with in places {
         for sign in [1.0, -1.0] {
-            let number = |x: f64| with(sign * x).solve().map_or_else(|e| e.number(), |_| 0);
+            let number = |x: f64| with(sign * x).answer().map_or_else(|e| e.number(), |_| 0);
             assert_ne!(number(limits::NUMBER), 2);
             for x in [above, 1e200, f64::MAX] {
                 assert_eq!(number(x), 2, "{x}");
@@ -328,7 +353,18 @@ fn places_are_said_in_the_callers_numbers() {
 
     let outside = error(&reaching(Status::SlackOutside));
     assert_eq!(outside.place(), Place::Nowhere);
-    assert_eq!((outside.constraint(), outside.variable()), (None, None));
+    assert_eq!((outside.constraint(), outside.variable()), (Some(0), None));
+    assert!(outside.to_string().ends_with(" (constraint 0)"));
+
+    // The first that doesn't hold at 4 and 0, where the costs want them.
+    let mut second = minimise();
+    let x = second.add_var(-1.0, (0.0, 4.0));
+    let y = second.add_var(1.0, (0.0, INF));
+    second.add_constraint([(x, 1.0), (y, 1.0)], LE, 4.0);
+    second.add_constraint([(x, 1.0), (y, -1.0)], LE, 3.0);
+    second.add_constraint([(y, 1.0)], GE, 1.0);
+    let outside = error(&second);
+    assert_eq!((outside.number(), outside.constraint()), (7, Some(1)));
 }
 
 #[test]
@@ -521,11 +557,15 @@ fn a_short_workspace_is_1() {
     }
     type Cut = fn(&mut tevalumi::raw::WorkspaceMut);
     // A cell less than needed, or none at all.
-    let cuts: [Cut; 4] = [
+    let cuts: [Cut; 8] = [
         |work| cut(&mut work.numbers, sections::NUMBERS - 1),
         |work| cut(&mut work.numbers, 0),
         |work| cut(&mut work.doubles, sections::DOUBLES - 1),
         |work| cut(&mut work.doubles, 0),
+        |work| cut(&mut work.factor_numbers, sections::FACTOR_NUMBERS - 1),
+        |work| cut(&mut work.factor_numbers, 0),
+        |work| cut(&mut work.factor_coeffs, sections::FACTOR_COEFFS - 1),
+        |work| cut(&mut work.factor_coeffs, 0),
     ];
     for (which, cut) in cuts.into_iter().enumerate() {
         let mut work = Workspace::new();
@@ -537,9 +577,13 @@ fn a_short_workspace_is_1() {
     // A cell more, which stays.
     let mut numbers = vec![77; sections::NUMBERS + 1];
     let mut doubles = vec![77.0; sections::DOUBLES + 1];
+    let mut factor_numbers = vec![77; sections::FACTOR_NUMBERS + 1];
+    let mut factor_coeffs = vec![77.0; sections::FACTOR_COEFFS + 1];
     let mut lent = tevalumi::raw::WorkspaceMut {
         numbers: &mut numbers,
         doubles: &mut doubles,
+        factor_numbers: &mut factor_numbers,
+        factor_coeffs: &mut factor_coeffs,
     };
     let answer = solve_lent(&plan, &mut lent, &mut values);
     assert_eq!(answer.status, Status::Optimal);
@@ -547,6 +591,47 @@ fn a_short_workspace_is_1() {
         (numbers[sections::NUMBERS], doubles[sections::DOUBLES]),
         (77, 77.0)
     );
+    // No factor was made.
+    assert!(factor_numbers.iter().all(|&cell| cell == 77));
+    assert!(factor_coeffs.iter().all(|&cell| cell == 77.0));
+}
+
+/// A run of more exchanges than the store has room for: its basis is factored once, and the counts say so.
+#[test]
+fn a_long_run_factors_its_basis() {
+    let mut work = Workspace::new();
+    let solution = reaching(Status::Optimal).solve_in(&mut work).unwrap();
+    assert_eq!((solution.steps(), work.factorings()), (1, 0));
+    let (problem, _) = cube();
+    let solution = problem.solve_in(&mut work).unwrap();
+    assert_eq!((solution.steps(), work.factorings()), (262, 1));
+    let counts = &work.numbers[sections::COUNTS];
+    assert_eq!(counts[..2], [15, 5], "the rows, and the exchanges since");
+    assert_eq!(counts[5..], [1, 1]);
+    let pivots = &work.factor_numbers[sections::PIVOTS];
+    let places = &work.factor_numbers[sections::PIVOT_PLACES];
+    assert!((0..15).all(|row| pivots[places[row]] == row));
+    let diagonal = &work.factor_coeffs[sections::DIAG][..15];
+    assert!(diagonal.iter().all(|pivot| pivot.abs() >= 1e-8));
+}
+
+/// 25 has its sentence, and the memory is that of a run whose budget ends before the exchange.
+#[test]
+fn a_basis_that_has_no_factor() {
+    let mut problem = near_singular();
+    let mut work = Workspace::new();
+    let error = problem.solve_in(&mut work).unwrap_err();
+    assert_eq!(
+        error.to_string(),
+        "25: the basis after an exchange can't be factored: every remaining entry of some column is under EPS"
+    );
+    problem.set_budget(error.steps());
+    let mut spent = Workspace::new();
+    let other = problem.solve_in(&mut spent).unwrap_err();
+    assert_eq!(other.status(), Status::Spent);
+    assert_eq!(other.objective().to_bits(), error.objective().to_bits());
+    spent.numbers[sections::COUNTS][4] = 25;
+    assert_eq!(format!("{work:?}"), format!("{spent:?}"));
 }
 
 #[test]
@@ -564,6 +649,7 @@ fn a_refusal_changes_no_cell_and_a_solve_keeps_the_tails() {
     let mut marked = Workspace::new();
     marked.numbers.fill(77);
     marked.doubles.fill(77.0);
+    marked.factor_numbers.fill(77);
     assert!(reaching(Status::Optimal).solve_in(&mut marked).is_ok());
     let past_first = |cells: std::ops::Range<usize>| cells.start + 1..cells.end;
     let kept = &marked.numbers[past_first(sections::KEPT)];
@@ -573,6 +659,7 @@ fn a_refusal_changes_no_cell_and_a_solve_keeps_the_tails() {
         assert!(cells.iter().all(|&cell| cell == 77.0));
     }
     assert_eq!(marked.kept_rows(), 1);
+    assert!(marked.factor_numbers.iter().all(|&cell| cell == 77));
     assert_eq!(marked.doubles[sections::ETA_COEFFS][0], 0.0);
 }
 

@@ -5,3 +5,4 @@ pub mod Placed
 pub mod Columns
 pub mod Whole
 pub mod Callers
+pub mod Loading

@@ -1,5 +1,7 @@
 // The matrix by columns, rows rising, in local arrays: entries counted, columns laid end to end, and
 // the rows' entries placed in turn. 01 has no text for transpose: the order is that of its columns.
+// Then a variable's column on a vector. From minilp 0.2.2, src/solver.rs, calc_col_coeffs, Apache-2.0, changed:
+// the vector is lent, fresh at entry, and a slack has no entry of its own in the matrix.
 ghost use mathlib.Core.Path.{_≡_};
 ghost use mathlib.Core.List.{[]};
 ghost use Prim.Native.Nat.{_≤_, _+_};
@@ -7,8 +9,10 @@ ghost use lib.ListN.{length};
 ghost use Rattle.doubles.specs.Limits.{maxColumns, maxEntries};
 ghost use Rattle.doubles.specs.Loop.{table};
 ghost use Rattle.doubles.specs.Lists.{over};
+ghost use Rattle.sparse.specs.Scattered.{sv, Fresh};
 ghost use Rattle.rules.specs.Parts.{rowed};
 ghost use Rattle.basis_columns.specs.Columns.{countedIn, counted, sum, cells, placedIn, placed, Counting, Placing, PlacingAll, Valued, Matrix, Zeros, ByColumns};
+ghost use Rattle.basis_columns.specs.Loading.{columnOn, ColumnLent};
 
 // One more for the column of each entry of a row.
 fn count_row(cols: &[usize], counts: &mut [usize; doubles::MAX_COLUMNS])
@@ -145,4 +149,36 @@ pub fn by_columns(
     let mut next = [0; doubles::MAX_COLUMNS];
     sum_up(n, &counts, cstarts, &mut next);
     place_all(starts, cols, coeffs, kept, &mut next, crows, ccoeffs);
+}
+
+// The column of variable v on a fresh vector: its entries in the matrix by columns, or a slack's own row with 1.0.
+pub fn load_column(
+    values: &mut [f64; doubles::PLACES],
+    marks: &mut [bool; doubles::PLACES],
+    list: &mut [usize; doubles::PLACES],
+    col_starts: &[usize],
+    col_rows: &[usize],
+    col_coeffs: &[f64],
+    n: usize,
+    v: usize,
+) -> usize
+    requires { ⌜ Fresh (sv (now values) (now marks) (now list) 0) × ColumnLent (now «col_starts») (now «col_rows»)
+        (now «col_coeffs») n v ⌝ }
+    ensures { λ c. ⌜ sv (now (values .exit)) (now (marks .exit)) (now (list .exit)) c ≡ columnOn
+        (now («col_starts» .entry)) (now («col_rows» .entry)) (now («col_coeffs» .entry)) n v ⌝ }
+{
+    if v < n {
+        let a = col_starts[v];
+        let b = col_starts[v + 1];
+        return sparse::load(
+            values,
+            marks,
+            list,
+            0,
+            &col_rows[a..b],
+            &col_coeffs[a..b],
+            b - a,
+        );
+    }
+    sparse::put_at(values, marks, list, 0, v - n, 1.0)
 }

@@ -11,7 +11,7 @@ use Rattle.doubles.proofs.Loops.{keeps}
 use Rattle.sparse.specs.Scattered.{Sv, Good, Within}
 use Rattle.sparse.proofs.Laws.{good-putAt, good-takeOff}
 use Rattle.rules.specs.Plan.{Etas, Problem, State, mOf}
-use Rattle.rules.specs.Basis.{etaRowsOf, etaCoeffsOf, etaTurn, etaTurnTransp, factorSolve}
+use Rattle.rules.specs.Basis.{etaRowsOf, etaCoeffsOf, etaTurn, etaTurnTransp}
 use Rattle.rules.specs.Invariant.{ProblemFits, Fits}
 use Rattle.rules.proofs.Lists.{part-long, part-at}
 use Rattle.rules.proofs.Vectors.{rows-places}
@@ -49,12 +49,7 @@ module _ (h : Etas) (n : ℕ) (r : Readable h n) (s : Sv) (g : Good places s) wh
   pub good-etas : (k : ℕ) → k ≤ n → Good places (run (etaTurn h) k s)
   good-etas k l = keeps (etaTurn h) s (λ _. Good places) n (λ j t b p. good-etaTurn h j (r .column j b) t p) g k l
 
--- the factor
-pub good-factorSolve : {n : ℕ} (s : Sv) → Good n s → Good n (factorSolve s)
-unfolding factorSolve
-good-factorSolve s g = g
-
--- ---- the store of a state that fits: what `solve` and `solve_transp` ask
+-- ---- the store of a state that fits: what `solve_etas` and `solve_etas_transp` ask
 module _ (P : Problem) (f : ProblemFits P) (s : State) (g : Fits P s) where
   pub fits-readable : Readable (s .ws .etas) (s .etaCount)
   fits-readable =

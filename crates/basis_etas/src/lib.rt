@@ -1,11 +1,11 @@
-// The column solve and the row solve: the factor and the eta matrices of the store.
+// The eta matrices' part of the column solve and of the row solve.
 // From minilp 0.2.2, src/solver.rs, EtaMatrices and BasisSolver, Apache-2.0, changed: the vector and the store are lent
-// arrays, the vector is loaded by the caller, and the first factor is the identity.
+// arrays, and the vector is loaded by the caller.
 ghost use mathlib.Core.Path.{_≡_};
 ghost use Rattle.doubles.specs.Limits.{places};
 ghost use Rattle.sparse.specs.Scattered.{sv, Good, dot};
 ghost use Rattle.rules.specs.Parts.{etasOf};
-ghost use Rattle.rules.specs.Basis.{etaTurn, solveEtas, factorSolve, solve, etaTurnTransp, solveEtasTransp, factorSolveTransp, solveTransp};
+ghost use Rattle.rules.specs.Basis.{etaTurn, solveEtas, etaTurnTransp, solveEtasTransp};
 ghost use Rattle.basis_etas.specs.Store.{Readable, ReadableCol};
 
 // The eta matrix k: the value at its leaving row, times its column, is taken off.
@@ -68,7 +68,7 @@ fn eta_turn_transp(
 }
 
 // The first n eta matrices, in order.
-fn solve_etas(
+pub fn solve_etas(
     values: &mut [f64; doubles::PLACES],
     marks: &mut [bool; doubles::PLACES],
     list: &mut [usize; doubles::PLACES],
@@ -93,7 +93,7 @@ fn solve_etas(
 }
 
 // The first n eta matrices, transposed, in reverse.
-fn solve_etas_transp(
+pub fn solve_etas_transp(
     values: &mut [f64; doubles::PLACES],
     marks: &mut [bool; doubles::PLACES],
     list: &mut [usize; doubles::PLACES],
@@ -117,73 +117,4 @@ fn solve_etas_transp(
         c = eta_turn_transp(values, marks, list, c, leaving, starts, rows, coeffs, k);
     }
     c
-}
-
-// 01: "The first factor is the identity".
-fn factor_solve(
-    values: &mut [f64; doubles::PLACES],
-    marks: &mut [bool; doubles::PLACES],
-    list: &mut [usize; doubles::PLACES],
-    count: usize,
-) -> usize
-    ensures { λ r. ⌜ sv (now (values .exit)) (now (marks .exit)) (now (list .exit)) r
-        ≡ factorSolve (sv (now (values .entry)) (now (marks .entry)) (now (list .entry)) count) ⌝ }
-{
-    count
-}
-
-fn factor_solve_transp(
-    values: &mut [f64; doubles::PLACES],
-    marks: &mut [bool; doubles::PLACES],
-    list: &mut [usize; doubles::PLACES],
-    count: usize,
-) -> usize
-    ensures { λ r. ⌜ sv (now (values .exit)) (now (marks .exit)) (now (list .exit)) r
-        ≡ factorSolveTransp (sv (now (values .entry)) (now (marks .entry)) (now (list .entry)) count) ⌝ }
-{
-    count
-}
-
-// The column solve: the factor, then the etas.
-pub fn solve(
-    values: &mut [f64; doubles::PLACES],
-    marks: &mut [bool; doubles::PLACES],
-    list: &mut [usize; doubles::PLACES],
-    count: usize,
-    leaving: &[usize],
-    starts: &[usize],
-    rows: &[usize],
-    coeffs: &[f64],
-    n: usize,
-) -> usize
-    requires { ⌜ Good places (sv (now values) (now marks) (now list) count) × Readable
-        (etasOf (now leaving) (now starts) (now rows) (now coeffs)) n ⌝ }
-    ensures { λ r. ⌜ sv (now (values .exit)) (now (marks .exit)) (now (list .exit)) r ≡ solve
-        (etasOf (now (leaving .entry)) (now (starts .entry)) (now (rows .entry)) (now (coeffs .entry))) n
-        (sv (now (values .entry)) (now (marks .entry)) (now (list .entry)) count) ⌝ }
-{
-    let c = factor_solve(values, marks, list, count);
-    solve_etas(values, marks, list, c, leaving, starts, rows, coeffs, n)
-}
-
-// The row solve: the etas in reverse, then the factor.
-pub fn solve_transp(
-    values: &mut [f64; doubles::PLACES],
-    marks: &mut [bool; doubles::PLACES],
-    list: &mut [usize; doubles::PLACES],
-    count: usize,
-    leaving: &[usize],
-    starts: &[usize],
-    rows: &[usize],
-    coeffs: &[f64],
-    n: usize,
-) -> usize
-    requires { ⌜ Good places (sv (now values) (now marks) (now list) count) × Readable
-        (etasOf (now leaving) (now starts) (now rows) (now coeffs)) n ⌝ }
-    ensures { λ r. ⌜ sv (now (values .exit)) (now (marks .exit)) (now (list .exit)) r ≡ solveTransp
-        (etasOf (now (leaving .entry)) (now (starts .entry)) (now (rows .entry)) (now (coeffs .entry))) n
-        (sv (now (values .entry)) (now (marks .entry)) (now (list .entry)) count) ⌝ }
-{
-    let c = solve_etas_transp(values, marks, list, count, leaving, starts, rows, coeffs, n);
-    factor_solve_transp(values, marks, list, c)
 }

@@ -1,2 +1,2 @@
--- What the solves of a step ask of the arrays that they are lent, and the entering column as it is handed to the solve.
+-- What the solves of a step ask of the arrays that they are lent.
 pub mod Lent

@@ -1,26 +1,185 @@
-// The solves of a step: the entering column, the row of an exchange and its helper, and the room for an eta column.
-// From minilp 0.2.2, src/solver.rs, calc_col_coeffs, calc_row_coeffs and update_primal_sq_norms, Apache-2.0, changed:
-// the vectors are lent arrays, fresh at entry, and a slack has no entry of its own in the matrix.
+// The solves of a step: the entering column, the row of an exchange and its helper.
+// From minilp 0.2.2, src/solver.rs, BasisSolver, calc_col_coeffs, calc_row_coeffs and update_primal_sq_norms,
+// Apache-2.0, changed: the vectors are lent arrays, fresh at entry, the factor and the etas are lent arrays too, and no
+// factor stands for the identity.
 ghost use mathlib.Core.Path.{_≡_};
 ghost use mathlib.Core.Bool.{Bool};
 ghost use mathlib.Core.List.{List, []};
-ghost use Prim.Native.Nat.{_<_, _≤_};
+ghost use Prim.Native.Nat.{ℕ, _<_, _≤_};
 ghost use lib.ListN.{length};
 ghost use Rattle.doubles.specs.Num.{f1};
 ghost use Rattle.doubles.specs.Limits.{places};
 ghost use Rattle.sparse.specs.Scattered.{sv, blank, putAt, Within, relisted, Fresh};
-ghost use Rattle.rules.specs.Plan.{Problem, nOf};
-ghost use Rattle.rules.specs.Parts.{rowed, etasOf};
-ghost use Rattle.rules.specs.Basis.{colCoeffs, rowCoeffsOf, helperOf};
+ghost use Rattle.rules.specs.Plan.{Problem, nOf, mOf};
+ghost use Rattle.rules.specs.Parts.{rowed, etasOf, factoredOf};
+ghost use Rattle.rules.specs.Basis.{factorSolve, factorSolveTransp, solveEtasTransp, colCoeffs, rowCoeffsOf, helperOf};
+ghost use Rattle.rules.specs.Basis as Basis;
+ghost use Rattle.rules.specs.Invariant.{FactorFits, Vector};
 ghost use Rattle.basis_columns.specs.Columns.{ByColumns};
+ghost use Rattle.basis_columns.specs.Loading.{columnOn, ColumnLent};
 ghost use Rattle.basis_etas.specs.Store.{Readable};
-ghost use Rattle.basis_solves.specs.Lent.{mapped, columnOn, ColumnLent, RowSolve};
+ghost use Rattle.basis_solves.specs.Lent.{mapped, RowSolve};
+
+// The factor, or the identity.
+fn factor_solve(
+    values: &mut [f64; doubles::PLACES],
+    marks: &mut [bool; doubles::PLACES],
+    list: &mut [usize; doubles::PLACES],
+    count: usize,
+    m: usize,
+    factored: bool,
+    factor_numbers: &[usize],
+    factor_coeffs: &[f64],
+) -> usize
+    requires { ⌜ FactorFits m (factoredOf factored 0 (now «factor_numbers») (now «factor_coeffs»)) ⌝ }
+    requires { ⌜ Vector m (sv (now values) (now marks) (now list) count) ⌝ }
+    ensures { λ r. ⌜ ((k : ℕ) → sv (now (values .exit)) (now (marks .exit)) (now (list .exit)) r ≡ factorSolve m
+        (factoredOf factored k (now («factor_numbers» .entry)) (now («factor_coeffs» .entry)))
+        (sv (now (values .entry)) (now (marks .entry)) (now (list .entry)) count)) ⌝ }
+{
+    if factored {
+        return lu_packed::solve(m, factor_numbers, factor_coeffs, values, marks, list, count);
+    }
+    count
+}
+
+fn factor_solve_transp(
+    values: &mut [f64; doubles::PLACES],
+    marks: &mut [bool; doubles::PLACES],
+    list: &mut [usize; doubles::PLACES],
+    count: usize,
+    m: usize,
+    factored: bool,
+    factor_numbers: &[usize],
+    factor_coeffs: &[f64],
+) -> usize
+    requires { ⌜ FactorFits m (factoredOf factored 0 (now «factor_numbers») (now «factor_coeffs»)) ⌝ }
+    requires { ⌜ Vector m (sv (now values) (now marks) (now list) count) ⌝ }
+    ensures { λ r. ⌜ ((k : ℕ) → sv (now (values .exit)) (now (marks .exit)) (now (list .exit)) r ≡ factorSolveTransp m
+        (factoredOf factored k (now («factor_numbers» .entry)) (now («factor_coeffs» .entry)))
+        (sv (now (values .entry)) (now (marks .entry)) (now (list .entry)) count)) ⌝ }
+{
+    if factored {
+        return lu_packed::solve_transp(
+            m,
+            factor_numbers,
+            factor_coeffs,
+            values,
+            marks,
+            list,
+            count,
+        );
+    }
+    count
+}
+
+// The column solve: the factor, then the etas.
+fn solve(
+    values: &mut [f64; doubles::PLACES],
+    marks: &mut [bool; doubles::PLACES],
+    list: &mut [usize; doubles::PLACES],
+    count: usize,
+    m: usize,
+    factored: bool,
+    factor_numbers: &[usize],
+    factor_coeffs: &[f64],
+    leaving: &[usize],
+    eta_starts: &[usize],
+    eta_rows: &[usize],
+    eta_coeffs: &[f64],
+    eta_count: usize,
+) -> usize
+    requires { ⌜ FactorFits m (factoredOf factored 0 (now «factor_numbers») (now «factor_coeffs»)) ⌝ }
+    requires { ⌜ Vector m (sv (now values) (now marks) (now list) count)
+        × Readable (etasOf (now leaving) (now «eta_starts») (now «eta_rows») (now «eta_coeffs»)) «eta_count» ⌝ }
+    ensures { λ r. ⌜ ((k : ℕ) → sv (now (values .exit)) (now (marks .exit)) (now (list .exit)) r ≡ Basis.solve m
+        (factoredOf factored k (now («factor_numbers» .entry)) (now («factor_coeffs» .entry)))
+        (etasOf (now (leaving .entry)) (now («eta_starts» .entry)) (now («eta_rows» .entry))
+        (now («eta_coeffs» .entry))) «eta_count»
+        (sv (now (values .entry)) (now (marks .entry)) (now (list .entry)) count)) ⌝ }
+{
+    let c = factor_solve(
+        values,
+        marks,
+        list,
+        count,
+        m,
+        factored,
+        factor_numbers,
+        factor_coeffs,
+    );
+    basis_etas::solve_etas(
+        values,
+        marks,
+        list,
+        c,
+        leaving,
+        eta_starts,
+        eta_rows,
+        eta_coeffs,
+        eta_count,
+    )
+}
+
+// The row solve: the etas in reverse, then the factor. What the etas leave is asked to list rows of the factor.
+fn solve_transp(
+    values: &mut [f64; doubles::PLACES],
+    marks: &mut [bool; doubles::PLACES],
+    list: &mut [usize; doubles::PLACES],
+    count: usize,
+    m: usize,
+    factored: bool,
+    factor_numbers: &[usize],
+    factor_coeffs: &[f64],
+    leaving: &[usize],
+    eta_starts: &[usize],
+    eta_rows: &[usize],
+    eta_coeffs: &[f64],
+    eta_count: usize,
+) -> usize
+    requires { ⌜ FactorFits m (factoredOf factored 0 (now «factor_numbers») (now «factor_coeffs»)) ⌝ }
+    requires { ⌜ Vector m (sv (now values) (now marks) (now list) count)
+        × Readable (etasOf (now leaving) (now «eta_starts») (now «eta_rows») (now «eta_coeffs»)) «eta_count» ⌝ }
+    requires { ⌜ Vector m (solveEtasTransp
+        (etasOf (now leaving) (now «eta_starts») (now «eta_rows») (now «eta_coeffs»)) «eta_count»
+        (sv (now values) (now marks) (now list) count)) ⌝ }
+    ensures { λ r. ⌜ ((k : ℕ) → sv (now (values .exit)) (now (marks .exit)) (now (list .exit)) r ≡ Basis.solveTransp m
+        (factoredOf factored k (now («factor_numbers» .entry)) (now («factor_coeffs» .entry)))
+        (etasOf (now (leaving .entry)) (now («eta_starts» .entry)) (now («eta_rows» .entry))
+        (now («eta_coeffs» .entry))) «eta_count»
+        (sv (now (values .entry)) (now (marks .entry)) (now (list .entry)) count)) ⌝ }
+{
+    let c = basis_etas::solve_etas_transp(
+        values,
+        marks,
+        list,
+        count,
+        leaving,
+        eta_starts,
+        eta_rows,
+        eta_coeffs,
+        eta_count,
+    );
+    factor_solve_transp(
+        values,
+        marks,
+        list,
+        c,
+        m,
+        factored,
+        factor_numbers,
+        factor_coeffs,
+    )
+}
 
 // The row of an exchange, with the maps before it: the unit vector of the leaving row, solved, and the rows combined.
 pub fn row_coeffs(
     values: &mut [f64; doubles::PLACES],
     marks: &mut [bool; doubles::PLACES],
     list: &mut [usize; doubles::PLACES],
+    factored: bool,
+    factor_numbers: &[usize],
+    factor_coeffs: &[f64],
     leaving: &[usize],
     eta_starts: &[usize],
     eta_rows: &[usize],
@@ -36,21 +195,27 @@ pub fn row_coeffs(
 ) -> usize
     requires { ⌜ Fresh (sv (now values) (now marks) (now list) 0) × (row < places) ⌝ }
     requires { ⌜ RowSolve (rowed n (now starts) (now cols) (now coeffs) (now kept)) (length (now «var_states»))
-        (etasOf (now leaving) (now «eta_starts») (now «eta_rows») (now «eta_coeffs»)) «eta_count» (putAt blank row f1) ⌝ }
-    ensures { λ c. ⌜ sv (now (values .exit)) (now (marks .exit)) (now (list .exit)) c ≡ rowCoeffsOf
+        (etasOf (now leaving) (now «eta_starts») (now «eta_rows») (now «eta_coeffs»)) «eta_count»
+        (factoredOf factored 0 (now «factor_numbers») (now «factor_coeffs»)) (putAt blank row f1) ⌝ }
+    ensures { λ c. ⌜ ((k : ℕ) → sv (now (values .exit)) (now (marks .exit)) (now (list .exit)) c ≡ rowCoeffsOf
         (rowed n (now (starts .entry)) (now (cols .entry)) (now (coeffs .entry)) (now (kept .entry)))
         (mapped (now («var_states» .entry)) (etasOf (now (leaving .entry)) (now («eta_starts» .entry))
-        (now («eta_rows» .entry)) (now («eta_coeffs» .entry))) «eta_count») row ⌝ }
+        (now («eta_rows» .entry)) (now («eta_coeffs» .entry))) «eta_count»
+        (factoredOf factored k (now («factor_numbers» .entry)) (now («factor_coeffs» .entry)))) row) ⌝ }
 {
     let mut y = [0.0; doubles::PLACES];
     let mut y_marks = [false; doubles::PLACES];
     let mut y_list = [0usize; doubles::PLACES];
     let unit = sparse::put_at(&mut y, &mut y_marks, &mut y_list, 0, row, 1.0);
-    let c = basis_etas::solve_transp(
+    let c = solve_transp(
         &mut y,
         &mut y_marks,
         &mut y_list,
         unit,
+        kept.len(),
+        factored,
+        factor_numbers,
+        factor_coeffs,
         leaving,
         eta_starts,
         eta_rows,
@@ -81,6 +246,9 @@ pub fn helper(
     from: &[f64; doubles::PLACES],
     from_list: &[usize; doubles::PLACES],
     from_count: usize,
+    factored: bool,
+    factor_numbers: &[usize],
+    factor_coeffs: &[f64],
     leaving: &[usize],
     eta_starts: &[usize],
     eta_rows: &[usize],
@@ -97,11 +265,14 @@ pub fn helper(
         (now «from_list») ⌝ }
     requires { ⌜ RowSolve (rowed n (now starts) (now cols) (now coeffs) (now kept)) (length (now «var_states»))
         (etasOf (now leaving) (now «eta_starts») (now «eta_rows») (now «eta_coeffs»)) «eta_count»
+        (factoredOf factored 0 (now «factor_numbers») (now «factor_coeffs»))
         (relisted (sv (now from) [] (now «from_list») «from_count»)) ⌝ }
-    ensures { λ c. ⌜ ((m : List Bool) → sv (now (values .exit)) (now (marks .exit)) (now (list .exit)) c ≡ helperOf
+    ensures { λ c. ⌜ ((k : ℕ) (m : List Bool) → sv (now (values .exit)) (now (marks .exit)) (now (list .exit)) c
+        ≡ helperOf
         (rowed n (now (starts .entry)) (now (cols .entry)) (now (coeffs .entry)) (now (kept .entry)))
         (mapped (now («var_states» .entry)) (etasOf (now (leaving .entry)) (now («eta_starts» .entry))
-        (now («eta_rows» .entry)) (now («eta_coeffs» .entry))) «eta_count»)
+        (now («eta_rows» .entry)) (now («eta_coeffs» .entry))) «eta_count»
+        (factoredOf factored k (now («factor_numbers» .entry)) (now («factor_coeffs» .entry))))
         (sv (now (from .entry)) m (now («from_list» .entry)) «from_count»)) ⌝ }
 {
     let mut y = [0.0; doubles::PLACES];
@@ -115,11 +286,15 @@ pub fn helper(
         from_list,
         from_count,
     );
-    let c = basis_etas::solve_transp(
+    let c = solve_transp(
         &mut y,
         &mut y_marks,
         &mut y_list,
         again,
+        kept.len(),
+        factored,
+        factor_numbers,
+        factor_coeffs,
         leaving,
         eta_starts,
         eta_rows,
@@ -142,38 +317,6 @@ pub fn helper(
     )
 }
 
-// The column of variable v on a fresh vector: its entries in the matrix by columns, or a slack's own row with 1.0.
-fn load_column(
-    values: &mut [f64; doubles::PLACES],
-    marks: &mut [bool; doubles::PLACES],
-    list: &mut [usize; doubles::PLACES],
-    col_starts: &[usize],
-    col_rows: &[usize],
-    col_coeffs: &[f64],
-    n: usize,
-    v: usize,
-) -> usize
-    requires { ⌜ Fresh (sv (now values) (now marks) (now list) 0) × ColumnLent (now «col_starts») (now «col_rows»)
-        (now «col_coeffs») n v ⌝ }
-    ensures { λ c. ⌜ sv (now (values .exit)) (now (marks .exit)) (now (list .exit)) c ≡ columnOn
-        (now («col_starts» .entry)) (now («col_rows» .entry)) (now («col_coeffs» .entry)) n v ⌝ }
-{
-    if v < n {
-        let a = col_starts[v];
-        let b = col_starts[v + 1];
-        return sparse::load(
-            values,
-            marks,
-            list,
-            0,
-            &col_rows[a..b],
-            &col_coeffs[a..b],
-            b - a,
-        );
-    }
-    sparse::put_at(values, marks, list, 0, v - n, 1.0)
-}
-
 // The entering variable's column, solved. `ByColumns` says which matrix stands in the arrays.
 pub fn col_coeffs(
     values: &mut [f64; doubles::PLACES],
@@ -182,28 +325,40 @@ pub fn col_coeffs(
     col_starts: &[usize],
     col_rows: &[usize],
     col_coeffs: &[f64],
+    factored: bool,
+    factor_numbers: &[usize],
+    factor_coeffs: &[f64],
     leaving: &[usize],
     eta_starts: &[usize],
     eta_rows: &[usize],
     eta_coeffs: &[f64],
     eta_count: usize,
     n: usize,
+    m: usize,
     v: usize,
 ) -> usize
     requires { ⌜ Fresh (sv (now values) (now marks) (now list) 0) × ColumnLent (now «col_starts») (now «col_rows»)
         (now «col_coeffs») n v ⌝ }
-    requires { ⌜ Readable (etasOf (now leaving) (now «eta_starts») (now «eta_rows») (now «eta_coeffs»)) «eta_count» ⌝ }
-    ensures { λ c. ⌜ ((P : Problem) → nOf P ≡ n → ByColumns P (now («col_starts» .entry)) (now («col_rows» .entry))
-        (now («col_coeffs» .entry)) → sv (now (values .exit)) (now (marks .exit)) (now (list .exit)) c ≡ colCoeffs P
+    requires { ⌜ Vector m (columnOn (now «col_starts») (now «col_rows») (now «col_coeffs») n v)
+        × Readable (etasOf (now leaving) (now «eta_starts») (now «eta_rows») (now «eta_coeffs»)) «eta_count»
+        × FactorFits m (factoredOf factored 0 (now «factor_numbers») (now «factor_coeffs»)) ⌝ }
+    ensures { λ c. ⌜ ((P : Problem) (k : ℕ) → nOf P ≡ n → mOf P ≡ m → ByColumns P (now («col_starts» .entry))
+        (now («col_rows» .entry)) (now («col_coeffs» .entry))
+        → sv (now (values .exit)) (now (marks .exit)) (now (list .exit)) c ≡ colCoeffs P
         (mapped [] (etasOf (now (leaving .entry)) (now («eta_starts» .entry)) (now («eta_rows» .entry))
-        (now («eta_coeffs» .entry))) «eta_count») v) ⌝ }
+        (now («eta_coeffs» .entry))) «eta_count»
+        (factoredOf factored k (now («factor_numbers» .entry)) (now («factor_coeffs» .entry)))) v) ⌝ }
 {
-    let c = load_column(values, marks, list, col_starts, col_rows, col_coeffs, n, v);
-    basis_etas::solve(
+    let c = basis_columns::load_column(values, marks, list, col_starts, col_rows, col_coeffs, n, v);
+    solve(
         values,
         marks,
         list,
         c,
+        m,
+        factored,
+        factor_numbers,
+        factor_coeffs,
         leaving,
         eta_starts,
         eta_rows,

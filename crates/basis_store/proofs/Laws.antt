@@ -1,4 +1,4 @@
--- The tail of the store, lent and put back, and the room that 22's test shows. No contract cites this file. Assumes nothing.
+-- The tail of the store, lent and put back, and the room that `eta_fits` shows. No contract cites this file. Assumes nothing.
 use mathlib.Core.Path.{_≡_, refl, sym, _∙_}
 use mathlib.Core.Bool.{true}
 use mathlib.Core.List.{List}
@@ -57,7 +57,7 @@ module _ (c : Sv) (row : ℕ) (pivot : Float) (n : ℕ) (N : List ℕ) (D : List
         let h4 = in-etaStarts h3 (written etaStartsAt (etaColumns + 1) (set M (etaLeavingAt + n) row) (n + 1) (used + c .pat .count) (omega (arith, room))) in
         h4 .is ∙ rw (e, section-tail etaRowsAt etaEntries used (keptAt - (etaRowsAt + used)) N (omega (arith, used-fits)) (omega (arith, s)), section-tail etaCoeffsAt etaEntries used (objectiveAt - (etaCoeffsAt + used)) D (omega (arith, used-fits)) (omega (arith, s)), used-is)
 
--- ---- after 22's test: the room that `push_eta` asks
+-- ---- after `eta_fits`: the room that `push_eta` asks
 pub fits-room : (s : State) (k : ℕ) → etaFits s k ≡ true → Room (s .ws .etas) (s .etaCount) k
 unfolding etaFits
 fits-room s k e =

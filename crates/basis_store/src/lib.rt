@@ -79,7 +79,7 @@ pub fn push_eta(
     numbers[state::ETA_STARTS + (n + 1)] = used + count;
 }
 
-// 22: "the next eta column doesn't fit the room left".
+// Whether the next eta column fits the room left; where it doesn't, the new basis is factored.
 pub fn eta_fits(numbers: &[usize], at: state::Tally, count: usize) -> bool
     requires { ⌜ (length (now numbers) ≡ keptAt) × (at .«eta_count» ≤ etaColumns) × (count ≤ places) ⌝ }
     requires { ⌜ packed (now numbers) [] .etas .starts # (at .«eta_count») ≤ etaEntries ⌝ }

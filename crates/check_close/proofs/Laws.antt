@@ -13,7 +13,7 @@ use Rattle.doubles.specs.Limits.{maxRows, maxColumns, vars, etaColumns, etaEntr
 use Rattle.doubles.specs.Loop.{table}
 use Rattle.doubles.specs.Lists.{_!_, _#_, over}
 use Rattle.doubles.proofs.Loops.{length-tab, getD-table}
-use Rattle.rules.specs.Plan.{Problem, State, Memory, Workspace, nOf, mOf}
+use Rattle.rules.specs.Plan.{Problem, State, Memory, Workspace, nOf, mOf, bit}
 use Rattle.rules.specs.Parts.{memoryOf, stateOf}
 use Rattle.rules.specs.Basis.{etaUsed}
 use Rattle.rules.specs.FinalCheck.{valueOf, valuesOf, finalCheck}
@@ -22,12 +22,12 @@ use Rattle.rules.specs.Answers.{numberOf}
 use Rattle.rules.specs.Solve.{Solved, solved, checkedAnswer, answerOf, valuesAfter, memoryAfter, close}
 use Rattle.rules.specs.Invariant.{ProblemFits, Fits}
 use Rattle.rules.specs.declared.Stop.{Stop}
-use Rattle.rules.specs.declared.Stop.the-variants.{Finished, Spent as Stop·Spent, Unbounded as Stop·Unbounded, NoRoom as Stop·NoRoom, NotFinite as Stop·NotFinite}
+use Rattle.rules.specs.declared.Stop.the-variants.{Finished, Spent as Stop·Spent, Unbounded as Stop·Unbounded, NotFinite as Stop·NotFinite, Singular as Stop·Singular}
 use Rattle.rules.specs.declared.Checked.{Checked}
 use Rattle.rules.specs.declared.Checked.the-variants.{Passed, Value, Row}
 use Rattle.rules.specs.declared.Answer.{Answer}
-use Rattle.rules.specs.declared.Answer.the-variants.{Spent, Unbounded, NoRoom, NotFinite}
-use Rattle.state.specs.Packed.{section, packed, stateAt, basicVarsAt, nbVarsAt, varStatesAt, flagCellsAt, etaLeavingAt, etaStartsAt, etaRowsAt, keptAt, countsAt, basicVarValsAt, nbVarValsAt, pricesAt, normsAt, etaCoeffsAt, objectiveAt}
+use Rattle.rules.specs.declared.Answer.the-variants.{Spent, Unbounded, NotFinite, Singular}
+use Rattle.state.specs.Packed.{section, packed, stateIn, basicVarsAt, nbVarsAt, varStatesAt, flagCellsAt, etaLeavingAt, etaStartsAt, etaRowsAt, keptAt, countsAt, basicVarValsAt, nbVarValsAt, pricesAt, normsAt, etaCoeffsAt, objectiveAt}
 use Rattle.state.specs.Memory.{numbersEnd, doublesEnd, memoryIn, pastOf, handed, answered}
 use Rattle.state.specs.declared.Tally.{Tally}
 use Rattle.state.proofs.Sections.{Changed, lent, written, section-length, section-at}
@@ -61,13 +61,13 @@ module _ (P : Problem) (s : State) where
   unfolding answerOf
   ends-unbounded q = by-why q
 
-  pub ends-full : {v : Stop} → v ≡ Stop·NoRoom → NoRoom (s .objective) (s .steps) ≡ answerOf P (ended v s)
-  unfolding answerOf
-  ends-full q = by-why q
-
   pub ends-broken : {v : Stop} → v ≡ Stop·NotFinite → NotFinite (s .objective) (s .steps) ≡ answerOf P (ended v s)
   unfolding answerOf
   ends-broken q = by-why q
+
+  pub ends-singular : {v : Stop} → v ≡ Stop·Singular → Singular (s .objective) (s .steps) ≡ answerOf P (ended v s)
+  unfolding answerOf
+  ends-singular q = by-why q
 
 -- ---- what is written over a front
 pub table-whole : (l : List ℕ) → table (length l) (λ i. l # i) ≡ l
@@ -75,13 +75,17 @@ table-whole l =
     let same : length (table (length l) (λ i. l # i)) ≡ length l = length-tab (length l) 0 (λ i. l # i) in
     ext-getD 0 (table (length l) (λ i. l # i)) l same (λ k h. getD-table (length l) (λ i. l # i) 0 k (omega arith))
 
-pub counts-set : (a b c d e : ℕ) (l : List ℕ) → countCells ≤ length l → set (set (set (set (set l 0 a) 1 b) 2 c) 3 d) 4 e ≡ over (a ∷ b ∷ c ∷ d ∷ e ∷ []) l
-counts-set a b c d e [] h = absurd (omega arith)
-counts-set a b c d e (x ∷ []) h = absurd (omega arith)
-counts-set a b c d e (x ∷ y ∷ []) h = absurd (omega arith)
-counts-set a b c d e (x ∷ y ∷ z ∷ []) h = absurd (omega arith)
-counts-set a b c d e (x ∷ y ∷ z ∷ u ∷ []) h = absurd (omega arith)
-counts-set a b c d e (x ∷ y ∷ z ∷ u ∷ v ∷ l) h = refl
+module _ (a b c d e f g : ℕ) where
+  pub counts-set : (l : List ℕ) → countCells ≤ length l
+      → set (set (set (set (set (set (set l 0 a) 1 b) 2 c) 3 d) 4 e) 5 f) 6 g ≡ over (a ∷ b ∷ c ∷ d ∷ e ∷ f ∷ g ∷ []) l
+  counts-set [] h = absurd (omega arith)
+  counts-set (x ∷ []) h = absurd (omega arith)
+  counts-set (x ∷ y ∷ []) h = absurd (omega arith)
+  counts-set (x ∷ y ∷ z ∷ []) h = absurd (omega arith)
+  counts-set (x ∷ y ∷ z ∷ u ∷ []) h = absurd (omega arith)
+  counts-set (x ∷ y ∷ z ∷ u ∷ v ∷ []) h = absurd (omega arith)
+  counts-set (x ∷ y ∷ z ∷ u ∷ v ∷ w ∷ []) h = absurd (omega arith)
+  counts-set (x ∷ y ∷ z ∷ u ∷ v ∷ w ∷ q ∷ l) h = refl
 
 pub cell-set : (o : Float) (l : List Float) → 1 ≤ length l → set l 0 o ≡ over (o ∷ []) l
 cell-set o [] h = absurd (omega arith)
@@ -97,8 +101,8 @@ answer-part P Finished s =
     sym (told-part P (stateOf (s .ws) 0 (s .objective) (s .steps)) c) ∙ told-part P s c
 answer-part P Stop·Spent s = refl
 answer-part P Stop·Unbounded s = refl
-answer-part P Stop·NoRoom s = refl
 answer-part P Stop·NotFinite s = refl
+answer-part P Stop·Singular s = refl
 
 -- the values that stand in the sections are the workspace's
 pub values-whole : (n : ℕ) (kept : List ℕ) (w : Workspace) (l : List Float) {xs : List Float}
@@ -115,24 +119,33 @@ values-are P w l e status k f =
     f ∙ ap (λ (t : List Float). elim (eqb status 0) [ true ↦ t | false ↦ k ]) (written-values P w l over-values k refl)
 
 -- ---- the whole
+
+-- the cells of the counts
+abbrev countsOf : Problem → State → ℕ → List ℕ
+countsOf P s status =
+    mOf P ∷ s .etaCount ∷ etaUsed s ∷ s .steps ∷ status ∷ bit (s .factor .there) ∷ s .factor .times ∷ []
+
 module _ (P : Problem) (m : Memory) (v : Stop) (s : State) where
   closes : {a : Answer} {status : ℕ} {values : List Float}
       → a ≡ answerOf P (ended v s)
       → status ≡ numberOf a
       → values ≡ elim (eqb status 0) [ true ↦ over (valuesOf P (s .ws)) (m .values) | false ↦ m .values ]
       → solved a (memoryOf values (over (P .kept) (m .kept)) (s .ws)
-      (over (mOf P ∷ s .etaCount ∷ etaUsed s ∷ s .steps ∷ status ∷ []) (m .counts)) (over (s .objective ∷ []) (m .objective))) ≡ close P m (ended v s)
+      (over (countsOf P s status) (m .counts)) (over (s .objective ∷ []) (m .objective)) (s .factor .numbers)
+      (s .factor .coeffs)) ≡ close P m (ended v s)
   unfolding close memoryAfter valuesAfter
   closes e q f = rw (f, q) (ap (λ (x : Answer). solved x (memoryAfter P s x m)) e)
 
 -- three sections change, and nothing else of the arrays
-module _ (a : Answer) (v : List Float) (N M L : List ℕ) (D E : List Float) {f g : List ℕ → List ℕ} {h : List Float → List Float}
+module _ (a : Answer) (v : List Float) (N M L : List ℕ) (D E : List Float) (F : List ℕ) (G : List Float)
+    {f g : List ℕ → List ℕ} {h : List Float → List Float}
     (x : Changed keptAt maxRows f N M) (y : Changed countsAt countCells g M L) (z : Changed objectiveAt 1 h D E) where
   before : (b j : ℕ) → b + j ≤ keptAt → section b j L ≡ section b j N
   before b j l = y .before b j (omega arith) ∙ x .before b j l
 
-  stores : answered a v L E
-      ≡ handed (solved a (memoryOf v (f (section keptAt maxRows N)) (packed N D) (g (section countsAt countCells N)) (h (section objectiveAt 1 D)))) (pastOf N D)
+  stores : answered a v L E F G
+      ≡ handed (solved a (memoryOf v (f (section keptAt maxRows N)) (packed N D) (g (section countsAt countCells N))
+      (h (section objectiveAt 1 D)) F G)) (pastOf N D)
   stores =
       rw (
         before basicVarsAt maxRows (omega arith),
@@ -155,12 +168,13 @@ module _ (a : Answer) (v : List Float) (N M L : List ℕ) (D E : List Float) {f 
       )
 
 -- ---- `close`
-module _ (P : Problem) (why : Stop) (t : Tally) (v : List Float) (N : List ℕ) (D : List Float) (c : Closes P v N D t) where
+module _ (P : Problem) (why : Stop) (t : Tally) (v : List Float) (N : List ℕ) (D : List Float) (c : Closes P v N D t)
+    (F : List ℕ) (G : List Float) where
   abbrev m : Memory
-  m = memoryIn v N D
+  m = memoryIn v N D F G
 
   abbrev s : State
-  s = stateAt N D t
+  s = stateIn N D F G t
 
   used-is : getD N (etaStartsAt + t .«eta_count») 0 ≡ etaUsed s
   used-is = sym (section-at etaStartsAt (etaColumns + 1) N (t .«eta_count») 0 (omega (arith, c .used)))
@@ -171,19 +185,22 @@ module _ (P : Problem) (why : Stop) (t : Tally) (v : List Float) (N : List ℕ) 
       → values ≡ elim (eqb status 0) [ true ↦ over (valuesOf P (packed N D)) v | false ↦ v ]
       → kept ≡ over (P .kept) (section keptAt maxRows N)
       → length kept ≡ length (section keptAt maxRows N)
-      → counts ≡ over (mOf P ∷ t .«eta_count» ∷ getD N (etaStartsAt + t .«eta_count») 0 ∷ t .steps ∷ status ∷ []) (section countsAt countCells (putMid keptAt maxRows N kept))
+      → counts ≡ over (mOf P ∷ t .«eta_count» ∷ getD N (etaStartsAt + t .«eta_count») 0 ∷ t .steps ∷ status
+      ∷ bit (t .factored) ∷ t .factorings ∷ []) (section countsAt countCells (putMid keptAt maxRows N kept))
       → length counts ≡ length (section countsAt countCells (putMid keptAt maxRows N kept))
-      → answered a values (putMid countsAt countCells (putMid keptAt maxRows N kept) counts) (set D (objectiveAt + 0) (t .objective)) ≡ handed (close P m (ended why s)) (pastOf N D)
+      → answered a values (putMid countsAt countCells (putMid keptAt maxRows N kept) counts)
+      (set D (objectiveAt + 0) (t .objective)) F G ≡ handed (close P m (ended why s)) (pastOf N D)
   closes-in {a} {status} {values} kept counts e q f g g′ h h′ =
       let M = putMid keptAt maxRows N kept in
       let f1 : List ℕ → List ℕ = λ l. over (P .kept) l in
-      let f2 : List ℕ → List ℕ = λ l. over (mOf P ∷ t .«eta_count» ∷ etaUsed s ∷ t .steps ∷ status ∷ []) l in
+      let f2 : List ℕ → List ℕ = λ l. over (countsOf P s status) l in
       let x = lent keptAt maxRows N f1 kept (omega (arith, c .numbers-long)) g g′ in
       let y = lent countsAt countCells M f2 counts (omega (arith, c .numbers-long, x .long)) (rw used-is at h) h′ in
       let z = written objectiveAt 1 D 0 (t .objective) (omega arith) in
       let o : set (section objectiveAt 1 D) 0 (t .objective) ≡ over (t .objective ∷ []) (section objectiveAt 1 D) = cell-set (t .objective) (section objectiveAt 1 D) (omega (arith, section-length objectiveAt 1 D (c .doubles-long))) in
-      stores a values N M (putMid countsAt countCells M counts) D (set D (objectiveAt + 0) (t .objective)) x y z
-      ∙ ap (λ (l : List Float). handed (solved a (memoryOf values (f1 (m .kept)) (m .ws) (f2 (m .counts)) l)) (pastOf N D)) o
+      stores a values N M (putMid countsAt countCells M counts) D (set D (objectiveAt + 0) (t .objective)) F G x y z
+      ∙ ap (λ (l : List Float). handed (solved a (memoryOf values (f1 (m .kept)) (m .ws) (f2 (m .counts)) l F G))
+      (pastOf N D)) o
       ∙ ap (λ (r : Solved). handed r (pastOf N D)) (closes P m why s (e ∙ answer-part P why s) q f)
 
 -- ---- for the caller: `close` is lent a part of the problem
@@ -193,17 +210,19 @@ module _ (P : Problem) where
   answer-whole Finished s = ap (checkedAnswer s) (sym (final-part P (valuesOf P (s .ws))))
   answer-whole Stop·Spent s = refl
   answer-whole Stop·Unbounded s = refl
-  answer-whole Stop·NoRoom s = refl
   answer-whole Stop·NotFinite s = refl
+  answer-whole Stop·Singular s = refl
 
   pub close-whole : (m : Memory) (r : Ended) → close (checkedBy P) m r ≡ close P m r
   unfolding close memoryAfter valuesAfter valuesOf
   close-whole m r = ap (λ (a : Answer). solved a (memoryAfter P (r .state) a m)) (answer-whole (r .why) (r .state))
 
   -- and what it asks
-  pub fits-close : ProblemFits P → (v : List Float) (N : List ℕ) (D : List Float) (t : Tally) → Fits P (stateAt N D t)
-      → nOf P + mOf P ≤ length v → numbersEnd ≤ length N → doublesEnd ≤ length D → Closes (checkedBy P) v N D t
-  fits-close f v N D t g a b d =
+  pub fits-close : ProblemFits P
+      → (v : List Float) (N : List ℕ) (D : List Float) (F : List ℕ) (G : List Float) (t : Tally)
+      → Fits P (stateIn N D F G t) → nOf P + mOf P ≤ length v → numbersEnd ≤ length N → doublesEnd ≤ length D
+      → Closes (checkedBy P) v N D t
+  fits-close f v N D F G t g a b d =
       record {
         answers = record { valued = fits-valued P f (packed N D) (g .lengths) (g .maps); checkable = fits-checkable P f };
         used = g .store .columns-fit;

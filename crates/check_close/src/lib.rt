@@ -1,19 +1,21 @@
 // The end of a solve: the final check, the answer, and what is written of the lent arrays outside the workspace.
 ghost use mathlib.Core.Path.{_≡_};
 ghost use mathlib.Core.Bool.{true, false};
-ghost use mathlib.Core.List.{[], _∷_};
-ghost use Prim.Native.Nat.{_≤_};
+ghost use mathlib.Core.List.{List, [], _∷_};
+ghost use Prim.Native.Nat.{ℕ, _≤_};
 ghost use lib.Dec.{eqb};
 ghost use lib.ListN.{length};
+ghost use lib.Ieee.{Float};
 ghost use Rattle.doubles.specs.Limits.{vars, countCells};
 ghost use Rattle.doubles.specs.Loop.{table};
 ghost use Rattle.doubles.specs.Lists.{_!_, over};
+ghost use Rattle.rules.specs.Plan.{bit};
 ghost use Rattle.rules.specs.Parts.{stateOf};
 ghost use Rattle.rules.specs.FinalCheck.{valuesOf};
 ghost use Rattle.rules.specs.Step.{ended};
 ghost use Rattle.rules.specs.Answers.{numberOf};
 ghost use Rattle.rules.specs.Solve as Solve;
-ghost use Rattle.state.specs.Packed.{packed, stateAt, keptAt, objectiveAt};
+ghost use Rattle.state.specs.Packed.{packed, stateIn, keptAt, objectiveAt};
 ghost use Rattle.state.specs.Memory.{memoryIn, pastOf, handed, answered};
 ghost use Rattle.check_final.specs.Lent.{sizesOf, checkedOf};
 ghost use Rattle.check_close.specs.Lent.{counted, Answers, Closes};
@@ -43,14 +45,14 @@ pub fn number_of(a: rules::Answer) -> usize
             objective: _,
             steps: _,
         } => 21,
-        rules::Answer::NoRoom {
-            objective: _,
-            steps: _,
-        } => 22,
         rules::Answer::NotFinite {
             objective: _,
             steps: _,
         } => 23,
+        rules::Answer::Singular {
+            objective: _,
+            steps: _,
+        } => 25,
         rules::Answer::ValueRejected {
             objective: _,
             steps: _,
@@ -148,12 +150,13 @@ fn answer_of(
         ),
         rules::Stop::Spent => rules::Answer::Spent { objective, steps },
         rules::Stop::Unbounded => rules::Answer::Unbounded { objective, steps },
-        rules::Stop::NoRoom => rules::Answer::NoRoom { objective, steps },
         rules::Stop::NotFinite => rules::Answer::NotFinite { objective, steps },
+        rules::Stop::Singular => rules::Answer::Singular { objective, steps },
     }
 }
 
-// 01: "Status 0 is Optimal and writes values, slacks last. 20 to 24 leave the values array alone".
+// 01: "Status 0 is Optimal and writes values, slacks last. 20 to 24 leave the values array alone", and so does
+// 25.
 fn values_after(status: usize, count: usize, xs: &[f64; doubles::VARS], values: &mut [f64])
     requires { ⌜ (count ≤ vars) × (count ≤ length (now values)) ⌝ }
     ensures { λ _. ⌜ now (values .exit) ≡ elim (eqb status 0)
@@ -177,27 +180,43 @@ fn write_kept(kept: &[usize], to: &mut [usize])
     }
 }
 
-// Kept rows, eta columns, eta entries, steps and status, so that a later call can go on from the workspace.
+fn bit_of(b: bool) -> usize
+    ensures { λ r. ⌜ r ≡ bit b ⌝ }
+{
+    if b {
+        return 1;
+    }
+    0
+}
+
+// Kept rows, eta columns, eta entries, steps, status, whether there is a factor, and factorings, so that a later call
+// can go on from the workspace.
 fn write_counts(
     rows: usize,
     eta_columns: usize,
     eta_entries: usize,
     steps: usize,
     status: usize,
+    factored: bool,
+    factorings: usize,
     counts: &mut [usize],
 )
     requires { ⌜ countCells ≤ length (now counts) ⌝ }
-    ensures { λ _. ⌜ now (counts .exit) ≡ over (rows ∷ «eta_columns» ∷ «eta_entries» ∷ steps ∷ status ∷ [])
-        (now (counts .entry)) ⌝ }
+    ensures { λ _. ⌜ now (counts .exit) ≡ over (rows ∷ «eta_columns» ∷ «eta_entries» ∷ steps ∷ status ∷ bit factored ∷
+        factorings ∷ []) (now (counts .entry)) ⌝ }
 {
+    let there = bit_of(factored);
     counts[0] = rows;
     counts[1] = eta_columns;
     counts[2] = eta_entries;
     counts[3] = steps;
     counts[4] = status;
+    counts[5] = there;
+    counts[6] = factorings;
 }
 
-// The end of a solve. The values stay in scratch until the final check has passed.
+// The end of a solve. The values stay in scratch until the final check has passed. The factor's arrays F and G aren't
+// lent: they are what the run left.
 pub fn close(
     n: usize,
     tolerance: f64,
@@ -217,12 +236,13 @@ pub fn close(
 ) -> rules::Answer
     requires { ⌜ Closes (checkedOf n tolerance (now lowers) (now uppers) (now starts) (now cols) (now coeffs) (now ops)
         (now rhs) (now kept)) (now values) (now numbers) (now doubles) at ⌝ }
-    ensures { λ r. ⌜ answered r (now (values .exit)) (now (numbers .exit)) (now (doubles .exit)) ≡ handed
+    ensures { λ r. ⌜ ((F : List ℕ) (G : List Float) → answered r (now (values .exit)) (now (numbers .exit))
+        (now (doubles .exit)) F G ≡ handed
         (Solve.close (checkedOf n tolerance (now (lowers .entry)) (now (uppers .entry)) (now (starts .entry))
         (now (cols .entry)) (now (coeffs .entry)) (now (ops .entry)) (now (rhs .entry)) (now (kept .entry)))
-        (memoryIn (now (values .entry)) (now (numbers .entry)) (now (doubles .entry)))
-        (ended why (stateAt (now (numbers .entry)) (now (doubles .entry)) at)))
-        (pastOf (now (numbers .entry)) (now (doubles .entry))) ⌝ }
+        (memoryIn (now (values .entry)) (now (numbers .entry)) (now (doubles .entry)) F G)
+        (ended why (stateIn (now (numbers .entry)) (now (doubles .entry)) F G at)))
+        (pastOf (now (numbers .entry)) (now (doubles .entry)))) ⌝ }
 {
     let used = numbers[state::ETA_STARTS + at.eta_count];
     let mut xs = [0.0; doubles::VARS];
@@ -253,6 +273,8 @@ pub fn close(
         used,
         at.steps,
         status,
+        at.factored,
+        at.factorings,
         &mut numbers[state::COUNTS..state::COUNTS_END],
     );
     doubles[state::OBJECTIVE] = at.objective;

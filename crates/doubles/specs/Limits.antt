@@ -34,9 +34,9 @@ places = 128
 abbrev pub vars : ℕ
 vars = maxColumns + maxRows
 
--- the workspace's own numbers: kept rows, eta columns, eta entries, steps, status
+-- the workspace's own numbers: kept rows, eta columns, eta entries, steps, status, whether there is a factor, factorings
 abbrev pub countCells : ℕ
-countCells = 5
+countCells = 7
 
 -- the audit sheet. 01: "coefficients in size up to 4,096, costs 2^20, right sides 2^31, finite bounds and amounts 2^16, multipliers Y (in 1/1024) 2^20"
 abbrev pub maxCoefficient : ℕ

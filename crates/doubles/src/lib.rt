@@ -29,7 +29,7 @@ pub const PLACES: usize = 128;
 // The columns and the slacks.
 pub const VARS: usize = MAX_COLUMNS + MAX_ROWS;
 
-pub const COUNT_CELLS: usize = 5;
+pub const COUNT_CELLS: usize = 7;
 
 // The audit sheet's, in size.
 pub const MAX_COEFFICIENT: u64 = 4096;

@@ -46,8 +46,8 @@ pub record Faced : Type 0 where
   pub memory : Memory
   pub past : Past
 
-abbrev pub faced : TevalumiAnswer → List Float → List ℕ → List Float → Faced
-faced n v N D = record { numbers = n; memory = memoryIn v N D; past = pastOf N D }
+abbrev pub faced : TevalumiAnswer → List Float → List ℕ → List Float → List ℕ → List Float → Faced
+faced n v N D F G = record { numbers = n; memory = memoryIn v N D F G; past = pastOf N D }
 
 abbrev pub facedBy : Handed → Faced
 facedBy h = record { numbers = answerNumbers (h .solved .answer); memory = h .solved .memory; past = h .past }

@@ -126,8 +126,8 @@ pub fn solve_answer(a: rules::Answer) -> TevalumiAnswer
         rules::Answer::SlackOutside => answer(7, 0.0, 0, 0, 0, 0, 0.0),
         rules::Answer::Unbounded { objective, steps } => answer(20, objective, steps, 0, 0, 0, 0.0),
         rules::Answer::Spent { objective, steps } => answer(21, objective, steps, 0, 0, 0, 0.0),
-        rules::Answer::NoRoom { objective, steps } => answer(22, objective, steps, 0, 0, 0, 0.0),
         rules::Answer::NotFinite { objective, steps } => answer(23, objective, steps, 0, 0, 0, 0.0),
+        rules::Answer::Singular { objective, steps } => answer(25, objective, steps, 0, 0, 0, 0.0),
         rules::Answer::ValueRejected {
             objective,
             steps,

@@ -18,7 +18,7 @@ use Rattle.doubles.proofs.Bools.{by-test, never, last?}
 use Rattle.doubles.proofs.Loops.{keeps}
 use Rattle.sparse.specs.Scattered.{Pat, pat, touched, touchedBy}
 use Rattle.sparse.proofs.Laws.{no-both}
-use Rattle.lu_walk.specs.Walk.{fresh, reached}
+use Rattle.lu_walk.specs.Walk.{graphOf, fresh, reached}
 use Rattle.lu_walk.specs.Order.{finished, among, Reach, here}
 use Rattle.lu_walk.proofs.Laws.{fits-reached, fits-fresh}
 use Rattle.lu_walk.proofs.Walked.{among-at, among-where}
@@ -159,7 +159,7 @@ sparse-listing t e l n v z = at-zero (sparse1 t e l n v) (sparse2 t e l n v) (sp
         let s : Places (t .shape .size) (w .count) (w .done) = places-reached (k .columns) (d .listed) refl in
         let o = walk-order (t .shape) l n (k .columns) (d .listed) in
         let m = given-marks l n (record { inside = λ j g. omega (arith, d .listed .places j g, small) }) in
-        let R : ℕ → Type 0 = λ q. (j : ℕ) × (j < n) × Reach (t .shape) (l # j) q in
+        let R : ℕ → Type 0 = λ q. (j : ℕ) × (j < n) × Reach (graphOf (t .shape)) (l # j) q in
         let base : Grown (t .shape .size) l n R (w .done) 0 (pat (given l n) l n) =
         record {
           grows = grows-given small d;

@@ -13,8 +13,8 @@ use lib.Ieee.{Float, nan}
 use Rattle.doubles.specs.Num.{f0}
 use Rattle.doubles.specs.Lists.{_!_, _#_}
 use Rattle.doubles.proofs.Loops.{keeps, keeps-down}
-use Rattle.lu_walk.specs.Walk.{State, many, kid, fresh, reached}
-use Rattle.lu_walk.specs.Order.{Reach, here, Has, Ordered}
+use Rattle.lu_walk.specs.Walk.{State, many, kid, graphOf, fresh, reached}
+use Rattle.lu_walk.specs.Order.{stored, Reach, here, Has, Ordered}
 use Rattle.lu_walk.proofs.Order.{walk-order}
 use Rattle.lu_solve.specs.Solve.{Tri, ownOf, offTurn, processCol, given, heldBy, zeroTurn, zeroed, backTurn, processed, sparse}
 use Rattle.lu_solve.proofs.Laws.{given-marks, unnamed}
@@ -33,7 +33,7 @@ process-other t i c y u h g e =
     (λ j w l a. other w (kid (t .shape) c j) i _ y (g j l) a) (other u c i _ y h e) (many (t .shape) c) (le-refl (many (t .shape) c))
 
 -- none of the finished places is i: neither is a child of one
-module _ (t : Tri) (l : List ℕ) (n : ℕ) (o : Ordered (t .shape) l n (reached (t .shape) l n fresh)) (i : ℕ) (no : Has (reached (t .shape) l n fresh) i → ⊥) where
+module _ (t : Tri) (l : List ℕ) (n : ℕ) (o : Ordered (graphOf (t .shape)) (stored (t .shape)) l n (reached (t .shape) l n fresh)) (i : ℕ) (no : Has (reached (t .shape) l n fresh) i → ⊥) where
   abbrev w : State
   w = reached (t .shape) l n fresh
 
@@ -77,7 +77,7 @@ zeroed-at g n v i h l =
 -- ---- the theorem
 
 pub unvisited-zero : (t : Tri) (e : ℕ) (l : List ℕ) (n : ℕ) (v : List Float) (i : ℕ) → triSolveSparse t e l n v .number ≡ 0 → i < t .shape .size
-    → ((j : ℕ) → j < n → Reach (t .shape) (l # j) i → ⊥) → triSolveSparse t e l n v .values ! i ≡ f0
+    → ((j : ℕ) → j < n → Reach (graphOf (t .shape)) (l # j) i → ⊥) → triSolveSparse t e l n v .values ! i ≡ f0
 unfolding triSolveSparse sparse
 unvisited-zero t e l n v i q h far =
     at-zero (sparse1 t e l n v) (sparse2 t e l n v) (sparse3 t l n) v l (sparse t l n v) (λ r. r .values ! i ≡ f0) q solved

@@ -1,26 +1,33 @@
--- What the walk's order means. 01: "columns are walked from each listed place. The walk finishes every child of a place before the place itself; children come
--- in stored order, visited places once". `walk-order`, at the end, says so of the finished places (specs/Order.antt), and that they are exactly what can be
--- reached from the listed ones. Assumes nothing.
+-- What the walk's order means. 01: "columns are walked from each listed place. The walk finishes every child of a place
+-- before the place itself; children come in stored order, visited places once". `walk-order`, at the end, says so of
+-- the finished places (specs/Order.antt), and that they are exactly what can be reached from the listed ones. Assumes
+-- nothing.
 use mathlib.Core.Path.{_≡_, refl, sym, ap, _∙_, subst}
 use mathlib.Core.List.{List, [], _∷_, _++_}
 use mathlib.Core.Bool.{Bool, true, false}
 use mathlib.Core.Logic.{_⊎_, inl, inr, ⊎-elim}
-use Prim.Native.Nat.{ℕ, zero, suc, _+_, _<_, _≤_}
+use Prim.Native.Nat.{ℕ, zero, suc, _+_, _-_, _<_, _≤_}
 use native.Mathlib.Nat.{le-refl}
 use native.Mathlib.Numerals.{add-one}
 use native.Mathlib.Omega.{arith}
-use lib.ListN.{length, getD, set, take, drop, length-set, length-take, length-drop, replicate, length-replicate}
-use lib.Seq.{getD-set-same, getD-set-other, getD-take, getD-drop, length-take-le, take-suc, take-suc-set, take-take}
+use lib.ListN.{length, getD, set, take, drop, length-set, length-take, length-drop, length-append, List·getD-append}
+use lib.ListN.{replicate, length-replicate}
+use borrow.Author.Tests.{ltb-true}
+use lib.Seq.{getD-set-same, getD-set-other, getD-take, getD-drop, length-take-le, take-all, take-suc, take-suc-set}
+use lib.Seq.{getD-append-seam}
 use Rattle.doubles.specs.Limits.{maxRows}
 use Rattle.doubles.specs.Loop.{run}
-use Rattle.doubles.specs.Lists.{_#_}
+use Rattle.doubles.specs.Lists.{_#_, part}
 use Rattle.doubles.proofs.Bools.{by-test, truth, same?, last?}
-use Rattle.doubles.proofs.Loops.{keeps}
+use Rattle.doubles.proofs.Loops.{run-same, keeps}
 use Rattle.sparse.specs.Scattered.{trues}
 use Rattle.sparse.proofs.Laws.{trues-set, trues-le, falses, none-set, no-both}
-use Rattle.lu_walk.specs.Walk.{Shape, State, fresh, many, kid, mark, finish, walk, reached, left, Columns, Listed}
-use Rattle.lu_walk.specs.Order.{stored, finished, among, Walked, stop, again, first, Reach, here, down, Has, Ordered}
-use Rattle.lu_walk.proofs.Laws.{left-pos, left-le, walk-old}
+use Rattle.lu_walk.specs.Walk.{Graph, Shape, Mapped, State, fresh, manyBy, manyIn, passes, graphOf, graphIn, mark}
+use Rattle.lu_walk.specs.Walk.{finish, unless, walk, walkOf, listTurn, enterTurn, reached, reachedIn, Falling}
+use Rattle.lu_walk.specs.Walk.{Columns, MapColumns, ListedIn, Listed}
+use Rattle.lu_walk.specs.Order.{stored, storedBy, storedIn, enteringBy, entering, finished, among, Walked, stop}
+use Rattle.lu_walk.specs.Order.{again, first, Reach, here, down, Has, Ordered}
+use Rattle.lu_walk.proofs.Laws.{falling-columns, walk-old}
 use Rattle.lu_walk.proofs.Walked.{walked-same, walked-then, turned, among-at, among-where}
 
 -- what was finished stays where it was, and what was marked stays marked
@@ -45,9 +52,10 @@ has-kept k h = record { at = h .at; below = omega (arith, k .grows, h .below); i
 
 mark-stays : (m : List Bool) (p q : ℕ) → p < length m → getD m q false ≡ true → getD (set m p true) q false ≡ true
 mark-stays m p q lt h =
-    ⊎-elim (λ e. ap (λ (x : ℕ). getD (set m p true) x false) e ∙ getD-set-same m p true false lt) (λ f. getD-set-other m p q true false f ∙ h) (same? q p)
+    ⊎-elim (λ e. ap (λ (x : ℕ). getD (set m p true) x false) e ∙ getD-set-same m p true false lt)
+    (λ f. getD-set-other m p q true false f ∙ h) (same? q p)
 
-module _ (t : Shape) where
+module _ (G : Graph) (kids : ℕ → List ℕ) where
   -- s in the midst of a walk: e places, those of U, are marked and not finished
   record Inv (e : ℕ) (U : ℕ → Type 0) (s : State) : Type 0 where
     long : length (s .marks) ≡ maxRows
@@ -57,7 +65,8 @@ module _ (t : Shape) where
     either : (q : ℕ) → getD (s .marks) q false ≡ true → Has s q ⊎ U q
     apart : (q : ℕ) → U q → Has s q → ⊥
     once : (i j : ℕ) → i < s .count → j < s .count → s .done # i ≡ s .done # j → i ≡ j
-    order : (i j : ℕ) → i < s .count → j < many t (s .done # i) → (b : ℕ) × (b < i) × (s .done # b ≡ kid t (s .done # i) j)
+    order : (i j : ℕ) → i < s .count → j < G .many (s .done # i)
+        → (b : ℕ) × (b < i) × (s .done # b ≡ G .kid (s .done # i) j)
 
   within : {e : ℕ} {U : ℕ → Type 0} {s : State} → Inv e U s → s .count ≤ length (s .done)
   within {e} {U} {s} v = omega (arith, v .counted, trues-le (s .marks), v .long, v .room)
@@ -79,9 +88,11 @@ module _ (t : Shape) where
   With U p q = U q ⊎ (q ≡ p)
 
   unmarked : {e : ℕ} {U : ℕ → Type 0} {s : State} {p : ℕ} → Inv e U s → getD (s .marks) p false ≡ false → Has s p → ⊥
-  unmarked {e} {U} {s} {p} v new h = no-both (getD (s .marks) p false) (ap (λ (q : ℕ). getD (s .marks) q false) (sym (h .is)) ∙ v .marked (h .at) (h .below)) new
+  unmarked {e} {U} {s} {p} v new h = no-both (getD (s .marks) p false)
+      (ap (λ (q : ℕ). getD (s .marks) q false) (sym (h .is)) ∙ v .marked (h .at) (h .below)) new
 
-  mark-inv : {e : ℕ} {U : ℕ → Type 0} {s : State} (p : ℕ) → Inv e U s → p < maxRows → getD (s .marks) p false ≡ false → Inv (suc e) (With U p) (mark p s)
+  mark-inv : {e : ℕ} {U : ℕ → Type 0} {s : State} (p : ℕ) → Inv e U s → p < maxRows → getD (s .marks) p false ≡ false
+      → Inv (suc e) (With U p) (mark p s)
   mark-inv {e} {U} {s} p v lt new =
       let inside : p < length (s .marks) = omega (arith, v .long) in
       record {
@@ -91,7 +102,8 @@ module _ (t : Shape) where
         marked = λ i h. mark-stays (s .marks) p (s .done # i) inside (v .marked i h);
         either = λ q h. ⊎-elim
             (λ w. inr (inr w))
-            (λ w. ⊎-elim (λ g. inl (record { at = g .at; below = g .below; is = g .is })) (λ u. inr (inl u)) (v .either q (sym (getD-set-other (s .marks) p q true false w) ∙ h)))
+            (λ w. ⊎-elim (λ g. inl (record { at = g .at; below = g .below; is = g .is })) (λ u. inr (inl u))
+            (v .either q (sym (getD-set-other (s .marks) p q true false w) ∙ h)))
             (same? q p);
         apart = λ q u h.
             let g : Has s q = record { at = h .at; below = h .below; is = h .is } in
@@ -101,8 +113,9 @@ module _ (t : Shape) where
       }
 
   -- p, the last of the open places, is finished, where all its children are
-  module _ {e : ℕ} {U : ℕ → Type 0} {s : State} (p : ℕ) (v : Inv (suc e) (With U p) s) (open-p : getD (s .marks) p false ≡ true) (not-U : U p → ⊥)
-      (kids : (j : ℕ) → j < many t p → Has s (kid t p j)) where
+  module _ {e : ℕ} {U : ℕ → Type 0} {s : State} (p : ℕ) (v : Inv (suc e) (With U p) s)
+      (open-p : getD (s .marks) p false ≡ true) (not-U : U p → ⊥)
+      (all-kids : (j : ℕ) → j < G .many p → Has s (G .kid p j)) where
     free : s .count < length (s .done)
     free = omega (arith, v .counted, trues-le (s .marks), v .long, v .room)
 
@@ -130,9 +143,11 @@ module _ (t : Shape) where
           counted = omega (arith, v .counted);
           marked = λ i h. ⊎-elim
               (λ lt. ap (λ (x : ℕ). getD (s .marks) x false) (there i lt) ∙ v .marked i lt)
-              (λ e. ap (λ (x : ℕ). getD (s .marks) (set (s .done) (s .count) p # x) false) e ∙ ap (λ (x : ℕ). getD (s .marks) x false) at-end ∙ open-p)
+              (λ e. ap (λ (x : ℕ). getD (s .marks) (set (s .done) (s .count) p # x) false) e ∙ ap
+              (λ (x : ℕ). getD (s .marks) x false) at-end ∙ open-p)
               (last? i (s .count) h);
-          either = λ q h. ⊎-elim (λ g. inl (has-kept finish-kept g)) (λ u. ⊎-elim (λ w. inr w) (λ w. inl (rw w finish-has)) u) (v .either q h);
+          either = λ q h. ⊎-elim (λ g. inl (has-kept finish-kept g))
+              (λ u. ⊎-elim (λ w. inr w) (λ w. inl (rw w finish-has)) u) (v .either q h);
           apart = λ q u g. ⊎-elim
               (λ lt. v .apart q (inl u) (record { at = g .at; below = lt; is = sym (there (g .at) lt) ∙ g .is }))
               (λ e. not-U (rw (sym (g .is) ∙ ap (λ (x : ℕ). set (s .done) (s .count) p # x) e ∙ at-end) at u))
@@ -141,36 +156,45 @@ module _ (t : Shape) where
           order = λ i j h g. order-of i j (last? i (s .count) h) g;
         }
       where
-        once-of : (i j : ℕ) → (i < s .count) ⊎ (i ≡ s .count) → (j < s .count) ⊎ (j ≡ s .count) → finish p s .done # i ≡ finish p s .done # j → i ≡ j
+        once-of : (i j : ℕ) → (i < s .count) ⊎ (i ≡ s .count) → (j < s .count) ⊎ (j ≡ s .count)
+            → finish p s .done # i ≡ finish p s .done # j → i ≡ j
         once-of i j (inl a) (inl b) e = v .once i j a b (sym (there i a) ∙ e ∙ there j b)
-        once-of i j (inl a) (inr b) e = absurd (not-yet i a (sym (there i a) ∙ e ∙ ap (λ (x : ℕ). set (s .done) (s .count) p # x) b ∙ at-end))
-        once-of i j (inr a) (inl b) e = absurd (not-yet j b (sym (there j b) ∙ sym e ∙ ap (λ (x : ℕ). set (s .done) (s .count) p # x) a ∙ at-end))
+        once-of i j (inl a) (inr b) e = absurd (not-yet i a (sym (there i a) ∙ e ∙ ap
+            (λ (x : ℕ). set (s .done) (s .count) p # x) b ∙ at-end))
+        once-of i j (inr a) (inl b) e = absurd (not-yet j b (sym (there j b) ∙ sym e ∙ ap
+            (λ (x : ℕ). set (s .done) (s .count) p # x) a ∙ at-end))
         once-of i j (inr a) (inr b) e = a ∙ sym b
 
-        order-of : (i j : ℕ) → (i < s .count) ⊎ (i ≡ s .count) → j < many t (finish p s .done # i) → (b : ℕ) × (b < i) × (finish p s .done # b ≡ kid t (finish p s .done # i) j)
+        order-of : (i j : ℕ) → (i < s .count) ⊎ (i ≡ s .count) → j < G .many (finish p s .done # i)
+            → (b : ℕ) × (b < i) × (finish p s .done # b ≡ G .kid (finish p s .done # i) j)
         order-of i j (inl a) g =
-            let o = v .order i j a (subst (λ (x : ℕ). j < many t x) (there i a) g) in
-            (o .0, o .1, there (o .0) (omega (arith, o .1, a)) ∙ o .2 ∙ ap (λ (x : ℕ). kid t x j) (sym (there i a)))
+            let o = v .order i j a (subst (λ (x : ℕ). j < G .many x) (there i a) g) in
+            (o .0, o .1, there (o .0) (omega (arith, o .1, a)) ∙ o .2 ∙ ap (λ (x : ℕ). G .kid x j) (sym (there i a)))
         order-of i j (inr a) g =
             let at-p : finish p s .done # i ≡ p = ap (λ (x : ℕ). set (s .done) (s .count) p # x) a ∙ at-end in
-            let k = kids j (subst (λ (x : ℕ). j < many t x) at-p g) in
-            (k .at, omega (arith, k .below, a), there (k .at) (k .below) ∙ k .is ∙ ap (λ (x : ℕ). kid t x j) (sym at-p))
+            let k = all-kids j (subst (λ (x : ℕ). j < G .many x) at-p g) in (
+              k .at,
+              omega (arith, k .below, a),
+              there (k .at) (k .below) ∙ k .is ∙ ap (λ (x : ℕ). G .kid x j)
+                  (sym at-p),
+            )
 
   -- what a walk of p from s to u does, in the midst of the open places of U
   record Done (e : ℕ) (U : ℕ → Type 0) (p : ℕ) (s u : State) : Type 0 where
     inv : Inv e U u
     kept : Kept s u
     has : Has u p
-    reach : (q : ℕ) → getD (u .marks) q false ≡ true → (getD (s .marks) q false ≡ true) ⊎ Reach t p q
-    walked : Walked (stored t) (finished s) (p ∷ []) (finished u)
+    reach : (q : ℕ) → getD (u .marks) q false ≡ true → (getD (s .marks) q false ≡ true) ⊎ Reach G p q
+    walked : Walked kids (finished s) (p ∷ []) (finished u)
 
   -- every open place lies above p
   abbrev Above : (ℕ → Type 0) → ℕ → Type 0
-  Above U p = (q : ℕ) → U q → left t p < left t q
+  Above U p = (q : ℕ) → U q → G .left p < G .left q
 
   -- f walks the places that are less than d deep
   abbrev Walks : (ℕ → State → State) → ℕ → Type 1
-  Walks f d = (e : ℕ) (U : ℕ → Type 0) (p : ℕ) (s : State) → Inv e U s → p < t .size → Above U p → left t p < d → Done e U p s (f p s)
+  Walks f d = (e : ℕ) (U : ℕ → Type 0) (p : ℕ) (s : State) → Inv e U s → p < G .size → Above U p → G .left p < d
+      → Done e U p s (f p s)
 
   -- the places g, which stand in ps
   record Named (g : ℕ → ℕ) (ps : List ℕ) (n : ℕ) : Type 0 where
@@ -182,11 +206,13 @@ module _ (t : Shape) where
     inv : Inv e U u
     kept : Kept s u
     has : (j : ℕ) → j < m → Has u (g j)
-    reach : (q : ℕ) → getD (u .marks) q false ≡ true → (getD (s .marks) q false ≡ true) ⊎ ((j : ℕ) × (j < m) × Reach t (g j) q)
-    walked : Walked (stored t) (finished s) (take m ps) (finished u)
+    reach : (q : ℕ) → getD (u .marks) q false ≡ true
+        → (getD (s .marks) q false ≡ true) ⊎ ((j : ℕ) × (j < m) × Reach G (g j) q)
+    walked : Walked kids (finished s) (take m ps) (finished u)
 
   -- one more of them
-  all-turn : (f : ℕ → State → State) (e : ℕ) (U : ℕ → Type 0) (g : ℕ → ℕ) (ps : List ℕ) (s : State) (m : ℕ) (u : State) → m < length ps → ps # m ≡ g m
+  all-turn : (f : ℕ → State → State) (e : ℕ) (U : ℕ → Type 0) (g : ℕ → ℕ) (ps : List ℕ) (s : State) (m : ℕ) (u : State)
+      → m < length ps → ps # m ≡ g m
       → All e U g ps s m u → Done e U (g m) u (f (g m) u) → All e U g ps s (m + 1) (f (g m) u)
   all-turn f e U g ps s m u h i a d =
       record {
@@ -200,30 +226,32 @@ module _ (t : Shape) where
         walked = rw (add-one, take-suc ps m 0, i) (walked-then (a .walked) (d .walked));
       }
 
-  run-walks : (f : ℕ → State → State) (d : ℕ) → Walks f d → (e : ℕ) (U : ℕ → Type 0) (g : ℕ → ℕ) (ps : List ℕ) (n : ℕ) → Named g ps n → (s : State) → Inv e U s
-      → ((j : ℕ) → j < n → g j < t .size) → ((j : ℕ) → j < n → Above U (g j)) → ((j : ℕ) → j < n → left t (g j) < d) → All e U g ps s n (run (λ i. f (g i)) n s)
+  run-walks : (f : ℕ → State → State) (d : ℕ) → Walks f d → (e : ℕ) (U : ℕ → Type 0) (g : ℕ → ℕ) (ps : List ℕ) (n : ℕ)
+      → Named g ps n → (s : State) → Inv e U s
+      → ((j : ℕ) → j < n → g j < G .size) → ((j : ℕ) → j < n → Above U (g j)) → ((j : ℕ) → j < n → G .left (g j) < d)
+      → All e U g ps s n (run (λ i. f (g i)) n s)
   run-walks f d w e U g ps n z s v inside above small =
       keeps (λ i. f (g i)) s (All e U g ps s) n
-      (λ j u h a. all-turn f e U g ps s j u (omega (arith, z .long)) (z .names j h) a (w e U (g j) u (a .inv) (inside j h) (above j h) (small j h)))
-      (record { inv = v; kept = kept-refl s; has = λ j h. absurd (omega arith); reach = λ q h. inl h; walked = stop }) n (le-refl n)
+      (λ j u h a. all-turn f e U g ps s j u (omega (arith, z .long)) (z .names j h) a
+      (w e U (g j) u (a .inv) (inside j h) (above j h) (small j h)))
+      (record { inv = v; kept = kept-refl s; has = λ j h. absurd (omega arith); reach = λ q h. inl h; walked = stop }) n
+      (le-refl n)
 
-  module _ (c : Columns t) where
-    -- the children of p stand in stored order
-    children : (p : ℕ) → p < t .size → Named (kid t p) (stored t p) (many t p)
-    children p h =
-        record {
-          long = simp (length-take, length-drop) (omega (arith, c .rise p h, c .ends p h));
-          names = λ j l. getD-take (many t p) (drop (t .starts # p) (t .rows)) j 0 l ∙ getD-drop (t .starts # p) (t .rows) j 0;
-        }
+  -- the children of p stand in stored order
+  pub record Stand (p : ℕ) : Type 0 where
+    pub long : length (kids p) ≡ G .many p
+    pub names : (j : ℕ) → j < G .many p → kids p # j ≡ G .kid p j
 
+  module _ (c : Falling G) (stand : (p : ℕ) → p < G .size → Stand p) where
     -- one place: where a walk k deep is known of the places below it
-    module _ (k : ℕ) (ih : Walks (walk k t) (suc k)) (e : ℕ) (U : ℕ → Type 0) (p : ℕ) (s : State) (v : Inv e U s) (lt : p < t .size) (above : Above U p)
-        (small : left t p < suc (suc k)) where
+    module _ (k : ℕ) (ih : Walks (walk k G) k) (e : ℕ) (U : ℕ
+        → Type 0) (p : ℕ) (s : State) (v : Inv e U s) (lt : p < G .size) (above : Above U p)
+        (small : G .left p < suc k) where
       done-before : getD (s .marks) p false ≡ true → Has s p
       done-before m = ⊎-elim (λ h. h) (λ u. absurd (omega (arith, above p u))) (v .either p m)
 
-      old : getD (s .marks) p false ≡ true → Done e U p s (walk (suc k) t p s)
-      old m = rw (walk-old (suc k) t p s m) (record {
+      old : getD (s .marks) p false ≡ true → Done e U p s (walk (suc k) G p s)
+      old m = rw (walk-old (suc k) G p s m) (record {
         inv = v;
         kept = kept-refl s;
         has = done-before m;
@@ -241,11 +269,13 @@ module _ (t : Shape) where
       not-U u = omega (arith, above p u)
 
       abbrev end : State
-      end = run (λ i. walk k t (kid t p i)) (many t p) (mark p s)
+      end = run (λ i. walk k G (G .kid p i)) (G .many p) (mark p s)
 
       module _ (m : getD (s .marks) p false ≡ false) where
-        all : All (suc e) (With U p) (kid t p) (stored t p) (mark p s) (many t p) end
-        all = run-walks (walk k t) (suc k) ih (suc e) (With U p) (kid t p) (stored t p) (many t p) (children p lt) (mark p s) (mark-inv p v (omega (arith, lt, c .small)) m)
+        all : All (suc e) (With U p) (G .kid p) (kids p) (mark p s) (G .many p) end
+        all = run-walks (walk k G) k ih (suc e) (With U p) (G .kid p) (kids p) (G .many p)
+            (record { long = omega (arith, stand p lt .long); names = stand p lt .names }) (mark p s)
+            (mark-inv p v (omega (arith, lt, c .small)) m)
             (λ j h. c .inside p j lt h)
             (λ j h q u. ⊎-elim (λ w. omega (arith, c .falls p j lt h, above q w)) (λ w. rw w (c .falls p j lt h)) u)
             (λ j h. omega (arith, c .falls p j lt h, small))
@@ -253,17 +283,19 @@ module _ (t : Shape) where
         still : getD (end .marks) p false ≡ true
         still = all .kept .stays p (getD-set-same (s .marks) p true false inside)
 
-        found : (q : ℕ) → getD (end .marks) q false ≡ true → (getD (s .marks) q false ≡ true) ⊎ Reach t p q
+        found : (q : ℕ) → getD (end .marks) q false ≡ true → (getD (s .marks) q false ≡ true) ⊎ Reach G p q
         found q h = ⊎-elim
-            (λ w. ⊎-elim (λ x. inr (rw x here)) (λ x. inl (sym (getD-set-other (s .marks) p q true false x) ∙ w)) (same? q p))
+            (λ w. ⊎-elim (λ x. inr (rw x here)) (λ x. inl (sym (getD-set-other (s .marks) p q true false x) ∙ w))
+            (same? q p))
             (λ w. inr (down (w .0) (w .1) (w .2)))
             (all .reach q h)
 
-        walked-kids : Walked (stored t) (finished s) (stored t p) (finished end)
-        walked-kids = rw (take-take (many t p) (many t p) (drop (t .starts # p) (t .rows)) (le-refl (many t p))) at (all .walked)
+        walked-kids : Walked kids (finished s) (kids p) (finished end)
+        walked-kids = rw (take-all (G .many p) (kids p) (omega (arith, stand p lt .long))) at (all .walked)
 
         behind : finished (finish p end) ≡ finished end ++ (p ∷ [])
-        behind = rw (add-one (end .count)) (take-suc-set (end .done) (end .count) p (free p (all .inv) still not-U (all .has)))
+        behind = rw (add-one (end .count)) (take-suc-set (end .done) (end .count) p
+            (free p (all .inv) still not-U (all .has)))
 
         unseen : among p (finished s) ≡ false
         unseen = by-test (among p (finished s)) (λ h. absurd (unmarked v m (among-has v h))) (λ h. h)
@@ -277,18 +309,18 @@ module _ (t : Shape) where
           walked = rw behind (first unseen walked-kids stop);
         }
 
-        unfolded : walk (suc k) t p s ≡ finish p end
+        unfolded : walk (suc k) G p s ≡ finish p end
         unfolding walk
         unfolded = rw m refl
 
-        new : Done e U p s (walk (suc k) t p s)
+        new : Done e U p s (walk (suc k) G p s)
         new = subst (Done e U p s) (sym unfolded) fresh-done
 
-      step : Done e U p s (walk (suc k) t p s)
+      step : Done e U p s (walk (suc k) G p s)
       step = ⊎-elim old new (truth (getD (s .marks) p false))
 
-    walk-walks : (k : ℕ) → Walks (walk k t) (suc k)
-    walk-walks zero e U p s v lt above small = absurd (omega (arith, left-pos t p lt))
+    walk-walks : (k : ℕ) → Walks (walk k G) k
+    walk-walks zero e U p s v lt above small = absurd (omega arith)
     walk-walks (suc k) e U p s v lt above small = step k (walk-walks k) e U p s v lt above small
 
     -- nothing is marked and nothing finished: where a walk begins
@@ -310,39 +342,136 @@ module _ (t : Shape) where
       order = λ i j h g. absurd (omega arith);
     }
 
-    all-listed : (l : List ℕ) (n : ℕ) → Listed t l n → All 0 None (λ i. l # i) l fresh n (reached t l n fresh)
-    unfolding reached
-    all-listed l n r =
-        run-walks (walk (t .size) t) (suc (t .size)) (walk-walks (t .size)) 0 None (λ i. l # i) l n (record { long = r .listed-long; names = λ j h. refl }) fresh begins (r .places) (λ j h q u. absurd u)
-        (λ j h. omega (arith, left-le t (l # j) (r .places j h)))
+    module _ (l : List ℕ) (n : ℕ) (r : ListedIn (G .size) l n) where
+      abbrev ended : State
+      ended = run (listTurn G l) n fresh
 
-module _ (t : Shape) (l : List ℕ) (n : ℕ) (c : Columns t) (r : Listed t l n) where
-  abbrev ended : State
-  ended = reached t l n fresh
+      all-listed : All 0 None (λ i. l # i) l fresh n ended
+      all-listed =
+          run-walks (walk (suc (G .size)) G) (suc (G .size)) (walk-walks (suc (G .size))) 0 None (λ i. l # i) l n
+          (record { long = r .listed-long; names = λ j h. refl }) fresh begins (r .places)
+          (λ j h q u. absurd u) (λ j h. omega (arith, c .shallow (l # j) (r .places j h)))
 
-  onward : {p q : ℕ} → Has ended p → Reach t p q → Has ended q
-  onward h here = h
-  onward {p} {q} h (down i g w) = onward child w
-    where
-      child : Has ended (kid t p i)
-      child =
-          let o = all-listed t c l n r .inv .order (h .at) i (h .below) (subst (λ (x : ℕ). i < many t x) (sym (h .is)) g) in
-          record { at = o .0; below = omega (arith, o .1, h .below); is = o .2 ∙ ap (λ (x : ℕ). kid t x i) (h .is) }
+      onward : {p q : ℕ} → Has ended p → Reach G p q → Has ended q
+      onward h here = h
+      onward {p} {q} h (down i g w) = onward child w
+        where
+          child : Has ended (G .kid p i)
+          child =
+              let o = all-listed .inv .order (h .at) i (h .below) (subst (λ (x : ℕ). i < G .many x) (sym (h .is)) g) in
+              record {
+                at = o .0;
+                below = omega (arith, o .1, h .below);
+                is = o .2 ∙ ap (λ (x : ℕ). G .kid x i) (h .is);
+              }
 
-  pub walk-order : Ordered t l n ended
-  walk-order =
-      let a = all-listed t c l n r in
-      record {
-        walked = a .walked;
-        children-first = a .inv .order;
-        stored-order = λ i h ps q rs e.
-            turned (a .walked) i (omega arith) (omega (arith, length-take-le (ended .count) (ended .done) (within t (a .inv)))) ps q rs
-            (ap (stored t) (getD-take (ended .count) (ended .done) i 0 h) ∙ e);
-        none-twice = a .inv .once;
-        only-reached = λ i h. ⊎-elim (λ w. absurd (no-both (getD (fresh .marks) (ended .done # i) false) w (off t c (ended .done # i)))) (λ w. w) (a .reach (ended .done # i) (a .inv .marked i h));
-        all-reached = λ j q h w. onward (a .has j h) w;
-      }
+      pub graph-order : Ordered G kids l n ended
+      graph-order =
+          let a = all-listed in
+          record {
+            walked = a .walked;
+            children-first = a .inv .order;
+            stored-order = λ i h ps q rs e.
+                turned (a .walked) i (omega arith) (omega (
+                  arith,
+                  length-take-le (ended .count) (ended .done)
+                      (within (a .inv)),
+                )) ps q rs
+                (ap kids (getD-take (ended .count) (ended .done) i 0 h) ∙ e);
+            none-twice = a .inv .once;
+            only-reached = λ i h. ⊎-elim (λ w. absurd (no-both (getD (fresh .marks) (ended .done # i) false) w
+                (off (ended .done # i)))) (λ w. w) (a .reach (ended .done # i) (a .inv .marked i h));
+            all-reached = λ j q h w. onward (a .has j h) w;
+          }
+
+-- the part from a up to b of a lent array, which has b cells or more
+module _ (a b : ℕ) (l : List ℕ) (rises : a ≤ b) (ends : b ≤ length l) where
+  part-length : length (part a b l) ≡ b - a
+  part-length = simp (length-take, length-drop) (omega arith)
+
+  part-names : (j : ℕ) → j < b - a → part a b l # j ≡ l # (a + j)
+  part-names j h = getD-take (b - a) (drop a l) j 0 h ∙ getD-drop a l j 0
+
+-- ---- of a triangle
+pub walk-order : (t : Shape) (l : List ℕ) (n : ℕ) → Columns t → Listed t l n
+    → Ordered (graphOf t) (stored t) l n (reached t l n fresh)
+unfolding reached
+walk-order t l n c r = graph-order (graphOf t) (stored t) (falling-columns c)
+    (λ p h. let a = t .starts # p in let b = t .starts # (p + 1) in record {
+      long = part-length a b (t .rows) (c .rise p h) (c .ends p h);
+      names = part-names a b (t .rows) (c .rise p h)
+          (c .ends p h);
+    }) l n r
+
+-- ---- of columns with a row map and a filter: it begins at the listed places that pass, in listed order
+module _ (t : Mapped) (c : MapColumns t) where
+  stand-by : (p : ℕ) (b : Bool) → passes (t .bound) (t .at # p) ≡ b
+      → (length (storedBy b t p) ≡ manyBy b (t .starts # (t .at # p + 1) - t .starts # (t .at # p)))
+      × ((j : ℕ) → j < manyBy b (t .starts # (t .at # p + 1) - t .starts # (t .at # p))
+      → storedBy b t p # j ≡ graphIn t .kid p j)
+  stand-by p true e =
+      let j = t .at # p in
+      let h = ltb-true j (t .bound) e in (
+        part-length (t .starts # j) (t .starts # (j + 1)) (t .rows) (c .rise j h) (c .ends j h),
+        part-names
+            (t .starts # j) (t .starts # (j + 1)) (t .rows) (c .rise j h) (c .ends j h),
+      )
+  stand-by p false e = (refl, λ j h. absurd (omega arith))
+
+  stands : (p : ℕ) → Stand (graphIn t) (storedIn t) p
+  unfolding manyIn
+  stands p = let w = stand-by p (passes (t .bound) (t .at # p)) refl in record { long = w .0; names = w .1 }
+
+  module _ (l : List ℕ) where
+    -- one place more to begin at
+    one-more : (es : List ℕ) (p : ℕ) (s : State)
+        → run (listTurn (graphIn t) (es ++ (p ∷ []))) (length (es ++ (p ∷ []))) s ≡ walkOf (graphIn t) p
+        (run (listTurn (graphIn t) es) (length es) s)
+    unfolding run
+    one-more es p s =
+        let end : length (es ++ (p ∷ [])) ≡ suc (length es) = length-append es (p ∷ []) ∙ add-one (length es) in
+        rw (end, getD-append-seam es p [] 0)
+        (ap (walkOf (graphIn t) p)
+        (run-same (listTurn (graphIn t) (es ++ (p ∷ []))) (listTurn (graphIn t) es) (length es)
+        (λ k u h. rw (List·getD-append es (p ∷ []) 0 k h) refl) s))
+
+    entering-all : (n : ℕ) (s : State) → reachedIn t l n s ≡ run (listTurn (graphIn t) (entering t l n))
+        (length (entering t l n)) s
+    unfolding reachedIn run entering
+    entering-all zero s = refl
+    entering-all (suc n) s = by (passes (t .bound) (t .at # (l # n))) (entering-all n s)
+      where
+        by : (b : Bool) → reachedIn t l n s ≡ run (listTurn (graphIn t) (entering t l n)) (length (entering t l n)) s
+            → unless b (walkOf (graphIn t) (l # n) (run (enterTurn t l) n s)) (run (enterTurn t l) n s) ≡ run
+            (listTurn (graphIn t) (enteringBy b (entering t l n) (l # n)))
+            (length (enteringBy b (entering t l n) (l # n))) s
+        by true e = ap (walkOf (graphIn t) (l # n)) e ∙ sym (one-more (entering t l n) (l # n) s)
+        by false e = e
+
+    entering-below : (n : ℕ) → ((i : ℕ) → i < n → l # i < t .size) → (k : ℕ) → k < length (entering t l n)
+        → entering t l n # k < t .size
+    unfolding entering
+    entering-below zero h k g = absurd (omega arith)
+    entering-below (suc n) h k g = by (passes (t .bound) (t .at # (l # n))) (entering t l n)
+        (entering-below n (λ i f. h i (omega arith))) k g
+      where
+        by : (b : Bool) (es : List ℕ) → ((i : ℕ) → i < length es → es # i < t .size) → (i : ℕ)
+            → i < length (enteringBy b es (l # n)) → enteringBy b es (l # n) # i < t .size
+        by true es ih i f =
+            ⊎-elim
+            (λ (a : i < length es). rw (List·getD-append es (l # n ∷ []) 0 i a) (ih i a))
+            (λ (a : i ≡ length es). rw (a, getD-append-seam es (l # n) [] 0) (h n (omega arith)))
+            (last? i (length es) (omega (arith, length-append es (l # n ∷ []))))
+        by false es ih i f = ih i f
+
+    pub mapped-order : (n : ℕ) → ListedIn (t .size) l n
+        → Ordered (graphIn t) (storedIn t) (entering t l n) (length (entering t l n)) (reachedIn t l n fresh)
+    mapped-order n r =
+        rw (entering-all n fresh)
+        (graph-order (graphIn t) (storedIn t) (c .falling) (λ p h. stands p) (entering t l n) (length (entering t l n))
+        (record { listed-long = le-refl _; places = entering-below n (r .places) }))
 
 -- what the order leaves open: nothing
-pub order-settles : {t : Shape} {l : List ℕ} {n : ℕ} {s u : State} → Ordered t l n s → Ordered t l n u → finished s ≡ finished u
+pub order-settles : {g : Graph} {kids : ℕ → List ℕ} {l : List ℕ} {n : ℕ} {s u : State} → Ordered g kids l n s
+    → Ordered g kids l n u → finished s ≡ finished u
 order-settles o p = walked-same (o .walked) (p .walked)

@@ -1,4 +1,5 @@
--- The laws of `Walked`: it leaves one list, it only appends, and the children of a finished place come in stored order. Assumes nothing.
+-- The laws of `Walked`: it leaves one list, it only appends, and the children of a finished place come in stored order.
+-- Assumes nothing.
 use mathlib.Core.Path.{_≡_, refl, sym, ap, _∙_, subst}
 use mathlib.Core.Bool.{Bool, true, false, _||_}
 use mathlib.Core.List.{List, [], _∷_, _++_, append-nil, append-assoc}
@@ -54,7 +55,8 @@ module _ {kids : ℕ → List ℕ} where
   walked-same (again h a) (again g b) = walked-same a b
   walked-same (again h a) (first g c b) = never h g
   walked-same (first h c a) (again g b) = never g h
-  walked-same (first {ps = ps} {m = m} {p = p} h c a) (first {m = n} g d b) = walked-same a (subst (λ (x : List ℕ). Walked kids (x ++ (p ∷ [])) ps n) (sym (walked-same c d)) b)
+  walked-same (first {ps = ps} {m = m} {p = p} h c a) (first {m = n} g d b) = walked-same a
+      (subst (λ (x : List ℕ). Walked kids (x ++ (p ∷ [])) ps n) (sym (walked-same c d)) b)
 
   -- one walk after another
   pub walked-then : {l ps m qs n : List ℕ} → Walked kids l ps m → Walked kids m qs n → Walked kids l (ps ++ qs) n
@@ -63,7 +65,8 @@ module _ {kids : ℕ → List ℕ} where
   walked-then (first h c a) b = first h c (walked-then a b)
 
   -- and the two apart again
-  walked-apart : (ps : List ℕ) {l qs n : List ℕ} → Walked kids l (ps ++ qs) n → (m : List ℕ) × Walked kids l ps m × Walked kids m qs n
+  walked-apart : (ps : List ℕ) {l qs n : List ℕ} → Walked kids l (ps ++ qs) n
+      → (m : List ℕ) × Walked kids l ps m × Walked kids m qs n
   walked-apart [] {l} w = (l, stop, w)
   walked-apart (p ∷ ps) (again h a) = let r = walked-apart ps a in (r .0, again h (r .1), r .2)
   walked-apart (p ∷ ps) (first h c a) = let r = walked-apart ps a in (r .0, first h c (r .1), r .2)
@@ -88,7 +91,11 @@ module _ {kids : ℕ → List ℕ} where
       record {
         begun = o .begun;
         upto = o .upto;
-        walk = rw (take-append-le (o .begun) k x (omega (arith, o .upto)), take-append-le i k x (omega arith), List·getD-append k x 0 i h) (o .walk);
+        walk = rw (
+          take-append-le (o .begun) k x (omega (arith, o .upto)),
+          take-append-le i k x (omega arith),
+          List·getD-append k x 0 i h,
+        ) (o .walk);
       }
 
   opened : {l ps m : List ℕ} → Walked kids l ps m → (i : ℕ) → length l ≤ i → i < length m → Opened kids m i
@@ -110,23 +117,41 @@ module _ {kids : ℕ → List ℕ} where
           record {
             begun = length l;
             upto = a;
-            walk = rw (e, is, take-append-le (length l) k (p ∷ more) (length-grows c), take-grows c, getD-append-seam k p more 0, take-append-seam k (p ∷ more)) c;
+            walk = rw (
+              e,
+              is,
+              take-append-le (length l) k (p ∷ more) (length-grows c),
+              take-grows c,
+              getD-append-seam k
+                  p more 0,
+              take-append-seam k (p ∷ more),
+            ) c;
           }
 
       by : (i < length k → Opened kids k i) → (length (k ++ (p ∷ [])) ≤ i → Opened kids m i) → Opened kids m i
       by f g = by-test (ltb i (length k))
-          (λ t. subst (λ (x : List ℕ). Opened kids x i) (sym is) (opened-longer k (p ∷ more) i (ltb-true _ _ t) (f (ltb-true _ _ t))))
-          (λ t. by-test (eqb i (length k)) (λ e. at-end (eqb-true _ _ e)) (λ e. g (omega (arith, end, ltb-false i (length k) t, eqb-false i (length k) e))))
+          (λ t. subst (λ (x : List ℕ). Opened kids x i) (sym is)
+          (opened-longer k (p ∷ more) i (ltb-true _ _ t) (f (ltb-true _ _ t))))
+          (λ t. by-test (eqb i (length k)) (λ e. at-end (eqb-true _ _ e))
+          (λ e. g (omega (arith, end, ltb-false i (length k) t, eqb-false i (length k) e))))
 
   -- a place whose turn comes is finished already, or is finished behind what is
-  behind : {l : List ℕ} {q : ℕ} {rs m : List ℕ} → Walked kids l (q ∷ rs) m → (among q l ≡ true) ⊎ ((k : ℕ) × (length l ≤ k) × (k < length m) × (m # k ≡ q))
+  behind : {l : List ℕ} {q : ℕ} {rs m : List ℕ} → Walked kids l (q ∷ rs) m
+      → (among q l ≡ true) ⊎ ((k : ℕ) × (length l ≤ k) × (k < length m) × (m # k ≡ q))
   behind (again h w) = inl h
   behind (first {k = k} {p = q} h c w) =
       let x = walked-grows w in
-      inr (length k, length-grows c, omega (arith, length-grows w, length-append k (q ∷ [])), ap (λ (d : List ℕ). d # (length k)) (x .1 ∙ append-snoc k q (x .0)) ∙ getD-append-seam k q (x .0) 0)
+      inr (
+        length k,
+        length-grows c,
+        omega (arith, length-grows w, length-append k (q ∷ [])),
+        ap
+            (λ (d : List ℕ). d # (length k)) (x .1 ∙ append-snoc k q (x .0)) ∙ getD-append-seam k q (x .0) 0,
+      )
 
   -- the children of a finished place come in stored order
-  pub turned : {l ps m : List ℕ} → Walked kids l ps m → (i : ℕ) → length l ≤ i → i < length m → (es : List ℕ) (q : ℕ) (rs : List ℕ) → kids (m # i) ≡ es ++ (q ∷ rs) → Turn kids m i es q
+  pub turned : {l ps m : List ℕ} → Walked kids l ps m → (i : ℕ) → length l ≤ i → i < length m
+      → (es : List ℕ) (q : ℕ) (rs : List ℕ) → kids (m # i) ≡ es ++ (q ∷ rs) → Turn kids m i es q
   turned {l} {ps} {m} w i a b es q rs e = by (walked-apart es (rw e at (o .walk)))
     where
       o : Opened kids m i
@@ -148,6 +173,7 @@ module _ {kids : ℕ → List ℕ} where
             earlier = rw same (t .1);
             later = rw same (⊎-elim
                 (λ h. inl h)
-                (λ h. let up : h .0 < i = omega (arith, h .2, len i (omega arith)) in inr (h .0, h .1, up, sym (getD-take i m (h .0) 0 up) ∙ h .3))
+                (λ h. let up : h .0 < i = omega (arith, h .2, len i (omega arith)) in inr
+                (h .0, h .1, up, sym (getD-take i m (h .0) 0 up) ∙ h .3))
                 (behind (t .2)));
           }

@@ -9,9 +9,9 @@ use Rattle.rules.specs.Plan.{slackMin, slackMax, varMin, varMax, keptRows, colu
 use Rattle.rules.specs.Refusals.{sizesFit, planLong, storeLong, workspaceLong, memoryLong, startsRise, passes1, passes2, badAt, firstBadRow, firstCrossed, zeroHolds, firstFalse}
 use Rattle.rules.specs.Start.{startVal, startDual, startVals, dualFeasible, startObjective, startSlack, startNorm, startWorkspace, startState, passes6, passes7}
 use Rattle.rules.specs.Choose.{mayEnter, scoreOf, betterTurn, bestColumn, otherVal, enteringOf, choose}
-use Rattle.rules.specs.Basis.{factorSolve, factorSolveTransp, etaTurn, solveEtas, solve, etaTurnTransp, solveEtasTransp, solveTransp, colCoeffs, addEntry, addRow, combine, rowCoeffsOf, helperOf, etaEntry, etaFits, writeColumn, pushEta}
+use Rattle.rules.specs.Basis.{factorSolve, factorSolveTransp, etaTurn, solveEtas, solve, etaTurnTransp, solveEtasTransp, solveTransp, colCoeffs, addEntry, addRow, combine, rowCoeffsOf, helperOf, touchAt, etaEntry, etaFits, writeColumn, pushEta}
 use Rattle.rules.specs.Ratio.{towardsMax, ahead, limitBy, limit, examined, relaxed, stepTo, soundRatios, passOne, candidate, passTwoTurn, passTwo, flipOf, exchangeOf, pivotOf, soundDistance, ratio}
-use Rattle.rules.specs.Pivot.{stored, storesFinite, flagsAt, newObjective, movedVal, flipFinite, flipped, newVal, newPrice, newNorm, etaFinite, exchangeFinite, exchanged}
+use Rattle.rules.specs.Pivot.{stored, storesFinite, flagsAt, newObjective, movedVal, flipFinite, flipped, newVal, newPrice, newNorm, numbersFinite, etaFinite, exchanged}
 use Rattle.rules.specs.Step.{exchange, flip, pivot, step, next, atBudget, runOf}
 use Rattle.rules.specs.FinalCheck.{valueOf, valuesOf, counted, beyond, larger, valueExcess, rowExcess, excessAt, worstTurn, worst, judged, finalCheck}
 use Rattle.rules.specs.Answers.{asRow}
@@ -30,9 +30,9 @@ unfolding
     sizesFit planLong storeLong workspaceLong memoryLong startsRise passes1 passes2 badAt firstBadRow firstCrossed zeroHolds firstFalse
     startVal startDual startVals dualFeasible startObjective startSlack startNorm startWorkspace startState passes6 passes7
     mayEnter scoreOf betterTurn bestColumn otherVal enteringOf choose
-    factorSolve factorSolveTransp takeOff etaTurn solveEtas solve etaTurnTransp solveEtasTransp solveTransp colCoeffs addEntry addRow combine rowCoeffsOf relisted helperOf listedFinite etaEntry etaFits writeColumn pushEta
+    factorSolve factorSolveTransp takeOff etaTurn solveEtas solve etaTurnTransp solveEtasTransp solveTransp colCoeffs addEntry addRow combine rowCoeffsOf relisted helperOf touchAt listedFinite etaEntry etaFits writeColumn pushEta
     towardsMax ahead limitBy limit examined relaxed stepTo soundRatios passOne candidate passTwoTurn passTwo flipOf exchangeOf pivotOf soundDistance ratio
-    stored storesFinite flagsAt newObjective movedVal flipFinite flipped newVal newPrice newNorm etaFinite exchangeFinite exchanged
+    stored storesFinite flagsAt newObjective movedVal flipFinite flipped newVal newPrice newNorm numbersFinite etaFinite exchanged
     exchange flip pivot step next atBudget runOf valueOf valuesOf counted beyond larger valueExcess rowExcess excessAt worstTurn worst judged finalCheck asRow
     checkedAnswer answerOf valuesAfter memoryAfter close endOf solvePlan
     sum bit holds wrong outside termBy term lacksBy lacks activity price cost floor brokenRows outsideAmounts wrongSigns absentNeeded fresh overKept

@@ -31,7 +31,7 @@ shown (plan p w) =
     let r = solvePlan p (roomFor p) in
     let a = asRow (r .answer) in
     let P = problemOf p in
-    solves a (r .memory .values) (kindsFrom P (a .steps) (startState P (roomFor p .ws)))
+    solves a (r .memory .values) (kindsFrom P (a .steps) (startState P (roomFor p)))
 shown (sheet s w) = let t = opened s in judges (opening s) (t .kept .D) (t .kept .B) (verdict t)
 
 unfoldable pub wanted : Case → Shown

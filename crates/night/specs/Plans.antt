@@ -6,6 +6,7 @@ use lib.ListN.{length, replicate}
 use lib.Ieee.{Float, binary64, neg, ofBits, ofInt}
 use Rattle.doubles.specs.Num.{f0, +inf}
 use Rattle.doubles.specs.Limits.{etaColumns, etaEntries, countCells}
+use Rattle.lu_factor_rules.specs.Packed.{factorNumbers, factorCoeffs}
 use Rattle.rules.specs.Plan.{Plan, Memory, Problem, State}
 use Rattle.rules.specs.Choose.{choose}
 use Rattle.rules.specs.Step.{step, moved, stopped}
@@ -80,6 +81,8 @@ roomFor p =
       };
       counts = replicate countCells 0;
       objective = f0 ∷ [];
+      factorNumbers = replicate factorNumbers 0;
+      factorCoeffs = replicate factorCoeffs f0;
     }
 
 -- the kinds of the steps that the rules take, at most k of them

@@ -63,7 +63,7 @@ fn column_solve(
     let mut marks = [false; doubles::PLACES];
     let mut list = [0usize; doubles::PLACES];
     let count = sparse::load(&mut values, &mut marks, &mut list, 0, at, xs, listed);
-    let c = basis_etas::solve(
+    let c = basis_etas::solve_etas(
         &mut values,
         &mut marks,
         &mut list,
@@ -94,7 +94,7 @@ fn row_solve(
     let mut marks = [false; doubles::PLACES];
     let mut list = [0usize; doubles::PLACES];
     let count = sparse::load(&mut values, &mut marks, &mut list, 0, at, xs, listed);
-    let c = basis_etas::solve_transp(
+    let c = basis_etas::solve_etas_transp(
         &mut values,
         &mut marks,
         &mut list,

@@ -3,8 +3,10 @@
 // plans; then for each its columns, rows, entries, budget and tolerance, and the eight arrays of the plan in their
 // order, each with its length. What the solve writes is lent longer than needed.
 ghost use mathlib.Core.Path.{_≡_};
-ghost use Prim.Native.Nat.{_+_};
+ghost use Prim.Native.Nat.{_+_, _≤_};
 ghost use lib.ListN.{length};
+ghost use Rattle.doubles.specs.Limits.{maxRows};
+ghost use Rattle.lu_factor_rules.specs.Packed.{factorNumbers, factorCoeffs};
 ghost use Rattle.state.specs.Memory.{numbersEnd, doublesEnd};
 use rules::Answer;
 
@@ -20,6 +22,10 @@ const VALUES: usize = doubles::VARS + 32;
 const NUMBERS: usize = state::NUMBERS + 16;
 
 const DOUBLES: usize = state::DOUBLES + 16;
+
+const FACTOR_NUMBERS: usize = lu_factor_rules::FACTOR_NUMBERS + 16;
+
+const FACTOR_COEFFS: usize = lu_factor_rules::FACTOR_COEFFS + 16;
 
 // What a line shows after the answer.
 enum Shown {
@@ -99,8 +105,8 @@ fn show_answer(answer: Answer) -> Shown {
         Answer::SlackOutside => refused(b"7 -"),
         Answer::Unbounded { objective, steps } => ended(b"20 -", objective, steps),
         Answer::Spent { objective, steps } => ended(b"21 -", objective, steps),
-        Answer::NoRoom { objective, steps } => ended(b"22 -", objective, steps),
         Answer::NotFinite { objective, steps } => ended(b"23 -", objective, steps),
+        Answer::Singular { objective, steps } => ended(b"25 -", objective, steps),
         Answer::ValueRejected {
             objective,
             steps,
@@ -174,8 +180,70 @@ fn show_rest(columns: usize, numbers: &[usize], doubles: &[f64])
     words::doubles(&doubles[state::ETA_COEFFS..state::ETA_COEFFS_END], entries);
 }
 
-fn show(answer: Answer, columns: usize, values: &[f64; VALUES], numbers: &[usize], doubles: &[f64])
-    requires { ⌜ (length (now numbers) ≡ numbersEnd + 16) × (length (now doubles) ≡ doublesEnd + 16) ⌝ }
+// L and U by columns, with the diagonal. Each has one start more than there are columns.
+fn show_factor(rows: usize, numbers: &[usize], coeffs: &[f64])
+    requires { ⌜ (length (now numbers) ≡ factorNumbers + 16) × (length (now coeffs) ≡ factorCoeffs + 16) ⌝ }
+{
+    let m = words::least(rows, doubles::MAX_ROWS);
+    let lower = numbers[lu_factor_rules::L_STARTS + m];
+    let upper = numbers[lu_factor_rules::U_STARTS + m];
+    words::text(b" pivots");
+    words::places(
+        &numbers[lu_factor_rules::ORDER..lu_factor_rules::ORDER_END],
+        m,
+    );
+    words::text(b" lptr");
+    words::places(
+        &numbers[lu_factor_rules::L_STARTS..lu_factor_rules::L_STARTS_END],
+        m + 1,
+    );
+    words::text(b" lidx");
+    words::places(
+        &numbers[lu_factor_rules::L_ROWS..lu_factor_rules::L_ROWS_END],
+        lower,
+    );
+    words::text(b" lval");
+    words::doubles(
+        &coeffs[lu_factor_rules::L_COEFFS..lu_factor_rules::L_COEFFS_END],
+        lower,
+    );
+    show_upper(m, upper, numbers, coeffs);
+}
+
+fn show_upper(m: usize, upper: usize, numbers: &[usize], coeffs: &[f64])
+    requires { ⌜ (length (now numbers) ≡ factorNumbers + 16) × (length (now coeffs) ≡ factorCoeffs + 16) ×
+        (m ≤ maxRows) ⌝ }
+{
+    words::text(b" uptr");
+    words::places(
+        &numbers[lu_factor_rules::U_STARTS..lu_factor_rules::U_STARTS_END],
+        m + 1,
+    );
+    words::text(b" uidx");
+    words::places(
+        &numbers[lu_factor_rules::U_ROWS..lu_factor_rules::U_ROWS_END],
+        upper,
+    );
+    words::text(b" uval");
+    words::doubles(
+        &coeffs[lu_factor_rules::U_COEFFS..lu_factor_rules::U_COEFFS_END],
+        upper,
+    );
+    words::text(b" udiag");
+    words::doubles(&coeffs[lu_factor_rules::DIAG..lu_factor_rules::DIAG_END], m);
+}
+
+fn show(
+    answer: Answer,
+    columns: usize,
+    values: &[f64; VALUES],
+    numbers: &[usize],
+    doubles: &[f64],
+    factor_numbers: &[usize],
+    factor_coeffs: &[f64],
+)
+    requires { ⌜ (length (now numbers) ≡ numbersEnd + 16) × (length (now doubles) ≡ doublesEnd + 16) ×
+        (length (now «factor_numbers») ≡ factorNumbers + 16) × (length (now «factor_coeffs») ≡ factorCoeffs + 16) ⌝ }
 {
     let shown = show_answer(answer);
     match shown {
@@ -188,6 +256,12 @@ fn show(answer: Answer, columns: usize, values: &[f64; VALUES], numbers: &[usize
     }
     show_state(columns, numbers, doubles);
     show_rest(columns, numbers, doubles);
+    words::text(b" factor");
+    if numbers[state::COUNTS + 5] == 0 {
+        words::text(b" none");
+        return;
+    }
+    show_factor(numbers[state::COUNTS], factor_numbers, factor_coeffs);
 }
 
 fn solved(
@@ -208,6 +282,8 @@ fn solved(
     let mut values = [0.0; VALUES];
     let mut numbers = [0usize; NUMBERS];
     let mut doubles = [0.0; DOUBLES];
+    let mut factor_numbers = [0usize; FACTOR_NUMBERS];
+    let mut factor_coeffs = [0.0; FACTOR_COEFFS];
     let answer = solve::solve(
         columns,
         rows,
@@ -225,8 +301,18 @@ fn solved(
         &mut values,
         &mut numbers,
         &mut doubles,
+        &mut factor_numbers,
+        &mut factor_coeffs,
     );
-    show(answer, columns, &values, &numbers, &doubles);
+    show(
+        answer,
+        columns,
+        &values,
+        &numbers,
+        &doubles,
+        &factor_numbers,
+        &factor_coeffs,
+    );
     words::end_line();
 }
 

@@ -22,7 +22,7 @@ use Rattle.rules.specs.Step.{Outcome, moved, stopped, step, Ended, ended
 use Rattle.rules.specs.FinalCheck.{valuesOf, finalCheck}
 use Rattle.rules.specs.Answers.{Row as Told, asRow, numberOf}
 use Rattle.rules.specs.Solve.{Solved, checkedAnswer, answerOf, valuesAfter, memoryAfter, close, endOf, solvePlan}
-use Rattle.rules.specs.Conditions.{NoneBelow, Checks, AllSound, StopsWith, Halts, reached, written, Passes, Ends, Line, optimal, unbounded, spent, store-full, not-finite, value-rejected, row-rejected}
+use Rattle.rules.specs.Conditions.{NoneBelow, Checks, AllSound, StopsWith, Halts, reached, written, Passes, Ends, Line, optimal, unbounded, spent, singular, not-finite, value-rejected, row-rejected}
 use Rattle.rules.specs.Steps.{Steps, none, one-more, Reached, RunsTo}
 use Rattle.rules.proofs.Refusals.{Case, refused, accepted, cases, none-refused}
 use Rattle.rules.proofs.Lengths.{tolerance-fits}
@@ -34,10 +34,11 @@ use Rattle.rules.specs.declared.Entering.{Entering}
 use Rattle.rules.specs.declared.Choice.{Choice}
 use Rattle.rules.specs.declared.Choice.the-variants.{Enters, Nothing}
 use Rattle.rules.specs.declared.Stop.{Stop}
-use Rattle.rules.specs.declared.Stop.the-variants.{Finished, Spent as Stop·Spent, Unbounded as Stop·Unbounded, NoRoom as Stop·NoRoom, NotFinite as Stop·NotFinite}
+use Rattle.rules.specs.declared.Stop.the-variants.{Finished, Spent as Stop·Spent, Unbounded as Stop·Unbounded, NotFinite as Stop·NotFinite, Singular as Stop·Singular}
 use Rattle.rules.specs.declared.Checked.{Checked}
 use Rattle.rules.specs.declared.Checked.the-variants.{Passed, Value, Row}
 use Rattle.rules.specs.declared.Answer.{Answer}
+use Rattle.rules.specs.declared.Answer.the-variants.{Optimal, BadSize, BadNumber, BadEntry, CrossedBounds, FalseEmptyRow, StartNotFinite, SlackOutside, Unbounded, Spent, NotFinite, Singular, ValueRejected, RowRejected}
 
 -- ---- the run
 
@@ -66,7 +67,7 @@ module _ (P : Problem) (goes : dualFeasible (P .plan) ≡ false) where
   halted s e q h Finished r = absurd (step-stops P s e Finished .0 r)
   halted s e q h Stop·Spent r = absurd (step-stops P s e Stop·Spent .0 r)
   halted s e q h Stop·Unbounded r = (e, (goes, q), h, step-stops P s e Stop·Unbounded .0 r)
-  halted s e q h Stop·NoRoom r = (e, (goes, q), h, step-stops P s e Stop·NoRoom .0 r)
+  halted s e q h Stop·Singular r = (e, (goes, q), h, step-stops P s e Stop·Singular .0 r)
   halted s e q h Stop·NotFinite r = (e, (goes, q), h, step-stops P s e Stop·NotFinite .0 r)
 
   abbrev EndsSo : ℕ → State → Type 0
@@ -109,17 +110,17 @@ module _ (P : Problem) (goes : dualFeasible (P .plan) ≡ false) where
   ends-there zero s Stop·Spent l h = rw (h .1 .1, atBudget) refl
   ends-there (suc k) s Stop·Spent l h = absurd (omega (arith, h .2))
   ends-there k s Stop·Unbounded l h = halts k s Stop·Unbounded l h
-  ends-there k s Stop·NoRoom l h = halts k s Stop·NoRoom l h
+  ends-there k s Stop·Singular l h = halts k s Stop·Singular l h
   ends-there k s Stop·NotFinite l h = halts k s Stop·NotFinite l h
 
 -- ---- the end, of a dual feasible plan too
 module _ (P : Problem) (m : Memory) where
   -- 01: "If dual feasible, Optimal is reached at once with 0 steps (ours), after the final check": the state reached is the first one
-  pub at-once : dualFeasible (P .plan) ≡ true → endOf P m ≡ ended Finished (startState P (m .ws))
+  pub at-once : dualFeasible (P .plan) ≡ true → endOf P m ≡ ended Finished (startState P m)
   unfolding endOf
   at-once q = rw (q, endOf) refl
 
-  dual : dualFeasible (P .plan) ≡ true → Ends P (startState P (m .ws)) Finished
+  dual : dualFeasible (P .plan) ≡ true → Ends P (startState P m) Finished
   unfolding Ends startState
   dual q = inl (q, omega arith)
 
@@ -128,7 +129,7 @@ module _ (P : Problem) (m : Memory) where
   dual-only q t Finished h = ⊎-elim (λ d. (refl, omega (arith, d .1))) (λ d. never q (d .0)) h
   dual-only q t Stop·Spent h = never q (h .1 .0)
   dual-only q t Stop·Unbounded h = never q (h .1 .0)
-  dual-only q t Stop·NoRoom h = never q (h .1 .0)
+  dual-only q t Stop·Singular h = never q (h .1 .0)
   dual-only q t Stop·NotFinite h = never q (h .1 .0)
 
   end-so : Ends P (endOf P m .state) (endOf P m .why)
@@ -137,9 +138,9 @@ module _ (P : Problem) (m : Memory) where
     where
       go : (b : Bool) → dualFeasible (P .plan) ≡ b → Ends P (endOf P m .state) (endOf P m .why)
       go true q = rw (at-once q) (dual q)
-      go false q = rw (q, endOf) (run-ends P q (P .plan .budget) (startState P (m .ws)) (omega arith))
+      go false q = rw (q, endOf) (run-ends P q (P .plan .budget) (startState P m) (omega arith))
 
-  end-only : (w : Stop) (t : State) → Reached P (startState P (m .ws)) t (P .plan .budget) → Ends P t w
+  end-only : (w : Stop) (t : State) → Reached P (startState P m) t (P .plan .budget) → Ends P t w
       → endOf P m ≡ ended w t
   unfolding endOf runOf startState
   end-only w t r h = go (dualFeasible (P .plan)) refl
@@ -147,7 +148,7 @@ module _ (P : Problem) (m : Memory) where
       go : (b : Bool) → dualFeasible (P .plan) ≡ b → endOf P m ≡ ended w t
       go true q =
           let x = dual-only q t w h in
-          let s = startState P (m .ws) in
+          let s = startState P m in
           let here : Steps P s 0 t = subst (λ (k : ℕ). Steps P s k t) (x .1) (r .by-steps) in
           at-once q ∙ cc (x .0, steps-same P s none here)
       go false q =
@@ -156,12 +157,12 @@ module _ (P : Problem) (m : Memory) where
           rw (q, endOf) (goes-on P q (r .by-steps) (P .plan .budget) left sum ∙ ends-there P q left t w (omega arith) h)
 
   abbrev EndsAs : Ended → Type 0
-  EndsAs e = Reached P (startState P (m .ws)) (e .state) (P .plan .budget) × Ends P (e .state) (e .why)
+  EndsAs e = Reached P (startState P m) (e .state) (P .plan .budget) × Ends P (e .state) (e .why)
 
   -- a run ends with w in t exactly when the rules' steps lead there within the budget and the words of that end hold
   -- there: no other state is so
   pub end-exact : (w : Stop) (t : State)
-      → (endOf P m ≡ ended w t) ↔ (Reached P (startState P (m .ws)) t (P .plan .budget) × Ends P t w)
+      → (endOf P m ≡ ended w t) ↔ (Reached P (startState P m) t (P .plan .budget) × Ends P t w)
   end-exact w t = (λ q. subst EndsAs q (end-reached P m, end-so), λ h. end-only w t (h .0) (h .1))
 
 -- ---- the answers
@@ -178,7 +179,7 @@ module _ (P : Problem) (s : State) where
     line Finished h = checked-line h (finalCheck P (valuesOf P (s .ws))) refl
     line Stop·Spent h = spent h
     line Stop·Unbounded h = unbounded h
-    line Stop·NoRoom h = store-full h
+    line Stop·Singular h = singular h
     line Stop·NotFinite h = not-finite h
 
   checked-so : (c : Checked) → Checks P (valuesOf P (s .ws)) c
@@ -194,7 +195,7 @@ module _ (P : Problem) (s : State) where
   line-only (row-rejected r x h g) = (Finished, h, checked-so (Row r x) g)
   line-only (spent h) = (Stop·Spent, h, refl)
   line-only (unbounded h) = (Stop·Unbounded, h, refl)
-  line-only (store-full h) = (Stop·NoRoom, h, refl)
+  line-only (singular h) = (Stop·Singular, h, refl)
   line-only (not-finite h) = (Stop·NotFinite, h, refl)
 
 module _ (p : Plan) (m : Memory) where
@@ -233,7 +234,7 @@ entered (value-rejected v x h g) q = absurd (omega arith)
 entered (row-rejected r x h g) q = absurd (omega arith)
 entered (spent h) q = absurd (omega arith)
 entered (unbounded h) q = (h .0, h .1 .1)
-entered (store-full h) q = absurd (omega arith)
+entered (singular h) q = absurd (omega arith)
 entered (not-finite h) q = absurd (omega arith)
 
 module _ (p : Plan) (m : Memory) where
@@ -260,7 +261,7 @@ passed (value-rejected v x h g) q = absurd (omega arith)
 passed (row-rejected r x h g) q = absurd (omega arith)
 passed (spent h) q = absurd (omega arith)
 passed (unbounded h) q = absurd (omega arith)
-passed (store-full h) q = absurd (omega arith)
+passed (singular h) q = absurd (omega arith)
 passed (not-finite h) q = absurd (omega arith)
 
 length-values : (P : Problem) (s : State) → length (valuesOf P (s .ws)) ≡ nOf P + mOf P
@@ -306,3 +307,21 @@ module _ (p : Plan) (m : Memory) where
   -- 01: "20 to 24 leave the values array alone"
   pub values-left : ¬ (numberOf (solvePlan p m .answer) ≡ 0) → solvePlan p m .memory .values ≡ m .values
   values-left = left-alone (cases p m)
+
+-- 02: "22 is no longer given"
+pub never-22 : (a : Answer) → ¬ (numberOf a ≡ 22)
+unfolding asRow
+never-22 (Optimal o k x) q = absurd (omega arith)
+never-22 BadSize q = absurd (omega arith)
+never-22 BadNumber q = absurd (omega arith)
+never-22 (BadEntry r p) q = absurd (omega arith)
+never-22 (CrossedBounds c) q = absurd (omega arith)
+never-22 (FalseEmptyRow r) q = absurd (omega arith)
+never-22 StartNotFinite q = absurd (omega arith)
+never-22 SlackOutside q = absurd (omega arith)
+never-22 (Unbounded o k) q = absurd (omega arith)
+never-22 (Spent o k) q = absurd (omega arith)
+never-22 (NotFinite o k) q = absurd (omega arith)
+never-22 (Singular o k) q = absurd (omega arith)
+never-22 (ValueRejected o k v x) q = absurd (omega arith)
+never-22 (RowRejected o k r x) q = absurd (omega arith)

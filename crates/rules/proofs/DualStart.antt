@@ -12,7 +12,7 @@ use Rattle.doubles.proofs.Floats.{differs}
 use Rattle.doubles.proofs.Loops.{both-true, all-at, getD-table}
 use Rattle.doubles.proofs.Order.{lt-irrefl, lt-trans, lt-le-trans, le-total, le-not-lt}
 use Rattle.doubles.proofs.Tests.{not-both, false-by, true-by}
-use Rattle.rules.specs.Plan.{Problem, Workspace, Memory, nOf, flagsCell, flagsOf}
+use Rattle.rules.specs.Plan.{Problem, Memory, nOf, flagsCell, flagsOf}
 use Rattle.rules.specs.Start.{lowerFirst, upperFirst, startVal, startDual, startValAt, startVals, dualFeasible, startFlags, startWorkspace, startState}
 use Rattle.rules.specs.Choose.{mayEnter, passesFilter, scoreAt, choose}
 use Rattle.rules.specs.Step.{runOf}
@@ -128,30 +128,30 @@ flags-back true false = refl
 flags-back true true = refl
 
 -- Nothing is asked of the plan: a NaN cost scores NaN, and never wins.
-pub none-at-dual-start : (P : Problem) (w : Workspace) → dualFeasible (P .plan) ≡ true → choose P (startState P w .ws) ≡ Nothing
+pub none-at-dual-start : (P : Problem) (m : Memory) → dualFeasible (P .plan) ≡ true → choose P (startState P m .ws) ≡ Nothing
 unfolding dualFeasible startState startWorkspace startVals
-none-at-dual-start P w d = nothing-exactly P (startState P w .ws) .1 (λ c l t. false-by (λ s. not-both t (never c l s)))
+none-at-dual-start P m d = nothing-exactly P (startState P m .ws) .1 (λ c l t. false-by (λ s. not-both t (never c l s)))
   where
-    never : (c : ℕ) → c < nOf P → lt -inf (scoreAt (startState P w .ws) c) ≡ true → passesFilter (startState P w .ws) c ≡ false
+    never : (c : ℕ) → c < nOf P → lt -inf (scoreAt (startState P m .ws) c) ≡ true → passesFilter (startState P m .ws) c ≡ false
     never c l s =
         let p = P .plan in
         let n = nOf P in
         let cost = p .costs ! c in
         let lo = p .lowers ! c in
         let hi = p .uppers ! c in
-        let price : startState P w .ws .prices ! c ≡ cost = over-at n (λ j. p .costs ! j) (w .prices) nan c l in
+        let price : startState P m .ws .prices ! c ≡ cost = over-at n (λ j. p .costs ! j) (m .ws .prices) nan c l in
         let value : startVals p ! c ≡ startValAt p c = getD-table n (startValAt p) nan c l in
-        let cell : startState P w .ws .flags # c ≡ startFlags p (startVals p) c = over-at n (startFlags p (startVals p)) (w .flags) 0 c l in
+        let cell : startState P m .ws .flags # c ≡ startFlags p (startVals p) c = over-at n (startFlags p (startVals p)) (m .ws .flags) 0 c l in
         let number : isNan cost ≡ false = subst (λ x. isNan x ≡ false) price (price-number _ _ s) in
         let one : mayEnter (flags cost lo hi number (startValAt p c)) cost ≡ false =
         start-never cost lo hi number (all-at (λ j. startDual (p .costs ! j) (p .lowers ! j) (p .uppers ! j)) n d c l) in
         rw (cell, price, value, flags-back (eq (startValAt p c) lo) (eq (startValAt p c) hi)) one
 
 -- 01: "If dual feasible, Optimal is reached at once with 0 steps (ours)": the steps by themselves end there
-pub steps-alone : (P : Problem) (m : Memory) → endOf P m ≡ runOf P (P .plan .budget) (startState P (m .ws))
+pub steps-alone : (P : Problem) (m : Memory) → endOf P m ≡ runOf P (P .plan .budget) (startState P m)
 unfolding endOf runOf
 steps-alone P m = go (dualFeasible (P .plan)) refl
   where
-    go : (b : Bool) → dualFeasible (P .plan) ≡ b → endOf P m ≡ runOf P (P .plan .budget) (startState P (m .ws))
-    go true d = at-once P m d ∙ sym (none-enters P (P .plan .budget) (startState P (m .ws)) (none-at-dual-start P (m .ws) d))
+    go : (b : Bool) → dualFeasible (P .plan) ≡ b → endOf P m ≡ runOf P (P .plan .budget) (startState P m)
+    go true d = at-once P m d ∙ sym (none-enters P (P .plan .budget) (startState P m) (none-at-dual-start P m d))
     go false d = rw (d, endOf) refl

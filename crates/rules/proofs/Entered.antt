@@ -1,4 +1,4 @@
--- The entering column is always in the row list. Were it not, the column would have no entry in the leaving row or in the leaving row of an eta. Then it is 0.0 there before
+-- While there is no factor, the entering column is always in the row list. Were it not, the column would have no entry in the leaving row or in the leaving row of an eta. Then it is 0.0 there before
 -- the solve, every eta takes a zero off, and the leaving row's coefficient is a zero: under EPS in size. Assumes nothing.
 use mathlib.Core.Path.{_≡_, sym, ap, _∙_}
 use mathlib.Core.Bool.{true, false}
@@ -20,7 +20,7 @@ use Rattle.sparse.specs.Scattered.{Sv, blank, putAt, listed, listedVal, takeTur
 use Rattle.sparse.proofs.Laws.{marked-listed, no-both}
 use Rattle.rules.specs.Plan.{Problem, State, Etas, nOf, mOf, column}
 use Rattle.rules.specs.Choose.{choose}
-use Rattle.rules.specs.Basis.{factorSolve, factorSolveTransp, etaRowsOf, etaCoeffsOf, etaTurn, solveEtas, solve, etaTurnTransp, solveEtasTransp, solveTransp, colCoeffs, rowCoeffsOf}
+use Rattle.rules.specs.Basis.{etaRowsOf, etaCoeffsOf, etaTurn, solveEtas, etaTurnTransp, solveEtasTransp, scattered, rowSolve, rowCoeffsOf}
 use Rattle.rules.specs.Choices.{Listed}
 use Rattle.rules.specs.Conditions.{stepColumn}
 use Rattle.rules.specs.Invariant.{ProblemFits, Store, Sound, Vector, Touched}
@@ -29,11 +29,11 @@ use Rattle.rules.specs.declared.Choice.the-variants.{Enters}
 use Rattle.rules.proofs.Lists.{part-long, part-at, set-either}
 use Rattle.rules.proofs.Zeros.{Zero, zero-f0, zero-times, zero-less, zero-small}
 use Rattle.rules.proofs.Maps.{split}
-use Rattle.rules.proofs.Vectors.{vector-blank, vector-putAt, rows-places, keeps-each, e0, column-rows, scattered, scattered-vector, row-solve-vector, row-vector}
+use Rattle.rules.proofs.Vectors.{vector-blank, vector-putAt, rows-places, keeps-each, e0, column-rows, scattered-vector, row-solve-vector, row-vector}
 use Rattle.rules.proofs.Store.{starts-rise}
 use Rattle.rules.proofs.Moved.{enters-below}
 use Rattle.rules.proofs.Keeps.{step-vector}
-use Rattle.rules.proofs.Touched.{none-touched, touched-at, touched-still, touched-by, Meets, by-entry, by-slack, combine-at}
+use Rattle.rules.proofs.Touched.{row-solve-first, column-solve-first, none-touched, touched-at, touched-still, touched-by, Meets, by-entry, by-slack, combine-at}
 
 -- y is a zero at every place with the property Z
 record Zeros (Z : ℕ → Type 0) (y : Sv) : Type 0 where
@@ -87,8 +87,8 @@ module _ (P : Problem) (f : ProblemFits P) (h : Etas) (count : ℕ) (st : Store 
         keeps (takeTurn (y .vals ! (h .leaving # k)) rows (etaCoeffsOf h k)) y (λ _. Zeros Z) (length rows)
         (λ i t j u. zeros-take t (rows # i) _ (zero-times _ _ (w .zero-at _ (leaves k l)) (coeff-finite k l i j)) u) w (length rows) (le-refl (length rows))
 
-    zeros-solve : (y : Sv) → Zeros Z y → Zeros Z (solve h count y)
-    unfolding solve solveEtas factorSolve
+    zeros-solve : (y : Sv) → Zeros Z y → Zeros Z (solveEtas h count y)
+    unfolding solveEtas
     zeros-solve y w = keeps (etaTurn h) y (λ _. Zeros Z) count (λ k t l u. zeros-turn k l t u) w count (le-refl count)
 
 -- what a column touches before the solve
@@ -98,7 +98,8 @@ scattered-by P v i Q rows =
     (λ k l t g u. ⊎-elim (λ (q : i ≡ getD (column P v) k e0 .at). rw q (rows k l)) g (touched-by t _ _ i u)) blank (λ u. absurd (none-touched i u))
 
 -- ---- the step's own
-module _ (P : Problem) (f : ProblemFits P) (s : State) (g : Sound P s) (e : Entering) (enters : choose P (s .ws) ≡ Enters e) (row : ℕ) (x : Listed (stepColumn P s e) row) where
+module _ (P : Problem) (f : ProblemFits P) (s : State) (g : Sound P s) (e : Entering) (enters : choose P (s .ws) ≡ Enters e) (row : ℕ) (x : Listed (stepColumn P s e) row)
+    (first : s .factor .there ≡ false) where
   abbrev h : Etas
   h = s .ws .etas
 
@@ -109,7 +110,7 @@ module _ (P : Problem) (f : ProblemFits P) (s : State) (g : Sound P s) (e : Ente
   v = s .ws .nbVars # e .col
 
   abbrev y : Sv
-  y = solveTransp h (s .etaCount) (putAt blank row f1)
+  y = rowSolve P s (putAt blank row f1)
 
   col-inside : e .col < nOf P
   col-inside = enters-below P (s .ws) e enters
@@ -147,19 +148,28 @@ module _ (P : Problem) (f : ProblemFits P) (s : State) (g : Sound P s) (e : Ente
               rw (c .good .zeros i l (false-by (λ w. apart i u w))) zero-f0;
         }
 
+    -- with no factor, the row solve is that of the etas
+    solved-by : (i : ℕ) → Touched (solveEtasTransp h (s .etaCount) (putAt blank row f1)) i → Touched y i
+    solved-by i u = rw (row-solve-first P s first (putAt blank row f1)) u
+
     no-coefficient : Zero (stepColumn P s e .vals ! row)
-    unfolding colCoeffs solveTransp solveEtasTransp factorSolveTransp
+    unfolding solveEtasTransp
     no-coefficient =
         let st = g .fits .store in
         let start = vector-putAt blank row f1 (rows-places P f) vector-blank row-inside in
         let count = s .etaCount in
-        zeros-solve P f h count st (g .fits .lengths .rows-long) (g .numbers .eta) (Touched y) (turns-leave P f h count st count (le-refl count) (putAt blank row f1) start) (scattered P v) start-zeros
+        rw (column-solve-first P s first v)
+        (zeros-solve P f h count st (g .fits .lengths .rows-long) (g .numbers .eta) (Touched y)
+        (λ k l. solved-by _ (turns-leave P f h count st count (le-refl count) (putAt blank row f1) start k l)) (scattered P v) start-zeros
         .zero-at row
-        (turns-still P f h count st row count (le-refl count) (putAt blank row f1) start (touched-at blank (vector-blank {m = mOf P}) row f1 (omega (arith, row-inside, rows-places P f))))
+        (solved-by row (turns-still P f h count st row count (le-refl count) (putAt blank row f1) start (touched-at blank (vector-blank {m = mOf P}) row f1 (omega (arith, row-inside, rows-places P f))))))
 
     never-out : ⊥
     never-out = not-both (zero-small (listedVal (stepColumn P s e) (x .place)) (rw (x .row-there) at no-coefficient)) (x .not-small)
 
-  -- the entering column is always in the row list
+  -- the entering column is in the row list
+  pub entering-touched : Touched (rowCoeffsOf P s row) (e .col)
+  entering-touched = true-by never-out
+
   pub entering-in-row : (k : ℕ) × (k < rowCoeffsOf P s row .pat .count) × (listed (rowCoeffsOf P s row) k ≡ e .col)
-  entering-in-row = marked-listed (rowCoeffsOf P s row) (row-vector P f s row .good) (e .col) (true-by never-out)
+  entering-in-row = marked-listed (rowCoeffsOf P s row) (row-vector P f s row .good) (e .col) entering-touched

@@ -3,11 +3,12 @@ use mathlib.Core.Path.{_≡_, refl, _∙_}
 use mathlib.Core.Bool.{true}
 use mathlib.Core.List.{List}
 use mathlib.Core.Logic.{⊎-elim}
-use Prim.Native.Nat.{ℕ, _+_, _<_, _≤_}
+use Prim.Native.Nat.{ℕ, suc, _+_, _<_, _≤_}
 use native.Mathlib.Nat.{le-refl}
 use native.Mathlib.Numerals.{add-one}
 use native.Mathlib.Omega.{arith}
 use lib.ListN.{length, set, length-set}
+use lib.Seq.{getD-set-same}
 use lib.Ieee.{Float, nan}
 use borrow.Author.Tests.{ltb-true, leb-true}
 use Rattle.doubles.specs.Num.{finite}
@@ -15,21 +16,23 @@ use Rattle.doubles.specs.Limits.{etaColumns, etaEntries}
 use Rattle.doubles.specs.Lists.{_!_, _#_}
 use Rattle.doubles.proofs.Loops.{keeps, both-true, all-at}
 use Rattle.sparse.specs.Scattered.{Sv, listed}
-use Rattle.rules.specs.Plan.{Problem, State, Workspace, nOf, mOf, varCell}
+use Rattle.lu_factor_rules.specs.Factor.{Factor, factored, factorize}
+use Rattle.rules.specs.Plan.{Problem, State, Workspace, Etas, Factored, nOf, mOf, varCell}
 use Rattle.rules.specs.Choose.{choose}
-use Rattle.rules.specs.Basis.{etaUsed, etaFits, etaEntryAt, rowCoeffsOf, helperOf}
-use Rattle.rules.specs.Pivot.{storeTurn, stored, storesFinite, movedVal, newVal, newPrice, newNorm, etaFinite, flipFinite, flipped, exchangeFinite, exchanged}
+use Rattle.rules.specs.Basis.{etaUsed, etaFits, etaEntryAt, pushEta, basisAfter, noColumns, factoredAnew}
+use Rattle.rules.specs.Pivot.{storeTurn, stored, storesFinite, movedVal, newVal, newPrice, newNorm, etaFinite, flipFinite, flipped, numbersFinite, exchangedTo, exchanged, refactored}
 use Rattle.rules.specs.Step.{step, moved}
 use Rattle.rules.specs.Conditions.{stepColumn}
 use Rattle.rules.specs.declared.Entering.{Entering}
 use Rattle.rules.specs.declared.Choice.the-variants.{Enters}
 use Rattle.rules.specs.declared.PivotInfo.{PivotInfo}
-use Rattle.rules.specs.Invariant.{ProblemFits, Lengths, Maps, Numbers, Fits, Sound, Vector}
+use Rattle.rules.specs.Invariant.{ProblemFits, Lengths, Maps, Store, FactorFits, FactorNumbers, Numbers, Fits, Sound, Vector}
 use Rattle.rules.proofs.Lists.{set-either, spliced-long, spliced-all}
-use Rattle.rules.proofs.Vectors.{column-vector}
+use Rattle.rules.proofs.Vectors.{rows-places, column-vector, vector-touchAt}
 use Rattle.rules.proofs.Maps.{exchange-maps}
 use Rattle.rules.proofs.Store.{afterPush, pushed, pushed-store, starts-last}
-use Rattle.rules.proofs.Moved.{enters-below, Flips, Exchanges, moves}
+use Rattle.rules.proofs.Moved.{enters-below, Flips, Swaps, columnOf, rowOf, helper, Pushes, Refactors, moves}
+use Rattle.rules.proofs.Refactored.{refactored-fits, refactored-numbers}
 
 -- ---- storing at the listed places
 module _ (c : Sv) (f : ℕ → Float) (l : List Float) where
@@ -80,7 +83,14 @@ module _ (P : Problem) (s : State) (e : Entering) (c : Sv) (value diff : Float) 
 
   flip-fits : Fits P s → Fits P (flipped P s e c value diff)
   unfolding flipped
-  flip-fits f = record { lengths = flip-lengths (f .lengths); maps = flip-maps (f .maps); store = f .store }
+  flip-fits f =
+      record {
+        lengths = flip-lengths (f .lengths);
+        maps = flip-maps (f .maps);
+        store = f .store;
+        factor = f .factor;
+        factorings = omega (arith, f .factorings);
+      }
 
   flip-numbers : flipFinite P s e c value diff ≡ true → Numbers P s → Numbers P (flipped P s e c value diff)
   unfolding flipped flipFinite
@@ -94,9 +104,70 @@ module _ (P : Problem) (s : State) (e : Entering) (c : Sv) (value diff : Float) 
         price = f .price;
         norm = f .norm;
         eta = f .eta;
+        factor = f .factor;
       }
 
--- ---- an exchange
+-- ---- an exchange, whatever stands in the store and in the factor's arrays afterwards
+module _ (P : Problem) (s : State) (f : Fits P s) (e : Entering) (c rowSv helper : Sv) (value diff : Float) (row : ℕ)
+    (coeff leaving : Float) (hc : e .col < nOf P) (hr : row < mOf P) (etas : Etas) (count : ℕ) (factor : Factored) where
+  abbrev after : State
+  after = exchangedTo P s e c rowSv helper value diff row coeff leaving etas count factor
+
+  record Roomy : Type 0 where
+    leaving-long : etaColumns ≤ length (etas .leaving)
+    starts-long : etaColumns + 1 ≤ length (etas .starts)
+    rows-long : etaEntries ≤ length (etas .rows)
+    coeffs-long : etaEntries ≤ length (etas .coeffs)
+
+  swap-lengths : Roomy → Lengths P (after .ws)
+  swap-lengths h =
+      let l = f .lengths in
+      record {
+        basicVars-long = simp length-set (l .basicVars-long);
+        basicVarVals-long = simp stored-long (l .basicVarVals-long);
+        nbVars-long = simp length-set (l .nbVars-long);
+        nbVarVals-long = simp length-set (l .nbVarVals-long);
+        prices-long = simp stored-long (l .prices-long);
+        norms-long = simp stored-long (l .norms-long);
+        flags-long = simp length-set (l .flags-long);
+        varStates-long = simp length-set (l .varStates-long);
+        leaving-long = h .leaving-long;
+        starts-long = h .starts-long;
+        rows-long = h .rows-long;
+        coeffs-long = h .coeffs-long;
+      }
+
+  swap-fits : Roomy → Store P etas count → FactorFits (mOf P) factor → factor .times ≤ suc (s .steps) → Fits P after
+  unfolding varCell
+  swap-fits h store fits times =
+      record {
+        lengths = swap-lengths h;
+        maps = exchange-maps P (s .ws) (f .lengths) (f .maps) (e .col) row hc hr (after .ws) refl refl refl;
+        store = store;
+        factor = fits;
+        factorings = times;
+      }
+
+  swap-numbers : numbersFinite P s e c rowSv helper value diff row coeff leaving ≡ true → Numbers P s
+      → ((i : ℕ) → i < etas .starts # count → finite (etas .coeffs ! i) ≡ true) → FactorNumbers (mOf P) factor → Numbers P after
+  unfolding numbersFinite
+  swap-numbers p g column numbers =
+      let w = s .ws in
+      let b4 = both-true _ _ p in
+      let b3 = both-true _ _ (b4 .0) in
+      let b2 = both-true _ _ (b3 .0) in
+      let b1 = both-true _ _ (b2 .0) in
+      record {
+        objective = b1 .0;
+        basicVal = λ r h. stored-finite c (newVal w c value diff row) (w .basicVarVals) (b1 .1) r (g .basicVal r h);
+        nbVal = λ k h. set-finite (w .nbVarVals) (e .col) leaving k (b2 .1) (g .nbVal k h);
+        price = λ k h. stored-finite rowSv (newPrice w e coeff rowSv) (w .prices) (b3 .1) k (g .price k h);
+        norm = λ k h. stored-finite rowSv (newNorm w e c coeff rowSv helper) (w .norms) (b4 .1) k (g .norm k h);
+        eta = column;
+        factor = numbers;
+      }
+
+-- ---- with its eta column
 module _ (P : Problem) (s : State) (f : Fits P s) (e : Entering) (c rowSv helper : Sv) (value diff : Float) (row : ℕ) (coeff leaving : Float) (hc : e .col < nOf P)
     (hr : row < mOf P) (v : Vector (mOf P) c) (room : etaFits s (c .pat .count) ≡ true) where
   abbrev t : State
@@ -120,76 +191,83 @@ module _ (P : Problem) (s : State) (f : Fits P s) (e : Entering) (c rowSv helper
   abbrev more : ℕ
   more = c .pat .count
 
-  pub etas-after : t .ws .etas ≡ afterPush c row coeff (s .etaCount) (w .etas)
-  unfolding exchanged
+  abbrev push : Etas
+  push = pushEta c row coeff (s .etaCount) (w .etas)
+
+  pub etas-after : push ≡ afterPush c row coeff (s .etaCount) (w .etas)
   etas-after = pushed P (w .etas) (s .etaCount) (f .store) (f .lengths .rows-long) (f .lengths .coeffs-long) c row coeff (has-room .entries-left)
 
-  exchange-lengths : Lengths P (t .ws)
+  pub exchange-fits : Fits P t
   unfolding exchanged
-  exchange-lengths =
+  exchange-fits =
       let l = f .lengths in
-      let q = has-room .entries-left in
-      record {
-        basicVars-long = simp length-set (l .basicVars-long);
-        basicVarVals-long = simp stored-long (l .basicVarVals-long);
-        nbVars-long = simp length-set (l .nbVars-long);
-        nbVarVals-long = simp length-set (l .nbVarVals-long);
-        prices-long = simp stored-long (l .prices-long);
-        norms-long = simp stored-long (l .norms-long);
-        flags-long = simp length-set (l .flags-long);
-        varStates-long = simp length-set (l .varStates-long);
+      let q = has-room in
+      swap-fits P s f e c rowSv helper value diff row coeff leaving hc hr push (suc (s .etaCount)) (s .factor)
+      (record {
         leaving-long = rw etas-after (simp length-set (l .leaving-long));
         starts-long = rw etas-after (simp length-set (l .starts-long));
         rows-long = rw etas-after (omega (arith, spliced-long used more (listed c) (w .etas .rows) (omega arith)));
         coeffs-long = rw etas-after (omega (arith, spliced-long used more (etaEntryAt c row coeff) (w .etas .coeffs) (omega arith)));
-      }
-
-  pub exchange-fits : Fits P t
-  unfolding exchanged varCell
-  exchange-fits =
-      let l = f .lengths in
-      let q = has-room in
-      record {
-        lengths = exchange-lengths;
-        maps = exchange-maps P w l (f .maps) (e .col) row hc hr (t .ws) refl refl refl;
-        store = rw etas-after
-            (pushed-store P (w .etas) (s .etaCount) (f .store) (l .rows-long) (l .coeffs-long) c row coeff (q .entries-left) (omega arith) (omega arith) v hr (q .columns-left));
-      }
+      })
+      (rw etas-after
+      (pushed-store P (w .etas) (s .etaCount) (f .store) (l .rows-long) (l .coeffs-long) c row coeff (q .entries-left) (omega arith) (omega arith) v hr (q .columns-left)))
+      (f .factor) (omega (arith, f .factorings))
 
   -- the entries in use
-  pub used-after : etaUsed t ≡ used + more
-  unfolding exchanged
+  pub used-after : push .starts # suc (s .etaCount) ≡ used + more
   used-after =
       let l = f .lengths in
       let q = has-room in
       rw (etas-after, ← add-one (s .etaCount))
       (starts-last P (w .etas) (s .etaCount) (f .store) (l .rows-long) (l .coeffs-long) c row coeff (q .entries-left) (omega arith))
 
-  etas-finite : etaFinite c row coeff ≡ true → ((i : ℕ) → i < used → finite (w .etas .coeffs ! i) ≡ true) → (i : ℕ) → i < etaUsed t → finite (t .ws .etas .coeffs ! i) ≡ true
-  unfolding etaFinite
-  etas-finite p g i h =
+  exchange-numbers : numbersFinite P s e c rowSv helper value diff row coeff leaving ≡ true → etaFinite c row coeff ≡ true
+      → Numbers P s → Numbers P t
+  unfolding exchanged etaFinite
+  exchange-numbers p column g =
+      swap-numbers P s f e c rowSv helper value diff row coeff leaving hc hr push (suc (s .etaCount)) (s .factor) p g
+      (λ i h.
       let q = has-room in
       let l = f .lengths in
       rw etas-after
-      (spliced-all used more (etaEntryAt c row coeff) (w .etas .coeffs) (omega arith) (λ x. finite x ≡ true) nan g (all-at (λ k. finite (etaEntryAt c row coeff k)) more p) i
-      (omega (arith, used-after)))
+      (spliced-all used more (etaEntryAt c row coeff) (w .etas .coeffs) (omega arith) (λ x. finite x ≡ true) nan (g .eta)
+      (all-at (λ k. finite (etaEntryAt c row coeff k)) more column) i (omega (arith, used-after))))
+      (g .factor)
 
-  exchange-numbers : exchangeFinite P s e c rowSv helper value diff row coeff leaving ≡ true → Numbers P s → Numbers P t
-  unfolding exchanged exchangeFinite
-  exchange-numbers p g =
-      let b5 = both-true _ _ p in
-      let b4 = both-true _ _ (b5 .0) in
-      let b3 = both-true _ _ (b4 .0) in
-      let b2 = both-true _ _ (b3 .0) in
-      let b1 = both-true _ _ (b2 .0) in
-      record {
-        objective = b1 .0;
-        basicVal = λ r h. stored-finite c (newVal w c value diff row) (w .basicVarVals) (b1 .1) r (g .basicVal r h);
-        nbVal = λ k h. set-finite (w .nbVarVals) (e .col) leaving k (b2 .1) (g .nbVal k h);
-        price = λ k h. stored-finite rowSv (newPrice w e coeff rowSv) (w .prices) (b3 .1) k (g .price k h);
-        norm = λ k h. stored-finite rowSv (newNorm w e c coeff rowSv helper) (w .norms) (b4 .1) k (g .norm k h);
-        eta = etas-finite (b5 .1) (g .eta);
-      }
+-- ---- with the new basis' factor
+module _ (P : Problem) (p : ProblemFits P) (s : State) (f : Fits P s) (e : Entering) (c rowSv helper : Sv) (value diff : Float)
+    (row : ℕ) (coeff leaving : Float) (hc : e .col < nOf P) (hr : row < mOf P) (g : Factor)
+    (made : factorize (mOf P) (basisAfter P s (e .col) row) ≡ factored g) where
+  abbrev empty : Etas
+  empty = noColumns (s .ws .etas)
+
+  pub none-used : empty .starts # 0 ≡ 0
+  none-used = getD-set-same (s .ws .etas .starts) 0 0 0 (omega (arith, f .lengths))
+
+  no-store : Store P empty 0
+  no-store =
+      let e = none-used in
+      record { begins = e; columns-fit = omega arith; entries-fit = omega arith; column = λ k h. absurd (omega arith) }
+
+  refactor-fits : Fits P (refactored P s e c rowSv helper value diff row coeff leaving g)
+  unfolding refactored
+  refactor-fits =
+      let l = f .lengths in
+      swap-fits P s f e c rowSv helper value diff row coeff leaving hc hr empty 0 (factoredAnew g (s .factor))
+      (record {
+        leaving-long = l .leaving-long;
+        starts-long = simp length-set (l .starts-long);
+        rows-long = l .rows-long;
+        coeffs-long = l .coeffs-long;
+      })
+      no-store (refactored-fits P p s f (e .col) row hc hr g made) (omega (arith, f .factorings))
+
+  refactor-numbers : numbersFinite P s e c rowSv helper value diff row coeff leaving ≡ true → Numbers P s
+      → Numbers P (refactored P s e c rowSv helper value diff row coeff leaving g)
+  unfolding refactored
+  refactor-numbers n old =
+      swap-numbers P s f e c rowSv helper value diff row coeff leaving hc hr empty 0 (factoredAnew g (s .factor)) n old
+      (λ i h. absurd (omega (arith, none-used))) (refactored-numbers P p s f (e .col) row hc hr g made)
 
 -- ---- any step
 module _ (P : Problem) (p : ProblemFits P) (s : State) (f : Fits P s) (e : Entering) (enters : choose P (s .ws) ≡ Enters e) where
@@ -201,8 +279,12 @@ module _ (P : Problem) (p : ProblemFits P) (s : State) (f : Fits P s) (e : Enter
   step-vector = column-vector P p s f (s .ws .nbVars # e .col) (f .maps .place (e .col) col-below .var)
 
   -- the leaving row is a row
-  pub row-below : {t : State} (x : Exchanges P s e t) → x .row < mOf P
+  pub row-below : (x : Swaps P s e) → x .row < mOf P
   row-below x = rw (x .leaves .row-there) (step-vector .places-below .below (x .leaves .place) (x .leaves .listed-place))
+
+  -- so is the column with the leaving row touched
+  pub touched-vector : (x : Swaps P s e) → Vector (mOf P) (columnOf P s e x)
+  touched-vector x = vector-touchAt (stepColumn P s e) (x .row) (rows-places P p) step-vector (row-below x)
 
   module _ (i : PivotInfo) (t : State) (steps : step P s e ≡ moved i t) where
     -- the two maps between variables and places are each other's inverse after every step
@@ -210,10 +292,17 @@ module _ (P : Problem) (p : ProblemFits P) (s : State) (f : Fits P s) (e : Enter
     step-fits =
         ⊎-elim
         (λ (x : Flips P s e t). rw (x .after) (flip-fits P s e (stepColumn P s e) (x .value) (x .diff) f))
-        (λ (x : Exchanges P s e t).
-        rw (x .after)
-        (exchange-fits P s f e (stepColumn P s e) (rowCoeffsOf P s (x .row)) (helperOf P s (stepColumn P s e)) (x .value) (x .diff) (x .row) (x .coeff) (x .leaving) col-below (row-below x)
-        step-vector (x .fits)))
+        (⊎-elim
+        (λ (y : Pushes P s e t).
+        let x = y .swap in
+        rw (y .after)
+        (exchange-fits P s f e (columnOf P s e x) (rowOf P s e x) (helper P s e x) (x .value) (x .diff) (x .row) (x .coeff) (x .leaving)
+        col-below (row-below x) (touched-vector x) (y .fits)))
+        (λ (y : Refactors P s e t).
+        let x = y .swap in
+        rw (y .after)
+        (refactor-fits P p s f e (columnOf P s e x) (rowOf P s e x) (helper P s e x) (x .value) (x .diff) (x .row) (x .coeff) (x .leaving)
+        col-below (row-below x) (y .factor) (y .made))))
         (moves P s e i t steps)
 
     -- every stored number is finite after every step
@@ -221,10 +310,17 @@ module _ (P : Problem) (p : ProblemFits P) (s : State) (f : Fits P s) (e : Enter
     step-numbers g =
         ⊎-elim
         (λ (x : Flips P s e t). rw (x .after) (flip-numbers P s e (stepColumn P s e) (x .value) (x .diff) (x .passes) g))
-        (λ (x : Exchanges P s e t).
-        rw (x .after)
-        (exchange-numbers P s f e (stepColumn P s e) (rowCoeffsOf P s (x .row)) (helperOf P s (stepColumn P s e)) (x .value) (x .diff) (x .row) (x .coeff) (x .leaving) col-below (row-below x)
-        step-vector (x .fits) (x .passes) g))
+        (⊎-elim
+        (λ (y : Pushes P s e t).
+        let x = y .swap in
+        rw (y .after)
+        (exchange-numbers P s f e (columnOf P s e x) (rowOf P s e x) (helper P s e x) (x .value) (x .diff) (x .row) (x .coeff) (x .leaving)
+        col-below (row-below x) (touched-vector x) (y .fits) (y .passes) (y .column) g))
+        (λ (y : Refactors P s e t).
+        let x = y .swap in
+        rw (y .after)
+        (refactor-numbers P p s f e (columnOf P s e x) (rowOf P s e x) (helper P s e x) (x .value) (x .diff) (x .row) (x .coeff) (x .leaving)
+        col-below (row-below x) (y .factor) (y .made) (y .passes) g)))
         (moves P s e i t steps)
 
 pub step-sound : (P : Problem) (p : ProblemFits P) (s : State) → Sound P s → (e : Entering) → choose P (s .ws) ≡ Enters e → (i : PivotInfo) (t : State) → step P s e ≡ moved i t

@@ -175,7 +175,9 @@ module _ (p : Plan) where
     pub memory-fits : MemoryFits p m
     unfolding memoryLong workspaceLong storeLong
     memory-fits =
-        let e = both-true _ _ (passed1 .memory-pass) in
+        let g = both-true _ _ (passed1 .memory-pass) in
+        let f = both-true _ _ (g .0) in
+        let e = both-true _ _ (f .0) in
         let d = both-true _ _ (e .0) in
         let c = both-true _ _ (d .0) in
         let b = both-true _ _ (c .0) in
@@ -207,6 +209,8 @@ module _ (p : Plan) where
           starts-long = leb-true _ _ (h2 .1);
           rows-long = leb-true _ _ (h3 .1);
           coeffs-long = leb-true _ _ (h4 .1);
+          factor-numbers-long = leb-true _ _ (f .1);
+          factor-coeffs-long = leb-true _ _ (g .1);
         }
 
     pub plan-fits : passes2 p ≡ true → firstBadRow p ≡ p .rows → PlanFits p

@@ -8,11 +8,13 @@ pub mod Vectors
 pub mod Maps
 pub mod Store
 pub mod Moved
+pub mod Refactored
 pub mod Keeps
 pub mod Tails
 pub mod Steps
 pub mod Touched
 pub mod Entered
+pub mod Before
 pub mod EnteringColumn
 pub mod LeavingRow
 pub mod Choices

@@ -13,7 +13,7 @@ use Rattle.rules.specs.FinalCheck.{valuesOf}
 use Rattle.rules.specs.Step.{Ended}
 use Rattle.rules.specs.Answers.{Row as Told, asRow, numberOf}
 use Rattle.rules.specs.Solve.{Solved, answerOf, valuesAfter, memoryAfter, close, endOf, solvePlan}
-use Rattle.rules.specs.Conditions.{NoneBelow, reached, Line, optimal, unbounded, spent, store-full, not-finite, value-rejected, row-rejected}
+use Rattle.rules.specs.Conditions.{NoneBelow, reached, Line, optimal, unbounded, spent, singular, not-finite, value-rejected, row-rejected}
 use Rattle.rules.specs.Invariant.{Past, Tails}
 use Rattle.rules.specs.Steps.{LentTails, Ran}
 use Rattle.rules.specs.declared.Answer.{Answer}
@@ -30,7 +30,7 @@ module _ (P : Problem) (m : Memory) (e : Ended) where
   values-tail true a q = rw (q, valuesAfter) (past-over _)
   values-tail false a q = rw (q, valuesAfter) past-refl
 
-  close-tails : Tails P (m .ws) (e .state) → LentTails P m (close P m e .memory) (e .state)
+  close-tails : Tails P m (e .state) → LentTails P m (close P m e .memory) (e .state)
   unfolding close memoryAfter
   close-tails g =
       record {
@@ -46,7 +46,7 @@ tells : {P : Problem} {s : State} {t : Told} → Line P s t → (t .steps ≡ s 
 tells (optimal x h g) = (refl, refl)
 tells (unbounded h) = (refl, refl)
 tells (spent h) = (refl, refl)
-tells (store-full h) = (refl, refl)
+tells (singular h) = (refl, refl)
 tells (not-finite h) = (refl, refl)
 tells (value-rejected v x h g) = (refl, refl)
 tells (row-rejected r x h g) = (refl, refl)
@@ -76,9 +76,11 @@ module _ (p : Plan) (m : Memory) where
       record {
         reached = end-reached P m;
         bounded = end-bounded P m fits (start .fits);
-        sound = steps-sound P (startState P (m .ws)) fits start steps;
+        sound = steps-sound P (startState P m) fits start steps;
         steps-told = ap (λ (r : Solved). asRow (r .answer) .steps) whole ∙ told .0;
         objective-told = ap (λ (r : Solved). asRow (r .answer) .objective) whole ∙ told .1;
         lent = ap (λ (r : Solved). r .memory .ws) whole;
-        tails = rw whole (close-tails P m (endOf P m) (steps-tails P (startState P (m .ws)) fits (m .ws) (start-tails P (m .ws)) (start .fits) steps));
+        lent-numbers = ap (λ (r : Solved). r .memory .factorNumbers) whole;
+        lent-coeffs = ap (λ (r : Solved). r .memory .factorCoeffs) whole;
+        tails = rw whole (close-tails P m (endOf P m) (steps-tails P (startState P m) fits m (start-tails P m) (start .fits) steps));
       }

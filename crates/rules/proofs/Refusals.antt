@@ -19,7 +19,7 @@ use Rattle.rules.specs.Step.{ended}
 use Rattle.rules.specs.Answers.{asRow, numberOf}
 use Rattle.rules.specs.Solve.{Solved, solved, orRefuse, close, endOf, checkedAnswer, answerOf, solvePlan}
 use Rattle.rules.specs.declared.Stop.{Stop}
-use Rattle.rules.specs.declared.Stop.the-variants.{Finished, Spent, Unbounded, NoRoom, NotFinite}
+use Rattle.rules.specs.declared.Stop.the-variants.{Finished, Spent, Unbounded, NotFinite, Singular}
 use Rattle.rules.specs.declared.Checked.{Checked}
 use Rattle.rules.specs.declared.Checked.the-variants.{Passed, Value, Row}
 use Rattle.rules.specs.declared.Answer.{Answer}
@@ -58,7 +58,8 @@ workspace n m w =
 
 memory-arrays : (p : Plan) (m : Memory) → (memoryLong p m ≡ false) ↔ MemoryShort p m
 unfolding memoryLong MemoryShort
-memory-arrays p m = simp and-assoc (leb-fails _ _ or leb-fails _ _ or workspace _ _ _ or leb-fails _ _ or leb-fails _ _)
+memory-arrays p m = simp and-assoc
+    (leb-fails _ _ or leb-fails _ _ or workspace _ _ _ or leb-fails _ _ or leb-fails _ _ or leb-fails _ _ or leb-fails _ _)
 
 one : (p : Plan) (m : Memory) → (passes1 p m ≡ false) ↔ Gives1 p m
 unfolding passes1 Gives1
@@ -173,7 +174,7 @@ unfolding answerOf asRow
 late P Finished s = checked-late s (finalCheck P (valuesOf P (s .ws)))
 late P Spent s = inr (omega arith)
 late P Unbounded s = inr (omega arith)
-late P NoRoom s = inr (omega arith)
+late P Singular s = inr (omega arith)
 late P NotFinite s = inr (omega arith)
 
 module _ (p : Plan) (m : Memory) (k : ℕ) (low : 1 ≤ k) (high : k < 8) where

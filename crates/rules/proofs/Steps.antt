@@ -1,16 +1,15 @@
 -- The state of an end stands in the step relation from the start, and what every state has that does. Assumes nothing.
-use mathlib.Core.Path.{_≡_, refl, sym, ap, _∙_, subst}
+use mathlib.Core.Path.{_≡_, refl, sym, subst}
 use mathlib.Core.Bool.{Bool, true, false}
 use mathlib.Core.Logic.{⊎-elim}
 use Prim.Native.Nat.{ℕ, zero, suc, _+_, _*_, _≤_}
 use native.Mathlib.Omega.{arith}
 use Rattle.doubles.specs.Loop.{until}
-use Rattle.doubles.specs.Lists.{_#_}
-use Rattle.rules.specs.Plan.{Memory, Problem, State, Workspace, mOf}
+use Rattle.rules.specs.Plan.{Memory, Problem, State, Etas, Factored, mOf}
 use Rattle.rules.specs.Start.{startState, dualFeasible}
 use Rattle.rules.specs.Choose.{choose}
-use Rattle.rules.specs.Basis.{etaUsed, rowCoeffsOf, helperOf}
-use Rattle.rules.specs.Pivot.{flipped, exchanged}
+use Rattle.rules.specs.Basis.{etaUsed}
+use Rattle.rules.specs.Pivot.{flipped, exchanged, refactored}
 use Rattle.rules.specs.Step.{step, moved, stopped, Outcome, Ended, ended, next, atBudget, runOf}
 use Rattle.rules.specs.Solve.{endOf}
 use Rattle.rules.specs.Conditions.{stepColumn}
@@ -22,37 +21,49 @@ use Rattle.rules.specs.declared.Choice.the-variants.{Enters, Nothing}
 use Rattle.rules.specs.declared.PivotInfo.{PivotInfo}
 use Rattle.rules.specs.declared.Stop.{Stop}
 use Rattle.rules.proofs.Vectors.{vector-few}
-use Rattle.rules.proofs.Moved.{Flips, Exchanges, moves, enters-below}
-use Rattle.rules.proofs.Keeps.{step-vector, row-below, step-fits, step-sound, used-after}
+use Rattle.rules.proofs.Moved.{Flips, Swaps, columnOf, rowOf, helper, swapped, Pushes, Refactors, moves, enters-below}
+use Rattle.rules.proofs.Keeps.{touched-vector, row-below, step-fits, step-sound, used-after, none-used}
 use Rattle.rules.proofs.Tails.{step-tails}
+
+-- at most one eta column more, with at most as many entries as there are rows; or one factoring more, and no column
+record Grows (P : Problem) (s t : State) : Type 0 where
+  columns : t .etaCount + t .factor .times ≤ suc (s .etaCount + s .factor .times)
+  entries : etaUsed s ≤ s .etaCount * mOf P → etaUsed t ≤ t .etaCount * mOf P
 
 -- ---- one step
 module _ (P : Problem) (s : State) (e : Entering) (i : PivotInfo) (t : State) (steps : step P s e ≡ moved i t) where
+  -- what each kind of step gives, said of the state after it
+  by-kind : (Q : State → Type 0) → ((x : Flips P s e t) → Q (flipped P s e (stepColumn P s e) (x .value) (x .diff)))
+      → ((x : Swaps P s e) (k : Etas) (n : ℕ) (F : Factored) → Q (swapped P s e x k n F)) → Q t
+  unfolding exchanged refactored
+  by-kind Q flip swap =
+      ⊎-elim (λ (x : Flips P s e t). rw (x .after) (flip x))
+      (⊎-elim (λ (y : Pushes P s e t). rw (y .after) (swap (y .swap) _ _ _)) (λ (y : Refactors P s e t). rw (y .after) (swap (y .swap) _ _ _)))
+      (moves P s e i t steps)
+
   -- a step is counted as one
   pub step-counts : t .steps ≡ suc (s .steps)
-  unfolding flipped exchanged
-  step-counts = ⊎-elim (λ (x : Flips P s e t). ap (λ (u : State). u .steps) (x .after)) (λ (x : Exchanges P s e t). ap (λ (u : State). u .steps) (x .after)) (moves P s e i t steps)
+  unfolding flipped
+  step-counts = by-kind (λ (u : State). u .steps ≡ suc (s .steps)) (λ x. refl) (λ x k n F. refl)
 
-  -- it adds at most one eta column, with at most as many entries as there are rows
-  record Grows : Type 0 where
-    columns : t .etaCount ≤ suc (s .etaCount)
-    entries : etaUsed t ≤ etaUsed s + mOf P
-
-  step-grows : ProblemFits P → Fits P s → choose P (s .ws) ≡ Enters e → Grows
-  unfolding flipped exchanged
+  step-grows : ProblemFits P → Fits P s → choose P (s .ws) ≡ Enters e → Grows P s t
+  unfolding flipped exchanged refactored
   step-grows p f enters =
       ⊎-elim
-      (λ (x : Flips P s e t).
-      let a : t .etaCount ≡ s .etaCount = ap (λ (u : State). u .etaCount) (x .after) in
-      let b : etaUsed t ≡ etaUsed s = ap etaUsed (x .after) in
-      record { columns = omega arith; entries = omega arith })
-      (λ (x : Exchanges P s e t).
-      let v = step-vector P p s f e enters in
-      let a : t .etaCount ≡ suc (s .etaCount) = ap (λ (u : State). u .etaCount) (x .after) in
-      let b = ap etaUsed (x .after)
-      ∙ used-after P s f e (stepColumn P s e) (rowCoeffsOf P s (x .row)) (helperOf P s (stepColumn P s e)) (x .value) (x .diff) (x .row) (x .coeff) (x .leaving)
-      (enters-below P (s .ws) e enters) (row-below P p s f e enters x) v (x .fits) in
-      record { columns = omega arith; entries = omega (arith, b, vector-few (stepColumn P s e) v) })
+      (λ (x : Flips P s e t). rw (x .after) (record { columns = omega arith; entries = λ h. h }))
+      (⊎-elim
+      (λ (y : Pushes P s e t).
+      let x = y .swap in
+      let v = touched-vector P p s f e enters x in
+      let b = used-after P s f e (columnOf P s e x) (rowOf P s e x) (helper P s e x) (x .value) (x .diff) (x .row) (x .coeff) (x .leaving)
+      (enters-below P (s .ws) e enters) (row-below P p s f e enters x) v (y .fits) in
+      let few = vector-few (columnOf P s e x) v in
+      rw (y .after) (record { columns = omega arith; entries = λ h. omega (arith, b, few, h) }))
+      (λ (y : Refactors P s e t).
+      let x = y .swap in
+      let none = none-used P p s f e (columnOf P s e x) (rowOf P s e x) (helper P s e x) (x .value) (x .diff) (x .row) (x .coeff) (x .leaving)
+      (enters-below P (s .ws) e enters) (row-below P p s f e enters x) (y .factor) (y .made) in
+      rw (y .after) (record { columns = omega arith; entries = λ h. omega (arith, none) })))
       (moves P s e i t steps)
 
 -- ---- k steps
@@ -80,16 +91,17 @@ module _ (P : Problem) (s : State) where
     steps-sound g none = g
     steps-sound g (one-more {k} {t} {u} e i r c q) = step-sound P p t (steps-sound g r) e c i u q
 
-    pub steps-tails : (w : Workspace) → Tails P w s → Fits P s → {k : ℕ} {t : State} → Steps P s k t → Tails P w t
-    steps-tails w g f none = g
-    steps-tails w g f (one-more {k} {t} {u} e i r c q) = step-tails P p w t (steps-fit f r) (steps-tails w g f r) e c i u q
+    pub steps-tails : (m : Memory) → Tails P m s → Fits P s → {k : ℕ} {t : State} → Steps P s k t → Tails P m t
+    steps-tails m g f none = g
+    steps-tails m g f (one-more {k} {t} {u} e i r c q) = step-tails P p m t (steps-fit f r) (steps-tails m g f r) e c i u q
 
-    steps-grow : Fits P s → {k : ℕ} {t : State} → Steps P s k t → (t .etaCount ≤ s .etaCount + k) × (etaUsed t ≤ etaUsed s + k * mOf P)
-    steps-grow f none = (omega arith, omega arith)
-    steps-grow f (one-more {k} {t} {u} e i r c q) =
+    steps-grow : Fits P s → etaUsed s ≤ s .etaCount * mOf P → {k : ℕ} {t : State} → Steps P s k t
+        → (t .etaCount + t .factor .times ≤ s .etaCount + s .factor .times + k) × (etaUsed t ≤ t .etaCount * mOf P)
+    steps-grow f h none = (omega arith, h)
+    steps-grow f h (one-more {k} {t} {u} e i r c q) =
         let g = step-grows P t e i u q p (steps-fit f r) c in
-        let h = steps-grow f r in
-        (omega arith, omega arith)
+        let b = steps-grow f h r in
+        (omega (arith, g .columns, b .0), g .entries (b .1))
 
 -- ---- the run: its end is reached by steps
 record StepsTo (P : Problem) (s : State) (budget : ℕ) (e : Ended) : Type 0 where
@@ -126,24 +138,21 @@ module _ (P : Problem) (s₀ : State) (budget : ℕ) where
 
 -- ---- the end of a run
 module _ (P : Problem) (m : Memory) where
-  end-steps : StepsTo P (startState P (m .ws)) (P .plan .budget) (endOf P m)
+  end-steps : StepsTo P (startState P m) (P .plan .budget) (endOf P m)
   unfolding endOf runOf startState
   end-steps = go (dualFeasible (P .plan)) refl
     where
-      go : (b : Bool) → dualFeasible (P .plan) ≡ b → StepsTo P (startState P (m .ws)) (P .plan .budget) (endOf P m)
-      go true e = rw (e, endOf) (here P (startState P (m .ws)) (P .plan .budget) none (omega arith))
-      go false e = rw (e, endOf) (until-reaches P (startState P (m .ws)) (P .plan .budget) _ _ none (omega arith))
+      go : (b : Bool) → dualFeasible (P .plan) ≡ b → StepsTo P (startState P m) (P .plan .budget) (endOf P m)
+      go true e = rw (e, endOf) (here P (startState P m) (P .plan .budget) none (omega arith))
+      go false e = rw (e, endOf) (until-reaches P (startState P m) (P .plan .budget) _ _ none (omega arith))
 
   -- 01: "The step count in the answer is the number of steps the rules took"
-  pub end-reached : Reached P (startState P (m .ws)) (endOf P m .state) (P .plan .budget)
+  pub end-reached : Reached P (startState P m) (endOf P m .state) (P .plan .budget)
   end-reached = end-steps .reaches
 
-  start-none : (startState P (m .ws) .steps ≡ 0) × (startState P (m .ws) .etaCount ≡ 0)
+  pub end-bounded : ProblemFits P → Fits P (startState P m) → Bounded P (endOf P m .state)
   unfolding startState
-  start-none = (refl, refl)
-
-  pub end-bounded : ProblemFits P → Fits P (startState P (m .ws)) → Bounded P (endOf P m .state)
   end-bounded p f =
-      let g = steps-grow P (startState P (m .ws)) p f (end-reached .by-steps) in
-      let none-used : etaUsed (startState P (m .ws)) ≡ 0 = ap (λ (k : ℕ). startState P (m .ws) .ws .etas .starts # k) (start-none .1) ∙ f .store .begins in
-      record { columns = omega (arith, start-none); entries = omega arith }
+      let r = end-reached .by-steps in
+      let g = steps-grow P (startState P m) p f (omega (arith, f .store .begins)) r in
+      record { columns = omega (arith, g .0); entries = g .1 }

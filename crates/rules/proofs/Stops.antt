@@ -1,6 +1,6 @@
--- 01, "One step": when a step isn't taken: Unbounded, no eta room, or a number that isn't finite, each exactly when its
--- condition holds; and when it is. Assumes nothing.
-use mathlib.Core.Path.{_≡_, refl, sym, ap, subst}
+-- 01, "One step": when a step isn't taken: Unbounded, a number that isn't finite, or no pivot for the new basis' factor,
+-- each exactly when its condition holds; and when it is. Assumes nothing.
+use mathlib.Core.Path.{_≡_, refl, subst}
 use mathlib.Core.Bool.{Bool, true, false, _&&_, and-assoc}
 use mathlib.Core.Logic.{_↔_, _⊎_, inl, inr, ⊎-elim, Iff·rfl, Iff·trans}
 use Prim.Native.Nat.{ℕ}
@@ -8,13 +8,17 @@ use native.Mathlib.Omega.{arith}
 use lib.Ieee.{Float}
 use Rattle.doubles.proofs.Bools.{never, itself, leb-fails, ltb-fails, some-fails, _or_}
 use Rattle.sparse.specs.Scattered.{Sv, listedFinite}
-use Rattle.rules.specs.Plan.{Problem, State}
-use Rattle.rules.specs.Basis.{etaFits, rowCoeffsOf, helperOf}
+use Rattle.lu_factor_rules.specs.Factor.{Outcome as Factoring, factored, notFinite, singular, Factor, factorize}
+use Rattle.lu_factor_rules.specs.Ends.{Wild, Flat, Some as SomeColumn}
+use Rattle.lu_factor_rules.proofs.Exactly.{wild-exactly, flat-exactly}
+use Rattle.rules.specs.Plan.{Problem, State, mOf}
+use Rattle.rules.specs.Basis.{etaFits, rowCoeffsOf, helperOf, touchAt, etaEntryAt, basisAfter}
 use Rattle.rules.specs.Ratio.{ratio}
-use Rattle.rules.specs.Pivot.{storesFinite, flipFinite, etaFinite, exchangeFinite}
-use Rattle.rules.specs.Step.{Outcome, moved, stopped, orStop, exchange, flip, pivot, step}
+use Rattle.rules.specs.Pivot.{storesFinite, flipFinite, etaFinite, numbersFinite, exchanged, refactored}
+use Rattle.rules.specs.Step.{Outcome, moved, stopped, orStop, orFactor, exchange, flip, pivot, step}
 use Rattle.rules.specs.Choices.{RatioGives}
-use Rattle.rules.specs.Conditions.{EntryBroken, StoreBroken, Crowded, FlipBroken, ExchangeBroken, StoreFull, StepBroken, stateAfter, Chosen, StopsWith, stepColumn, Stops, Moves}
+use Rattle.rules.specs.Conditions.{Some, NotFinite, EntryBroken, StoreBroken, Crowded, FlipBroken, ExchangeBroken, EtaBroken, FactorBroken, Exchanges, StepBroken, StepSingular}
+use Rattle.rules.specs.Conditions.{StoresTo, Chosen, StopsWith, stepColumn, Stops, Moves}
 use Rattle.rules.proofs.Choices.{ratio-exactly}
 use Rattle.rules.specs.declared.Entering.{Entering}
 use Rattle.rules.specs.declared.PivotInfo.{PivotInfo}
@@ -22,7 +26,7 @@ use Rattle.rules.specs.declared.PivotInfo.the-variants.{Flip, Exchange}
 use Rattle.rules.specs.declared.Ratio.{Ratio}
 use Rattle.rules.specs.declared.Ratio.the-variants.{Pivot, Unbounded as Ratio·Unbounded, NotFinite as Ratio·NotFinite}
 use Rattle.rules.specs.declared.Stop.{Stop}
-use Rattle.rules.specs.declared.Stop.the-variants.{Finished, Spent as Stop·Spent, Unbounded as Stop·Unbounded, NoRoom as Stop·NoRoom, NotFinite as Stop·NotFinite}
+use Rattle.rules.specs.declared.Stop.the-variants.{Finished, Spent as Stop·Spent, Unbounded as Stop·Unbounded, NotFinite as Stop·NotFinite, Singular as Stop·Singular}
 
 clash : {C : Type 0} → _≡_ {A = ℕ} 0 1 → C
 clash z = absurd (omega arith)
@@ -69,67 +73,200 @@ module _ {b : Bool} {w : Stop} {o : Outcome} {G : Type 0} (e : (b ≡ false) ↔
 taken : {i : PivotInfo} {t : State} {w : Stop} → ¬ (moved i t ≡ stopped w)
 taken h = clash (cc)
 
+-- ---- an exchange: its numbers, then the eta column or the factor
+module _ (P : Problem) (s : State) (e : Entering) (c : Sv) (value diff : Float) (row : ℕ) (coeff leaving : Float) where
+  abbrev r : Sv
+  r = touchAt (rowCoeffsOf P s row) (e .col)
+
+  abbrev h : Sv
+  h = helperOf P s c
+
+  abbrev col : ℕ → Sv
+  col = basisAfter P s (e .col) row
+
+  abbrev info : PivotInfo
+  info = Exchange value diff row coeff leaving
+
+  pub numbers-broken : (listedFinite r && listedFinite h && numbersFinite P s e c r h value diff row coeff leaving ≡ false)
+      ↔ ExchangeBroken P s e c value diff row coeff leaving
+  unfolding numbersFinite ExchangeBroken
+  numbers-broken =
+      simp and-assoc (entries _ or entries _ or itself or stored-finite _ _ or itself or stored-finite _ _ or stored-finite _ _)
+
+  -- what comes behind them
+  abbrev withColumn : Outcome
+  withColumn = orStop (etaFinite c row coeff) Stop·NotFinite (moved info (exchanged P s e c r h value diff row coeff leaving))
+
+  abbrev withFactor : Factoring Factor → Outcome
+  withFactor o = orFactor o (λ f. moved info (refactored P s e c r h value diff row coeff leaving f))
+
+  abbrev stored-by : Bool → Outcome
+  stored-by b = elim b [ true ↦ withColumn | false ↦ withFactor (factorize (mOf P) col) ]
+
+  abbrev fits : Bool
+  fits = etaFits s (c .pat .count)
+
+  crowded-not : fits ≡ true → ¬ Crowded s (c .pat .count)
+  crowded-not q g = never q (room s (c .pat .count) .1 g)
+
+  pub column-broken : (etaFinite c row coeff ≡ false) ↔ Some (c .pat .count) (λ k. NotFinite (etaEntryAt c row coeff k))
+  unfolding etaFinite
+  column-broken = some-fails _ (λ k. itself)
+
+  rest-broken : (stored-by fits ≡ stopped Stop·NotFinite)
+      ↔ (EtaBroken P s e c value diff row coeff leaving ⊎ FactorBroken P s e c value diff row coeff leaving (λ _. Wild))
+  unfolding EtaBroken FactorBroken
+  rest-broken = go fits refl
+    where
+      factor : (o : Factoring Factor) → factorize (mOf P) col ≡ o → withFactor o ≡ stopped Stop·NotFinite
+          → SomeColumn (mOf P) col (λ _. Wild)
+      factor (factored f) q z = clash (cc)
+      factor notFinite q z = wild-exactly (mOf P) col .0 q
+      factor singular q z = clash (cc)
+
+      go : (b : Bool) → fits ≡ b → (stored-by b ≡ stopped Stop·NotFinite)
+          ↔ (((¬ Crowded s (c .pat .count)) × Some (c .pat .count) (λ k. NotFinite (etaEntryAt c row coeff k)))
+          ⊎ (Crowded s (c .pat .count) × SomeColumn (mOf P) col (λ _. Wild)))
+      go true q = (
+        λ z. inl (crowded-not q, only column-broken taken .0 z),
+        ⊎-elim (λ g. only column-broken taken .1 (g .1)) (λ g. absurd (crowded-not q (g .0))),
+      )
+      go false q = (
+        λ z. inr (room s (c .pat .count) .0 q, factor (factorize (mOf P) col) refl z),
+        ⊎-elim (λ g. absurd (g .0 (room s (c .pat .count) .0 q))) (λ g. rw (wild-exactly (mOf P) col .1 (g .1)) refl),
+      )
+
+  rest-singular : (stored-by fits ≡ stopped Stop·Singular) ↔ FactorBroken P s e c value diff row coeff leaving Flat
+  unfolding FactorBroken
+  rest-singular = go fits refl
+    where
+      factor : (o : Factoring Factor) → factorize (mOf P) col ≡ o → withFactor o ≡ stopped Stop·Singular
+          → SomeColumn (mOf P) col Flat
+      factor (factored f) q z = clash (cc)
+      factor notFinite q z = clash (cc)
+      factor singular q z = flat-exactly (mOf P) col .0 q
+
+      go : (b : Bool) → fits ≡ b → (stored-by b ≡ stopped Stop·Singular)
+          ↔ (Crowded s (c .pat .count) × SomeColumn (mOf P) col Flat)
+      go true q = (
+        λ z. absurd (nor column-broken (λ w. clash (cc)) taken z),
+        λ g. absurd (crowded-not q (g .0)),
+      )
+      go false q = (
+        λ z. (room s (c .pat .count) .0 q, factor (factorize (mOf P) col) refl z),
+        λ g. rw (flat-exactly (mOf P) col .1 (g .1)) refl,
+      )
+
+  rest-other : {w : Stop} → ¬ (stopped Stop·NotFinite ≡ stopped w) → ¬ (stopped Stop·Singular ≡ stopped w)
+      → ¬ (stored-by fits ≡ stopped w)
+  rest-other {w} a b = go fits
+    where
+      factor : (o : Factoring Factor) → ¬ (withFactor o ≡ stopped w)
+      factor (factored f) z = taken z
+      factor notFinite z = a z
+      factor singular z = b z
+
+      go : (b : Bool) → ¬ (stored-by b ≡ stopped w)
+      go true = nor column-broken a taken
+      go false = factor (factorize (mOf P) col)
+
+  -- it is made: told as j, to t
+  rest-moves : (j : PivotInfo) (t : State) → (stored-by fits ≡ moved j t)
+      ↔ ((¬ (EtaBroken P s e c value diff row coeff leaving ⊎ FactorBroken P s e c value diff row coeff leaving (λ _. Wild)))
+      × ((info ≡ j) × Exchanges P s e c value diff row coeff leaving t))
+  unfolding EtaBroken FactorBroken Exchanges
+  rest-moves j t = go fits refl
+    where
+      full : fits ≡ false → Crowded s (c .pat .count)
+      full q = room s (c .pat .count) .0 q
+
+      Broken : Type 0
+      Broken = ((¬ Crowded s (c .pat .count)) × Some (c .pat .count) (λ k. NotFinite (etaEntryAt c row coeff k)))
+          ⊎ (Crowded s (c .pat .count) × SomeColumn (mOf P) col (λ _. Wild))
+
+      Made : Type 0
+      Made = ((¬ Crowded s (c .pat .count)) × (t ≡ exchanged P s e c r h value diff row coeff leaving))
+          ⊎ (Crowded s (c .pat .count)
+          × ((f : Factor) × (factorize (mOf P) col ≡ factored f) × (t ≡ refactored P s e c r h value diff row coeff leaving f)))
+
+      factor : (o : Factoring Factor) → factorize (mOf P) col ≡ o → withFactor o ≡ moved j t
+          → (info ≡ j) × ((f : Factor) × (factorize (mOf P) col ≡ factored f)
+          × (t ≡ refactored P s e c r h value diff row coeff leaving f))
+      factor (factored f) q z = (cc, (f, q, cc))
+      factor notFinite q z = clash (cc)
+      factor singular q z = clash (cc)
+
+      sound : fits ≡ false → {f : Factor} → factorize (mOf P) col ≡ factored f → ¬ Broken
+      sound q p = ⊎-elim (λ g. g .0 (full q)) (λ g. let w = wild-exactly (mOf P) col .1 (g .1) in clash (cc))
+
+      made : (withColumn ≡ moved j t)
+          ↔ ((¬ Some (c .pat .count) (λ k. NotFinite (etaEntryAt c row coeff k)))
+          × (moved info (exchanged P s e c r h value diff row coeff leaving) ≡ moved j t))
+      made = past column-broken (λ w. clash (cc)) Iff·rfl
+
+      go : (b : Bool) → fits ≡ b → (stored-by b ≡ moved j t) ↔ ((¬ Broken) × ((info ≡ j) × Made))
+      go true q = (
+        λ z.
+            let x = made .0 z in
+            let y : moved info (exchanged P s e c r h value diff row coeff leaving) ≡ moved j t = x .1 in
+            (⊎-elim (λ g. x .0 (g .1)) (λ g. crowded-not q (g .0)), (cc, inl (crowded-not q, cc))),
+        λ x.
+            made .1 (
+              (λ g. x .0 (inl (crowded-not q, g))),
+              ⊎-elim (λ m. let a : info ≡ j = x .1 .0 in let b : t ≡ _ = m .1 in cc)
+                  (λ m. absurd (crowded-not q (m .0))) (x .1 .1),
+            ),
+      )
+      go false q = (
+        λ z. let x = factor (factorize (mOf P) col) refl z in
+            (sound q (x .1 .1), (x .0, inr (full q, x .1))),
+        λ x. ⊎-elim (λ m. absurd (m .0 (full q)))
+            (λ m. let a = x .1 .0 in let b = m .1 .1 in let d = m .1 .2 in cc) (x .1 .1),
+      )
+
 -- ---- the chosen step
 module _ (P : Problem) (s : State) (e : Entering) (c : Sv) where
   pub flip-broken : (value diff : Float) → (flipFinite P s e c value diff ≡ false) ↔ FlipBroken P s e c value diff
   unfolding flipFinite FlipBroken
   flip-broken value diff = simp and-assoc (itself or itself or stored-finite _ _)
 
-  pub exchange-broken : (value diff : Float) (row : ℕ) (coeff leaving : Float) →
-      (listedFinite (rowCoeffsOf P s row) && listedFinite (helperOf P s c) && exchangeFinite P s e c (rowCoeffsOf P s row) (helperOf P s c) value diff row coeff leaving ≡ false)
-      ↔ ExchangeBroken P s e c value diff row coeff leaving
-  unfolding exchangeFinite etaFinite ExchangeBroken
-  exchange-broken value diff row coeff leaving =
-      simp and-assoc
-      (entries _ or entries _ or itself or stored-finite _ _ or itself or stored-finite _ _ or stored-finite _ _ or some-fails _ (λ k. itself))
+  pivot-broken : (i : PivotInfo) → (pivot P s e c i ≡ stopped Stop·NotFinite) ↔ StepBroken P s e c i
+  unfolding pivot flip exchange StepBroken
+  pivot-broken (Flip value diff) = only (flip-broken value diff) taken
+  pivot-broken (Exchange value diff row coeff leaving) =
+      let k = touchAt c row in
+      also (numbers-broken P s e k value diff row coeff leaving) (rest-broken P s e k value diff row coeff leaving)
 
-  -- its two tests: a flip needs no room
-  hasRoom : PivotInfo → Bool
-  hasRoom (Flip value diff) = true
-  hasRoom (Exchange value diff row coeff leaving) = etaFits s (c .pat .count)
-
-  allFinite : PivotInfo → Bool
-  allFinite (Flip value diff) = flipFinite P s e c value diff
-  allFinite (Exchange value diff row coeff leaving) =
-      listedFinite (rowCoeffsOf P s row)
-      && listedFinite (helperOf P s c)
-      && exchangeFinite P s e c (rowCoeffsOf P s row) (helperOf P s c) value diff row coeff leaving
-
-  no-room : (i : PivotInfo) → (hasRoom i ≡ false) ↔ StoreFull P s e c i
-  unfolding hasRoom StoreFull
-  no-room (Flip value diff) = (λ q. never refl q, λ h. absurd h)
-  no-room (Exchange value diff row coeff leaving) = room s (c .pat .count)
-
-  one-broken : (i : PivotInfo) → (allFinite i ≡ false) ↔ StepBroken P s e c i
-  unfolding allFinite StepBroken
-  one-broken (Flip value diff) = flip-broken value diff
-  one-broken (Exchange value diff row coeff leaving) = exchange-broken value diff row coeff leaving
-
-  -- "eta room; row solve; all new numbers; store"
-  in-order : (i : PivotInfo)
-      → pivot P s e c i
-      ≡ orStop (hasRoom i) Stop·NoRoom (orStop (allFinite i) Stop·NotFinite (moved i (stateAfter P s e c i)))
-  unfolding pivot flip exchange hasRoom allFinite stateAfter
-  in-order (Flip value diff) = refl
-  in-order (Exchange value diff row coeff leaving) = refl
-
-  pivot-full : (i : PivotInfo) → (pivot P s e c i ≡ stopped Stop·NoRoom) ↔ StoreFull P s e c i
-  pivot-full i = rw (in-order i) (only (no-room i) (nor (one-broken i) (λ q. clash (cc)) taken))
-
-  pivot-broken : (i : PivotInfo)
-      → (pivot P s e c i ≡ stopped Stop·NotFinite) ↔ ((¬ StoreFull P s e c i) × StepBroken P s e c i)
-  pivot-broken i = rw (in-order i) (past (no-room i) (λ q. clash (cc)) (only (one-broken i) taken))
+  pivot-singular : (i : PivotInfo) → (pivot P s e c i ≡ stopped Stop·Singular) ↔ StepSingular P s e c i
+  unfolding pivot flip exchange StepSingular
+  pivot-singular (Flip value diff) = (λ z. absurd (nor (flip-broken value diff) (λ q. clash (cc)) taken z), λ h. absurd h)
+  pivot-singular (Exchange value diff row coeff leaving) =
+      let k = touchAt c row in
+      past (numbers-broken P s e k value diff row coeff leaving) (λ q. clash (cc)) (rest-singular P s e k value diff row coeff leaving)
 
   pivot-other : {w : Stop} (i : PivotInfo) → ¬ (stopped Stop·NotFinite ≡ stopped w)
-      → ¬ (stopped Stop·NoRoom ≡ stopped w) → ¬ (pivot P s e c i ≡ stopped w)
-  pivot-other i n f = rw (in-order i) (nor (no-room i) f (nor (one-broken i) n taken))
+      → ¬ (stopped Stop·Singular ≡ stopped w) → ¬ (pivot P s e c i ≡ stopped w)
+  unfolding pivot flip exchange
+  pivot-other (Flip value diff) n f = nor (flip-broken value diff) n taken
+  pivot-other (Exchange value diff row coeff leaving) n f =
+      let k = touchAt c row in
+      nor (numbers-broken P s e k value diff row coeff leaving) n (rest-other P s e k value diff row coeff leaving n f)
 
   -- i is taken, and told as j and t
   abbrev Taken : PivotInfo → State → PivotInfo → Type 0
-  Taken j t i = (¬ StoreFull P s e c i) × ((¬ StepBroken P s e c i) × (moved i (stateAfter P s e c i) ≡ moved j t))
+  Taken j t i = (¬ StepBroken P s e c i) × ((i ≡ j) × StoresTo P s e c i t)
 
   pivot-moves : (j : PivotInfo) (t : State) (i : PivotInfo) → (pivot P s e c i ≡ moved j t) ↔ Taken j t i
-  pivot-moves j t i = rw (in-order i) (past (no-room i) (λ q. clash (cc)) (past (one-broken i) (λ q. clash (cc)) Iff·rfl))
+  unfolding pivot flip exchange StepBroken StoresTo
+  pivot-moves j t (Flip value diff) =
+      Iff·trans (past (flip-broken value diff) (λ q. clash (cc)) Iff·rfl)
+      ((λ x. (x .0, (cc (x .1), cc (x .1)))), (λ x. (x .0, let a = x .1 .0 in let b = x .1 .1 in cc)))
+  pivot-moves j t (Exchange value diff row coeff leaving) =
+      let k = touchAt c row in
+      Iff·trans
+      (past (numbers-broken P s e k value diff row coeff leaving) (λ q. clash (cc))
+      (rest-moves P s e k value diff row coeff leaving j t))
+      ((λ x. (⊎-elim (x .0) (x .1 .0), x .1 .1)), (λ x. ((λ g. x .0 (inl g)), ((λ g. x .0 (inr g)), x .1))))
 
 -- ---- after the ratio, said in the words G of what it gives
 abbrev after : (PivotInfo → Outcome) → Ratio → Outcome
@@ -191,10 +328,10 @@ module _ (P : Problem) (s : State) (e : Entering) where
   step-chosen b u x = past (entries c) b (after-chosen ratio-gives (pivot P s e c) b u x)
 
   never-ends : (w : Stop) → ¬ (stopped Stop·NotFinite ≡ stopped w) → ¬ (stopped Stop·Unbounded ≡ stopped w)
-      → ¬ (stopped Stop·NoRoom ≡ stopped w) → ¬ (step P s e ≡ stopped w)
+      → ¬ (stopped Stop·Singular ≡ stopped w) → ¬ (step P s e ≡ stopped w)
   never-ends w b n f q = step-chosen {X = λ _. ⊥} b n (λ i. (pivot-other P s e c i b f, λ h. absurd h)) .0 q .1 .2
 
-  -- 01, "One step": 20, 22 and 23 are given exactly when the order of a step comes to them
+  -- 01, "One step": 20, 23 and 25 are given exactly when the order of a step comes to them
   pub step-stops : (w : Stop) → (step P s e ≡ stopped w) ↔ Stops P s e w
   unfolding step StopsWith
   step-stops Finished = (never-ends Finished (λ q. clash (cc)) (λ q. clash (cc)) (λ q. clash (cc)), λ h. absurd h)
@@ -202,7 +339,7 @@ module _ (P : Problem) (s : State) (e : Entering) where
   step-stops Stop·Unbounded =
       past (entries c) (λ q. clash (cc))
       (after-unbounded ratio-gives (pivot P s e c) (λ i. pivot-other P s e c i (λ q. clash (cc)) (λ q. clash (cc))))
-  step-stops Stop·NoRoom = step-chosen (λ q. clash (cc)) (λ q. clash (cc)) (pivot-full P s e c)
+  step-stops Stop·Singular = step-chosen (λ q. clash (cc)) (λ q. clash (cc)) (pivot-singular P s e c)
   step-stops Stop·NotFinite = also (entries c) (after-broken ratio-gives (pivot P s e c) (pivot-broken P s e c))
 
   -- and a step is taken exactly when nothing stops it: the one that the ratio gives, to the state that it stores
@@ -212,10 +349,8 @@ module _ (P : Problem) (s : State) (e : Entering) where
       to : (¬ EntryBroken c) × Chosen P s e c (Taken P s e c i t) → Moves P s e i t
       to h =
           let x = h .1 .2 in
-          let same : h .1 .0 ≡ i = cc (x .1 .1) in
-          let there : stateAfter P s e c (h .1 .0) ≡ t = cc (x .1 .1) in
-          subst (λ (k : PivotInfo). Moves P s e k t) same
-          (record { column = h .0; chosen = h .1 .1; room = x .0; numbers = x .1 .0; after = sym there })
+          subst (λ (k : PivotInfo). Moves P s e k t) (x .1 .0)
+          (record { column = h .0; chosen = h .1 .1; numbers = x .0; after = x .1 .1 })
 
       from : Moves P s e i t → (¬ EntryBroken c) × Chosen P s e c (Taken P s e c i t)
-      from x = (x .column, (i, x .chosen, (x .room, (x .numbers, ap (moved i) (sym (x .after))))))
+      from x = (x .column, (i, x .chosen, (x .numbers, (refl, x .after))))

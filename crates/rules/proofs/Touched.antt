@@ -21,7 +21,7 @@ use Rattle.doubles.proofs.Tests.{true-by}
 use Rattle.sparse.specs.Scattered.{Sv, blank, putAt, touched, touchedBy, listed, listedVal, relisted}
 use Rattle.sparse.proofs.Laws.{untouched, no-both, none-set, falses, listed-marked, marked-listed}
 use Rattle.rules.specs.Plan.{Problem, State, Etas, nOf, mOf, rowCols, rowCoeffs, varStateOf}
-use Rattle.rules.specs.Basis.{factorSolveTransp, etaTurnTransp, solveEtasTransp, solveTransp, addEntry, addTurn, addRow, combine, rowCoeffsOf, helperOf}
+use Rattle.rules.specs.Basis.{factorSolve, factorSolveTransp, solveEtas, solve, etaTurnTransp, solveEtasTransp, solveTransp, rowSolve, scattered, colCoeffs, addEntry, addTurn, addRow, combine, rowCoeffsOf, helperOf}
 use Rattle.rules.specs.Invariant.{ProblemFits, Store, Fits, Vector, Touched}
 use Rattle.rules.proofs.Maps.{split}
 use Rattle.rules.proofs.Vectors.{vector-blank, vector-putAt, rows-places, columns-places, vector-addEntry, vector-addRow, vector-combine, relisted-vector}
@@ -69,6 +69,17 @@ unfolding down
 together step R zero turn s t r = r
 together step R (suc n) turn s t r = together step R n (λ k u w l. turn k u w (omega arith)) (step n s) (step n t) (turn n s t (omega arith) r)
 
+-- ---- while there is no factor, a solve is that of the etas alone
+pub row-solve-first : (P : Problem) (s : State) → s .factor .there ≡ false → (y : Sv)
+    → rowSolve P s y ≡ solveEtasTransp (s .ws .etas) (s .etaCount) y
+unfolding solveTransp factorSolveTransp
+row-solve-first P s e y = rw e refl
+
+pub column-solve-first : (P : Problem) (s : State) → s .factor .there ≡ false → (v : ℕ)
+    → colCoeffs P s v ≡ solveEtas (s .ws .etas) (s .etaCount) (scattered P v)
+unfolding colCoeffs solve factorSolve
+column-solve-first P s e v = rw e refl
+
 -- ---- the transposed solve
 module _ (P : Problem) (f : ProblemFits P) where
   -- t is touched wherever s is
@@ -89,8 +100,8 @@ module _ (P : Problem) (f : ProblemFits P) where
       }
 
   module _ (h : Etas) (count : ℕ) (st : Store P h count) where
-    solves-cover : (s t : Sv) → Covers s t → Covers (solveTransp h count s) (solveTransp h count t)
-    unfolding solveTransp solveEtasTransp factorSolveTransp etaTurnTransp
+    solves-cover : (s t : Sv) → Covers s t → Covers (solveEtasTransp h count s) (solveEtasTransp h count t)
+    unfolding solveEtasTransp etaTurnTransp
     solves-cover s t c = together (etaTurnTransp h) Covers count (λ k u w l r. covers-putAt u w (h .leaving # k) _ _ (st .column k l .leaves) r) s t c
 
   -- ---- rows combined: what row r puts at place j
@@ -174,7 +185,8 @@ module _ (P : Problem) (f : ProblemFits P) where
           (λ t g. row-at (listed y k) (listedVal y k) t g q)
 
 -- ---- the row and the helper of an exchange
-module _ (P : Problem) (f : ProblemFits P) (s : State) (g : Fits P s) (c : Sv) (v : Vector (mOf P) c) (place : ℕ) (h : place < c .pat .count) where
+module _ (P : Problem) (f : ProblemFits P) (s : State) (g : Fits P s) (c : Sv) (v : Vector (mOf P) c) (place : ℕ) (h : place < c .pat .count)
+    (first : s .factor .there ≡ false) where
   abbrev row : ℕ
   row = listed c place
 
@@ -182,11 +194,11 @@ module _ (P : Problem) (f : ProblemFits P) (s : State) (g : Fits P s) (c : Sv) (
   row-inside = v .places-below .below place h
 
   -- the results of the two solves
-  abbrev rowSolve : Sv
-  rowSolve = solveTransp (s .ws .etas) (s .etaCount) (putAt blank row f1)
+  abbrev rowSolved : Sv
+  rowSolved = solveEtasTransp (s .ws .etas) (s .etaCount) (putAt blank row f1)
 
-  abbrev helperSolve : Sv
-  helperSolve = solveTransp (s .ws .etas) (s .etaCount) (relisted c)
+  abbrev helperSolved : Sv
+  helperSolved = solveEtasTransp (s .ws .etas) (s .etaCount) (relisted c)
 
   relists : Touched (relisted c) row
   unfolding relisted
@@ -196,7 +208,7 @@ module _ (P : Problem) (f : ProblemFits P) (s : State) (g : Fits P s) (c : Sv) (
       (λ k t l u w. touched-still t u _ _ (omega (arith, v .places-below .below k l, rows-places P f)) row w)
       place h (λ t u. touched-at t u row _ (omega (arith, row-inside, rows-places P f)))
 
-  solves : Covers P f rowSolve helperSolve
+  solves : Covers P f rowSolved helperSolved
   solves =
       solves-cover P f (s .ws .etas) (s .etaCount) (g .store) (putAt blank row f1) (relisted c) (record {
         first = vector-putAt blank row f1 (rows-places P f) vector-blank row-inside;
@@ -204,13 +216,17 @@ module _ (P : Problem) (f : ProblemFits P) (s : State) (g : Fits P s) (c : Sv) (
         over = λ i u. ⊎-elim (λ (q : i ≡ row). rw q relists) (λ w. absurd (none-touched i w)) (touched-by blank row f1 i u);
       })
 
-  -- every place of the row list is a touched place of the helper
+  in-helper : (k : ℕ) → k < combine P (s .ws .varStates) rowSolved .pat .count
+      → Touched (combine P (s .ws .varStates) helperSolved) (listed (combine P (s .ws .varStates) rowSolved) k)
+  in-helper k l =
+      let vs = s .ws .varStates in
+      let j : ℕ = listed (combine P vs rowSolved) k in
+      let by = combine-by P f vs j rowSolved (listed-marked (combine P vs rowSolved) (vector-combine P f vs rowSolved .good) k l) in
+      let there = marked-listed helperSolved (solves .second .good) (listed rowSolved (by .0)) (solves .over _ (listed-marked rowSolved (solves .first .good) (by .0) (by .1))) in
+      combine-at P f vs j helperSolved (there .0) (there .1) (rw (there .2) (by .2))
+
+  -- while there is no factor, every place of the row list is a touched place of the helper
   pub row-in-helper : (k : ℕ) → k < rowCoeffsOf P s (listed c place) .pat .count
       → Touched (helperOf P s c) (listed (rowCoeffsOf P s (listed c place)) k)
   unfolding rowCoeffsOf helperOf
-  row-in-helper k l =
-      let vs = s .ws .varStates in
-      let j : ℕ = listed (combine P vs rowSolve) k in
-      let by = combine-by P f vs j rowSolve (listed-marked (combine P vs rowSolve) (vector-combine P f vs rowSolve .good) k l) in
-      let there = marked-listed helperSolve (solves .second .good) (listed rowSolve (by .0)) (solves .over _ (listed-marked rowSolve (solves .first .good) (by .0) (by .1))) in
-      combine-at P f vs j helperSolve (there .0) (there .1) (rw (there .2) (by .2))
+  row-in-helper = rw (row-solve-first P s first (putAt blank row f1), row-solve-first P s first (relisted c)) in-helper

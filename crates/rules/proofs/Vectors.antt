@@ -15,10 +15,13 @@ use Rattle.doubles.specs.Loop.{run, each}
 use Rattle.doubles.specs.Lists.{_!_, _#_}
 use Rattle.doubles.proofs.Loops.{keeps, keeps-down}
 use Rattle.sparse.specs.Scattered.{Sv, blank, putAt, listed, listedVal, takeTurn, takeOff, relisted}
-use Rattle.sparse.proofs.Laws.{good-putAt, below-putAt, good-blank, below-blank, count-below, listed-once}
-use Rattle.rules.specs.Plan.{Problem, State, Etas, Entry, entry, nOf, mOf, rowCols, rowCoeffs, column, columnTurn, columnRow, varStateOf}
-use Rattle.rules.specs.Basis.{factorSolve, factorSolveTransp, etaRowsOf, etaCoeffsOf, etaTurn, solveEtas, solve, etaTurnTransp, solveEtasTransp, solveTransp, colCoeffs, addEntry, addTurn, addRow, combine, rowCoeffsOf, helperOf}
-use Rattle.rules.specs.Invariant.{ProblemFits, Store, Fits, Vector}
+use Rattle.sparse.proofs.Laws.{wf-touched, untouched, good-putAt, below-putAt, good-blank, below-blank, count-below, listed-once}
+use Rattle.lu_factor_rules.specs.Packed.{packedSolve, packedSolveTransp}
+use Rattle.lu_factor_rules.specs.Ready.{Vector as Ordered}
+use Rattle.lu_apply.proofs.Laws.{vector-solve-in, vector-solve-transp-in}
+use Rattle.rules.specs.Plan.{Problem, State, Etas, Factored, Entry, entry, nOf, mOf, rowCols, rowCoeffs, column, columnTurn, columnRow, varStateOf}
+use Rattle.rules.specs.Basis.{factorSolve, factorSolveTransp, etaRowsOf, etaCoeffsOf, etaTurn, solveEtas, solve, etaTurnTransp, solveEtasTransp, solveTransp, factorBy, rowSolve, scattered, touchAt, colCoeffs, addEntry, addTurn, addRow, combine, rowCoeffsOf, helperOf}
+use Rattle.rules.specs.Invariant.{ProblemFits, Store, FactorFits, Fits, Vector}
 use Rattle.rules.proofs.Lists.{part-long, part-at, snoc-at}
 
 -- ---- a vector with places below m
@@ -83,8 +86,43 @@ module _ (P : Problem) (v : ℕ) (Q : ℕ → Type 0)
 column-below : (P : Problem) (v : ℕ) → v < nOf P + mOf P → (k : ℕ) → k < length (column P v) → getD (column P v) k e0 .at < mOf P
 column-below P v h = column-rows P v (λ r. r < mOf P) (λ r l k _ _. l) (λ l. omega arith)
 
-abbrev pub scattered : Problem → ℕ → Sv
-scattered P v = each (column P v) (λ e t. putAt t (e .at) (e .val)) blank
+-- ---- the factor's solves keep a vector in order
+pub in-order : {m : ℕ} {s : Sv} → Vector m s → Ordered m s
+in-order v = record { good = v .good; below = v .places-below }
+
+of-order : {m : ℕ} {s : Sv} → Ordered m s → Vector m s
+of-order v = record { good = v .good; places-below = v .below }
+
+module _ {m : ℕ} (F : Factored) (f : FactorFits m F) (y : Sv) (v : Vector m y) where
+  vector-factor : Vector m (factorSolve m F y)
+  unfolding factorSolve packedSolve
+  vector-factor = go (F .there) refl
+    where
+      go : (b : Bool) → F .there ≡ b → Vector m (factorBy b (packedSolve m (F .numbers) (F .coeffs)) y)
+      go true e = of-order (vector-solve-in (f .solid e) (in-order v))
+      go false e = v
+
+  vector-factor-transp : Vector m (factorSolveTransp m F y)
+  unfolding factorSolveTransp packedSolveTransp
+  vector-factor-transp = go (F .there) refl
+    where
+      go : (b : Bool) → F .there ≡ b → Vector m (factorBy b (packedSolveTransp m (F .numbers) (F .coeffs)) y)
+      go true e = of-order (vector-solve-transp-in (f .solid-transposed e) (in-order v))
+      go false e = v
+
+-- a touched place
+pub vector-touchAt : {m : ℕ} (s : Sv) (i : ℕ) → m ≤ places → Vector m s → i < m → Vector m (touchAt s i)
+unfolding touchAt putAt
+vector-touchAt s i h v l =
+    let g = v .good in
+    record {
+      good = record {
+        vals-long = g .vals-long;
+        wf = wf-touched (s .pat) (g .wf) i (omega arith);
+        zeros = λ j k f. g .zeros j k (untouched (s .pat) i j (omega (arith, g .wf .marks-long)) f .1);
+      };
+      places-below = record { below = below-putAt s i f0 (v .places-below) l .below };
+    }
 
 module _ (P : Problem) (f : ProblemFits P) where
   pub rows-places : mOf P ≤ places
@@ -109,14 +147,24 @@ module _ (P : Problem) (f : ProblemFits P) where
         keeps (takeTurn (y .vals ! (h .leaving # k)) rows (etaCoeffsOf h k)) y (λ _. Vector (mOf P)) (length rows)
         (λ i t g u. vector-putAt t (rows # i) _ rows-places u (eta-row k l i g)) v (length rows) (le-refl (length rows))
 
-    pub vector-solve : (y : Sv) → Vector (mOf P) y → Vector (mOf P) (solve h count y)
-    unfolding solve solveEtas factorSolve
-    vector-solve y v = keeps (etaTurn h) y (λ _. Vector (mOf P)) count (λ k t l u. vector-etaTurn k l t u) v count (le-refl count)
+    vector-solveEtas : (y : Sv) → Vector (mOf P) y → Vector (mOf P) (solveEtas h count y)
+    unfolding solveEtas
+    vector-solveEtas y v =
+        keeps (etaTurn h) y (λ _. Vector (mOf P)) count (λ k t l u. vector-etaTurn k l t u) v count (le-refl count)
 
-    pub vector-solveTransp : (y : Sv) → Vector (mOf P) y → Vector (mOf P) (solveTransp h count y)
-    unfolding solveTransp solveEtasTransp factorSolveTransp etaTurnTransp
-    vector-solveTransp y v =
+    pub vector-solveEtasTransp : (y : Sv) → Vector (mOf P) y → Vector (mOf P) (solveEtasTransp h count y)
+    unfolding solveEtasTransp etaTurnTransp
+    vector-solveEtasTransp y v =
         keeps-down (etaTurnTransp h) (Vector (mOf P)) count (λ k t l u. vector-putAt t (h .leaving # k) _ rows-places u (st .column k l .leaves)) y v
+
+    module _ (F : Factored) (fits : FactorFits (mOf P) F) where
+      vector-solve : (y : Sv) → Vector (mOf P) y → Vector (mOf P) (solve (mOf P) F h count y)
+      unfolding solve
+      vector-solve y v = vector-solveEtas (factorSolve (mOf P) F y) (vector-factor F fits y v)
+
+      vector-solveTransp : (y : Sv) → Vector (mOf P) y → Vector (mOf P) (solveTransp (mOf P) F h count y)
+      unfolding solveTransp
+      vector-solveTransp y v = vector-factor-transp F fits (solveEtasTransp h count y) (vector-solveEtasTransp y v)
 
   -- ---- rows combined
   pub vector-addEntry : (vs : List ℕ) (v : ℕ) (x : Float) (s : Sv) → Vector (nOf P) s → Vector (nOf P) (addEntry (nOf P) vs v x s)
@@ -161,15 +209,15 @@ module _ (P : Problem) (f : ProblemFits P) where
 
     pub column-vector : (v : ℕ) → v < nOf P + mOf P → Vector (mOf P) (colCoeffs P s v)
     unfolding colCoeffs
-    column-vector v l = vector-solve (s .ws .etas) (s .etaCount) long (g .store) _ (scattered-vector v l)
+    column-vector v l = vector-solve (s .ws .etas) (s .etaCount) long (g .store) (s .factor) (g .factor) _ (scattered-vector v l)
 
     -- the row solve's own result
-    pub row-solve-vector : (r : ℕ) → r < mOf P → Vector (mOf P) (solveTransp (s .ws .etas) (s .etaCount) (putAt blank r f1))
-    row-solve-vector r l = vector-solveTransp (s .ws .etas) (s .etaCount) long (g .store) _ (vector-putAt blank r f1 rows-places vector-blank l)
+    pub row-solve-vector : (r : ℕ) → r < mOf P → Vector (mOf P) (rowSolve P s (putAt blank r f1))
+    row-solve-vector r l = vector-solveTransp (s .ws .etas) (s .etaCount) long (g .store) (s .factor) (g .factor) _ (vector-putAt blank r f1 rows-places vector-blank l)
 
     -- and the helper's
-    pub helper-solve-vector : (c : Sv) → Vector (mOf P) c → Vector (mOf P) (solveTransp (s .ws .etas) (s .etaCount) (relisted c))
-    helper-solve-vector c v = vector-solveTransp (s .ws .etas) (s .etaCount) long (g .store) _ (relisted-vector c v)
+    pub helper-solve-vector : (c : Sv) → Vector (mOf P) c → Vector (mOf P) (rowSolve P s (relisted c))
+    helper-solve-vector c v = vector-solveTransp (s .ws .etas) (s .etaCount) long (g .store) (s .factor) (g .factor) _ (relisted-vector c v)
 
   pub row-vector : (s : State) (r : ℕ) → Vector (nOf P) (rowCoeffsOf P s r)
   unfolding rowCoeffsOf

@@ -1,7 +1,7 @@
 -- The column solve and the row solve: the factor, then the etas, or the other way round. From minilp 0.2.2, src/solver.rs, BasisSolver, Apache-2.0, changed. Assumes nothing.
 use mathlib.Core.Bool.{Bool, true, false, _&&_}
 use mathlib.Core.List.{List, _++_}
-use Prim.Native.Nat.{ℕ, _+_}
+use Prim.Native.Nat.{ℕ, suc, _+_}
 use lib.Dec.{ltb, leb, eqb}
 use lib.ListN.{length, set, take, drop}
 use lib.Ieee.{Float}
@@ -9,16 +9,22 @@ use Rattle.doubles.specs.Num.{_⊖_, _⊗_, _⊘_, f1}
 use Rattle.doubles.specs.Limits.{etaColumns, etaEntries}
 use Rattle.doubles.specs.Loop.{run, down, each}
 use Rattle.doubles.specs.Lists.{_!_, _#_, part}
-use Rattle.sparse.specs.Scattered.{Sv, blank, putAt, addAt, subAt, listed, listedVal, dot, takeOff, relisted}
-use Rattle.rules.specs.Plan.{Problem, State, Etas, nOf, rowCols, rowCoeffs, column, varStateOf}
+use Rattle.sparse.specs.Scattered.{Sv, svOf, blank, touched, putAt, addAt, subAt, listed, listedVal, dot, takeOff, relisted}
+use Rattle.lu_factor_rules.specs.Packed.{packedSolve, packedSolveTransp, packedNumbers, packedCoeffs}
+use Rattle.lu_factor_rules.specs.Factor.{Factor}
+use Rattle.rules.specs.Plan.{Problem, State, Etas, Factored, nOf, mOf, rowCols, rowCoeffs, column, varStateOf}
 use Rattle.rules.specs.declared.VarState.the-variants.{Basic, NonBasic}
 
--- "The first factor is the identity"
-unfoldable pub factorSolve : Sv → Sv
-factorSolve s = s
+-- ---- the factor. 01: "The first factor is the identity"; later ones are read out of their arrays, over m rows
+abbrev pub factorBy : Bool → (Sv → Sv) → Sv → Sv
+factorBy true f s = f s
+factorBy false f s = s
 
-unfoldable pub factorSolveTransp : Sv → Sv
-factorSolveTransp s = s
+unfoldable pub factorSolve : ℕ → Factored → Sv → Sv
+factorSolve m F s = factorBy (F .there) (packedSolve m (F .numbers) (F .coeffs)) s
+
+unfoldable pub factorSolveTransp : ℕ → Factored → Sv → Sv
+factorSolveTransp m F s = factorBy (F .there) (packedSolveTransp m (F .numbers) (F .coeffs)) s
 
 abbrev pub etaRowsOf : Etas → ℕ → List ℕ
 etaRowsOf h k = part (h .starts # k) (h .starts # (k + 1)) (h .rows)
@@ -33,8 +39,8 @@ etaTurn h k s = takeOff (s .vals ! (h .leaving # k)) (etaRowsOf h k) (etaCoeffsO
 unfoldable pub solveEtas : Etas → ℕ → Sv → Sv
 solveEtas h n s = run (etaTurn h) n s
 
-unfoldable pub solve : Etas → ℕ → Sv → Sv
-solve h n s = solveEtas h n (factorSolve s)
+unfoldable pub solve : ℕ → Factored → Etas → ℕ → Sv → Sv
+solve m F h n s = solveEtas h n (factorSolve m F s)
 
 -- ---- solve_transp: the etas in reverse, then the factor
 unfoldable pub etaTurnTransp : Etas → ℕ → Sv → Sv
@@ -43,12 +49,19 @@ etaTurnTransp h k s = subAt s (h .leaving # k) (dot (etaRowsOf h k) (etaCoeffsOf
 unfoldable pub solveEtasTransp : Etas → ℕ → Sv → Sv
 solveEtasTransp h n s = down (etaTurnTransp h) n s
 
-unfoldable pub solveTransp : Etas → ℕ → Sv → Sv
-solveTransp h n s = factorSolveTransp (solveEtasTransp h n s)
+unfoldable pub solveTransp : ℕ → Factored → Etas → ℕ → Sv → Sv
+solveTransp m F h n s = factorSolveTransp m F (solveEtasTransp h n s)
 
--- ---- calc_col_coeffs: the entering variable's column
+-- the state's own row solve
+abbrev pub rowSolve : Problem → State → Sv → Sv
+rowSolve P s y = solveTransp (mOf P) (s .factor) (s .ws .etas) (s .etaCount) y
+
+-- ---- a variable's column on a blank vector, and calc_col_coeffs: the entering variable's, solved
+abbrev pub scattered : Problem → ℕ → Sv
+scattered P v = each (column P v) (λ e t. putAt t (e .at) (e .val)) blank
+
 unfoldable pub colCoeffs : Problem → State → ℕ → Sv
-colCoeffs P s v = solve (s .ws .etas) (s .etaCount) (each (column P v) (λ e t. putAt t (e .at) (e .val)) blank)
+colCoeffs P s v = solve (mOf P) (s .factor) (s .ws .etas) (s .etaCount) (scattered P v)
 
 -- ---- calc_row_coeffs: rows combined at the non-basic places, with the maps before the exchange, in a row's stored
 -- order with the slack's 1.0 last
@@ -67,11 +80,15 @@ unfoldable pub combine : Problem → List ℕ → Sv → Sv
 combine P varStates y = run (λ k s. addRow P varStates (listed y k) (listedVal y k) s) (y .pat .count) blank
 
 unfoldable pub rowCoeffsOf : Problem → State → ℕ → Sv
-rowCoeffsOf P s r = combine P (s .ws .varStates) (solveTransp (s .ws .etas) (s .etaCount) (putAt blank r f1))
+rowCoeffsOf P s r = combine P (s .ws .varStates) (rowSolve P s (putAt blank r f1))
 
 -- sq_norms_update_helper. "An untouched place of sq_norms_update_helper counts as 0.0"
 unfoldable pub helperOf : Problem → State → Sv → Sv
-helperOf P s c = combine P (s .ws .varStates) (solveTransp (s .ws .etas) (s .etaCount) (relisted c))
+helperOf P s c = combine P (s .ws .varStates) (rowSolve P s (relisted c))
+
+-- 02, Ask 5, the two touches: place i is listed; one that wasn't holds 0.0
+unfoldable pub touchAt : Sv → ℕ → Sv
+touchAt s i = svOf (s .vals) (touched (s .pat) i)
 
 -- ---- push_eta_matrix. "Eta entry (ours): 1 - 1/pivot at the leaving row, else coefficient/pivot, in the column's listed order"
 unfoldable pub etaEntry : ℕ → Float → ℕ → Float → Float
@@ -84,7 +101,7 @@ etaEntryAt c row pivot k = etaEntry row pivot (listed c k) (listedVal c k)
 abbrev pub etaUsed : State → ℕ
 etaUsed s = s .ws .etas .starts # s .etaCount
 
--- 22: "the next eta column doesn't fit the room left"
+-- a column of k entries fits the room left
 unfoldable pub etaFits : State → ℕ → Bool
 etaFits s k = ltb (s .etaCount) etaColumns && leb (etaUsed s + k) etaEntries
 
@@ -111,4 +128,22 @@ pushEta c row pivot n h =
       starts = set (h .starts) (n + 1) (used + c .pat .count);
       rows = take used (h .rows) ++ t .rows;
       coeffs = take used (h .coeffs) ++ t .coeffs;
+    }
+
+-- ---- 02, Ask 5: the basis after an exchange. "Column i is that of basic variable i"
+abbrev pub basisAfter : Problem → State → ℕ → ℕ → ℕ → Sv
+basisAfter P s col row i = scattered P (set (s .ws .basicVars) row (s .ws .nbVars # col) # i)
+
+-- "etas empty, count 0, first start 0"
+abbrev pub noColumns : Etas → Etas
+noColumns h = record { leaving = h .leaving; starts = set (h .starts) 0 0; rows = h .rows; coeffs = h .coeffs }
+
+-- the factor in its arrays, counted
+abbrev pub factoredAnew : Factor → Factored → Factored
+factoredAnew f F =
+    record {
+      there = true;
+      times = suc (F .times);
+      numbers = packedNumbers f (F .numbers);
+      coeffs = packedCoeffs f (F .coeffs);
     }

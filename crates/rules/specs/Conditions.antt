@@ -10,14 +10,17 @@ use Rattle.doubles.specs.Num.{f0, f1, +inf, -inf, finite, infinite, size, _⊕_
 use Rattle.doubles.specs.Limits.{maxColumns, maxRows, maxEntries, maxBudget, etaColumns, etaEntries, countCells}
 use Rattle.doubles.specs.Lists.{_!_, _#_}
 use Rattle.doubles.specs.Words.{Above}
+use Rattle.lu_factor_rules.specs.Factor.{Partial, Factor, factored, factorize}
+use Rattle.lu_factor_rules.specs.Ends.{Wild as WildColumn, Flat, Some as SomeColumn}
+use Rattle.lu_factor_rules.specs.Packed.{factorNumbers, factorCoeffs}
 use Rattle.rules.specs.Plan.{Plan, Memory, Workspace, State, Problem, problemOf, nOf, mOf, rowCols, rowSum, slackMin, slackMax, varMin, varMax}
 use Rattle.rules.specs.Refusals.{zeroHolds}
 use Rattle.sparse.specs.Scattered.{Sv, listed, listedVal}
 use Rattle.rules.specs.Start.{startVals, startSlack, startObjective, startNorm, dualFeasible}
 use Rattle.rules.specs.Choose.{choose}
-use Rattle.rules.specs.Basis.{colCoeffs, rowCoeffsOf, helperOf, etaUsed, etaEntryAt}
+use Rattle.rules.specs.Basis.{colCoeffs, rowCoeffsOf, helperOf, touchAt, etaUsed, etaEntryAt, basisAfter}
 use Rattle.rules.specs.Choices.{RatioGives}
-use Rattle.rules.specs.Pivot.{newObjective, movedVal, flipped, newVal, newPrice, newNorm, exchanged}
+use Rattle.rules.specs.Pivot.{newObjective, movedVal, flipped, newVal, newPrice, newNorm, exchanged, refactored}
 use Rattle.rules.specs.FinalCheck.{valuesOf, counted, placesOf}
 use Rattle.rules.specs.Answers.{Row as Told, row, Place, nowhere, entryAt, columnAt, rowAt, valueAt, keptRowAt, asRow}
 use Rattle.rules.specs.Solve.{Solved, endOf}
@@ -27,7 +30,7 @@ use Rattle.rules.specs.declared.PivotInfo.{PivotInfo}
 use Rattle.rules.specs.declared.PivotInfo.the-variants.{Flip, Exchange}
 use Rattle.rules.specs.declared.Ratio.the-variants.{Pivot, Unbounded as Ratio·Unbounded, NotFinite as Ratio·NotFinite}
 use Rattle.rules.specs.declared.Stop.{Stop}
-use Rattle.rules.specs.declared.Stop.the-variants.{Finished, Spent as Stop·Spent, Unbounded as Stop·Unbounded, NoRoom as Stop·NoRoom, NotFinite as Stop·NotFinite}
+use Rattle.rules.specs.declared.Stop.the-variants.{Finished, Spent as Stop·Spent, Unbounded as Stop·Unbounded, NotFinite as Stop·NotFinite, Singular as Stop·Singular}
 use Rattle.rules.specs.declared.Checked.{Checked}
 use Rattle.rules.specs.declared.Checked.the-variants.{Passed, Value, Row}
 
@@ -85,6 +88,8 @@ MemoryShort p m =
     ⊎ WorkspaceShort (p .columns) (p .rows) (m .ws)
     ⊎ Short (m .counts) countCells
     ⊎ Short (m .objective) 1
+    ⊎ Short (m .factorNumbers) factorNumbers
+    ⊎ Short (m .factorCoeffs) factorCoeffs
 
 -- "the row starts don't begin at 0, fall, or don't end at the entry count"
 unfoldable pub StartsBad : Plan → Type 0
@@ -244,7 +249,7 @@ EntryBroken c = Some (c .pat .count) (λ k. NotFinite (listedVal c k))
 abbrev pub StoreBroken : Sv → (ℕ → Float) → Type 0
 StoreBroken c f = Some (c .pat .count) (λ k. NotFinite (f (listed c k)))
 
--- an eta column of k entries doesn't fit
+-- an eta column of k entries doesn't fit the room left
 unfoldable pub Crowded : State → ℕ → Type 0
 Crowded s k = (etaColumns ≤ s .etaCount) ⊎ (etaEntries < etaUsed s + k)
 
@@ -253,56 +258,78 @@ module _ (P : Problem) (s : State) (e : Entering) (c : Sv) where
   unfoldable pub FlipBroken : Float → Float → Type 0
   FlipBroken value diff = NotFinite (newObjective s e diff) ⊎ NotFinite value ⊎ StoreBroken c (movedVal (s .ws) c diff)
 
-  -- row and helper entries, as `exchange` of Step reads them, and every number that an exchange stores
-  unfoldable pub ExchangeBroken : Float → Float → ℕ → Float → Float → Type 0
-  ExchangeBroken value diff row pivot leaving =
-      let r = rowCoeffsOf P s row in
-      let h = helperOf P s c in
-      EntryBroken r
-      ⊎ EntryBroken h
-      ⊎ NotFinite (newObjective s e diff)
-      ⊎ StoreBroken c (newVal (s .ws) c value diff row)
-      ⊎ NotFinite leaving
-      ⊎ StoreBroken r (newPrice (s .ws) e pivot r)
-      ⊎ StoreBroken r (newNorm (s .ws) e c pivot r h)
-      ⊎ Some (c .pat .count) (λ k. NotFinite (etaEntryAt c row pivot k))
+  -- an exchange, by its numbers; c is touched at the leaving row already
+  module _ (value diff : Float) (row : ℕ) (pivot leaving : Float) where
+    abbrev exchangeRow : Sv
+    exchangeRow = touchAt (rowCoeffsOf P s row) (e .col)
 
-  -- "the next eta column doesn't fit the room left": an exchange alone has one
-  unfoldable pub StoreFull : PivotInfo → Type 0
-  StoreFull (Flip value diff) = ⊥
-  StoreFull (Exchange value diff row pivot leaving) = Crowded s (c .pat .count)
+    -- row and helper entries, as `exchange` of Step reads them, and every number that it stores but for those below
+    unfoldable pub ExchangeBroken : Type 0
+    ExchangeBroken =
+        EntryBroken exchangeRow
+        ⊎ EntryBroken (helperOf P s c)
+        ⊎ NotFinite (newObjective s e diff)
+        ⊎ StoreBroken c (newVal (s .ws) c value diff row)
+        ⊎ NotFinite leaving
+        ⊎ StoreBroken exchangeRow (newPrice (s .ws) e pivot exchangeRow)
+        ⊎ StoreBroken exchangeRow (newNorm (s .ws) e c pivot exchangeRow (helperOf P s c))
 
+    -- the eta column, where it fits
+    unfoldable pub EtaBroken : Type 0
+    EtaBroken = (¬ Crowded s (c .pat .count)) × Some (c .pat .count) (λ k. NotFinite (etaEntryAt c row pivot k))
+
+    -- the factor, where the column doesn't fit: a listed value isn't finite, or 02: "no pivot of at least EPS"
+    unfoldable pub FactorBroken : (Partial → Sv → Type 0) → Type 0
+    FactorBroken Such = Crowded s (c .pat .count) × SomeColumn (mOf P) (basisAfter P s (e .col) row) Such
+
+    unfoldable pub Exchanges : State → Type 0
+    Exchanges t =
+        ((¬ Crowded s (c .pat .count))
+        × (t ≡ exchanged P s e c exchangeRow (helperOf P s c) value diff row pivot leaving))
+        ⊎ (Crowded s (c .pat .count)
+        × ((f : Factor) × (factorize (mOf P) (basisAfter P s (e .col) row) ≡ factored f)
+        × (t ≡ refactored P s e c exchangeRow (helperOf P s c) value diff row pivot leaving f)))
+
+module _ (P : Problem) (s : State) (e : Entering) (c : Sv) where
   -- not all of "row and helper entries and every number to be stored" are finite
   unfoldable pub StepBroken : PivotInfo → Type 0
-  StepBroken (Flip value diff) = FlipBroken value diff
-  StepBroken (Exchange value diff row pivot leaving) = ExchangeBroken value diff row pivot leaving
+  StepBroken (Flip value diff) = FlipBroken P s e c value diff
+  StepBroken (Exchange value diff row pivot leaving) =
+      let k = touchAt c row in
+      ExchangeBroken P s e k value diff row pivot leaving
+      ⊎ EtaBroken P s e k value diff row pivot leaving
+      ⊎ FactorBroken P s e k value diff row pivot leaving (λ _. WildColumn)
+
+  -- 25: every number is finite so far, but a column of the new basis has no pivot
+  unfoldable pub StepSingular : PivotInfo → Type 0
+  StepSingular (Flip value diff) = ⊥
+  StepSingular (Exchange value diff row pivot leaving) =
+      let k = touchAt c row in
+      (¬ ExchangeBroken P s e k value diff row pivot leaving) × FactorBroken P s e k value diff row pivot leaving Flat
 
   -- what is stored
-  unfoldable pub stateAfter : PivotInfo → State
-  stateAfter (Flip value diff) = flipped P s e c value diff
-  stateAfter (Exchange value diff row pivot leaving) =
-      exchanged P s e c (rowCoeffsOf P s row) (helperOf P s c) value diff row pivot leaving
+  unfoldable pub StoresTo : PivotInfo → State → Type 0
+  StoresTo (Flip value diff) t = t ≡ flipped P s e c value diff
+  StoresTo (Exchange value diff row pivot leaving) t = Exchanges P s e (touchAt c row) value diff row pivot leaving t
 
   -- the ratio gives a step of which X holds
   abbrev pub Chosen : (PivotInfo → Type 0) → Type 0
   Chosen X = (i : PivotInfo) × RatioGives P (s .ws) e c (Pivot i) × X i
 
-  -- 20, 22 and 23, in 01's order: "column solve; ratio; Unbounded; eta room; row solve; all new numbers"
+  -- 20, 23 and 25, in their order: column solve; ratio; Unbounded; row solve; all new numbers; eta entries or factor
   unfoldable pub StopsWith : Stop → Type 0
   StopsWith Finished = ⊥
   StopsWith Stop·Spent = ⊥
   StopsWith Stop·Unbounded = (¬ EntryBroken c) × RatioGives P (s .ws) e c Ratio·Unbounded
-  StopsWith Stop·NoRoom = (¬ EntryBroken c) × Chosen StoreFull
-  StopsWith Stop·NotFinite =
-      EntryBroken c ⊎ RatioGives P (s .ws) e c Ratio·NotFinite ⊎ Chosen (λ i. (¬ StoreFull i) × StepBroken i)
+  StopsWith Stop·NotFinite = EntryBroken c ⊎ RatioGives P (s .ws) e c Ratio·NotFinite ⊎ Chosen StepBroken
+  StopsWith Stop·Singular = (¬ EntryBroken c) × Chosen StepSingular
 
   -- the step i is taken, to t: none of these stops it
   pub record MovesBy (i : PivotInfo) (t : State) : Type 0 where
     pub column : ¬ EntryBroken c
     pub chosen : RatioGives P (s .ws) e c (Pivot i)
-    pub room : ¬ StoreFull i
     pub numbers : ¬ StepBroken i
-    pub after : t ≡ stateAfter i
+    pub after : StoresTo i t
 
 -- with the column that the step solves for
 abbrev pub stepColumn : Problem → State → Entering → Sv
@@ -345,10 +372,10 @@ Ends P s Finished =
 -- "budget spent and a column would enter"
 Ends P s Stop·Spent = (e : Entering) × Goes P s e × (s .steps ≡ P .plan .budget)
 Ends P s Stop·Unbounded = Halts P s Stop·Unbounded
-Ends P s Stop·NoRoom = Halts P s Stop·NoRoom
 Ends P s Stop·NotFinite = Halts P s Stop·NotFinite
+Ends P s Stop·Singular = Halts P s Stop·Singular
 
--- ---- the table's lines for 0 and 20 to 24. "Answers 0 and 20 to 24 carry the objective and step count of that state";
+-- ---- the table's lines for 0, 20, 21 and 23 to 25. "Answers 0 and 20 to 24 carry the objective and step count of that state";
 -- 02: "Every caller and answer 24 carries the excess"
 pub data Line (P : Problem) (s : State) : Told → Type 0 where
   -- "Status 0 is Optimal"
@@ -357,10 +384,10 @@ pub data Line (P : Problem) (s : State) : Told → Type 0 where
   unbounded : Ends P s Stop·Unbounded → Line P s (row 20 (s .objective) (s .steps) f0 nowhere)
   -- "budget spent and a column would enter"
   spent : Ends P s Stop·Spent → Line P s (row 21 (s .objective) (s .steps) f0 nowhere)
-  -- "the next eta column doesn't fit the room left"
-  store-full : Ends P s Stop·NoRoom → Line P s (row 22 (s .objective) (s .steps) f0 nowhere)
   -- "a named number of the step isn't finite"
   not-finite : Ends P s Stop·NotFinite → Line P s (row 23 (s .objective) (s .steps) f0 nowhere)
+  -- 02: "no pivot of at least EPS gives the new status 25"
+  singular : Ends P s Stop·Singular → Line P s (row 25 (s .objective) (s .steps) f0 nowhere)
   -- "the final check rejects", with the largest excess and its place
   value-rejected : (v : ℕ) (x : Float) → Ends P s Finished → Checks P (valuesOf P (s .ws)) (Value v x)
       → Line P s (row 24 (s .objective) (s .steps) x (valueAt v))

@@ -1,7 +1,7 @@
 -- What holds of the plan once 1 to 3 have passed, and of the state at the start and after every step. Arrays may be longer than needed. Assumes nothing.
 -- One record for each index, so that arithmetic can read it.
 use mathlib.Core.Path.{_≡_}
-use mathlib.Core.Bool.{true, false}
+use mathlib.Core.Bool.{Bool, true, false}
 use mathlib.Core.List.{List}
 use Prim.Native.Nat.{ℕ, _+_, _-_, _<_, _≤_}
 use lib.ListN.{length, getD, drop}
@@ -9,7 +9,9 @@ use Rattle.doubles.specs.Num.{finite}
 use Rattle.doubles.specs.Limits.{maxColumns, maxRows, maxEntries, maxBudget, etaColumns, etaEntries, countCells, places}
 use Rattle.doubles.specs.Lists.{_!_, _#_}
 use Rattle.sparse.specs.Scattered.{Sv, Good, Below}
-use Rattle.rules.specs.Plan.{Plan, Problem, Memory, Workspace, Etas, State, nOf, mOf, rowCols}
+use Rattle.lu_factor_rules.specs.Packed.{factorNumbers, factorCoeffs, orderIn, numberIn, lowerIn, upperIn, lowerTIn, upperTIn, diagIn}
+use Rattle.lu_apply.specs.Ask.{Solid}
+use Rattle.rules.specs.Plan.{Plan, Problem, Memory, Workspace, Etas, Factored, State, nOf, mOf, rowCols}
 use Rattle.rules.specs.Basis.{etaUsed}
 
 -- ---- the plan
@@ -70,6 +72,8 @@ pub record MemoryFits (p : Plan) (m : Memory) : Type 0 where
   pub starts-long : etaColumns + 1 ≤ length (m .ws .etas .starts)
   pub rows-long : etaEntries ≤ length (m .ws .etas .rows)
   pub coeffs-long : etaEntries ≤ length (m .ws .etas .coeffs)
+  pub factor-numbers-long : factorNumbers ≤ length (m .factorNumbers)
+  pub factor-coeffs-long : factorCoeffs ≤ length (m .factorCoeffs)
 
 -- ---- the state
 
@@ -123,6 +127,24 @@ pub record Store (P : Problem) (h : Etas) (count : ℕ) : Type 0 where
   pub entries-fit : h .starts # count ≤ etaEntries
   pub column : (k : ℕ) → k < count → EtaCol P h k
 
+-- the factor over m rows: its arrays are long enough, and where there is one it can be solved with: its map and that back
+-- lead to rows, L's rows stand below and U's above, and their transposes' the other way round
+pub record FactorFits (m : ℕ) (F : Factored) : Type 0 where
+  pub numbers-long : factorNumbers ≤ length (F .numbers)
+  pub coeffs-long : factorCoeffs ≤ length (F .coeffs)
+  pub solid : F .there ≡ true
+      → Solid m (numberIn (F .numbers)) (lowerIn (F .numbers) (F .coeffs)) (upperIn (F .numbers) (F .coeffs)) (diagIn (F .coeffs))
+  pub solid-transposed : F .there ≡ true
+      → Solid m (orderIn (F .numbers)) (upperTIn (F .numbers) (F .coeffs)) (lowerTIn (F .numbers) (F .coeffs)) (diagIn (F .coeffs))
+
+-- every number of a factor over m rows is finite: L's, U's and the diagonal's
+pub record FactorNumbers (m : ℕ) (F : Factored) : Type 0 where
+  pub lower : F .there ≡ true → (k : ℕ) → k < lowerIn (F .numbers) (F .coeffs) .starts # m
+      → finite (lowerIn (F .numbers) (F .coeffs) .vals ! k) ≡ true
+  pub upper : F .there ≡ true → (k : ℕ) → k < upperIn (F .numbers) (F .coeffs) .starts # m
+      → finite (upperIn (F .numbers) (F .coeffs) .vals ! k) ≡ true
+  pub diag : F .there ≡ true → (i : ℕ) → i < m → finite (diagIn (F .coeffs) ! i) ≡ true
+
 -- every stored number is finite
 pub record Numbers (P : Problem) (s : State) : Type 0 where
   pub objective : finite (s .objective) ≡ true
@@ -131,12 +153,15 @@ pub record Numbers (P : Problem) (s : State) : Type 0 where
   pub price : (c : ℕ) → c < nOf P → finite (s .ws .prices ! c) ≡ true
   pub norm : (c : ℕ) → c < nOf P → finite (s .ws .norms ! c) ≡ true
   pub eta : (i : ℕ) → i < etaUsed s → finite (s .ws .etas .coeffs ! i) ≡ true
+  pub factor : FactorNumbers (mOf P) (s .factor)
 
 -- what the code leans on
 pub record Fits (P : Problem) (s : State) : Type 0 where
   pub lengths : Lengths P (s .ws)
   pub maps : Maps P (s .ws)
   pub store : Store P (s .ws .etas) (s .etaCount)
+  pub factor : FactorFits (mOf P) (s .factor)
+  pub factorings : s .factor .times ≤ s .steps
 
 pub record Sound (P : Problem) (s : State) : Type 0 where
   pub fits : Fits P s
@@ -146,20 +171,33 @@ pub record Sound (P : Problem) (s : State) : Type 0 where
 pub record Past {A : Type 0} (n : ℕ) (l k : List A) : Type 0 where
   pub same : drop n l ≡ drop n k
 
--- 01: "cells past what is written never change": those of the state's workspace are as they were lent
-pub record Tails (P : Problem) (w : Workspace) (s : State) : Type 0 where
-  pub basicVars-tail : Past (mOf P) (s .ws .basicVars) (w .basicVars)
-  pub basicVarVals-tail : Past (mOf P) (s .ws .basicVarVals) (w .basicVarVals)
-  pub nbVars-tail : Past (nOf P) (s .ws .nbVars) (w .nbVars)
-  pub nbVarVals-tail : Past (nOf P) (s .ws .nbVarVals) (w .nbVarVals)
-  pub prices-tail : Past (nOf P) (s .ws .prices) (w .prices)
-  pub norms-tail : Past (nOf P) (s .ws .norms) (w .norms)
-  pub flags-tail : Past (nOf P) (s .ws .flags) (w .flags)
-  pub varStates-tail : Past (nOf P + mOf P) (s .ws .varStates) (w .varStates)
-  pub leaving-tail : Past (s .etaCount) (s .ws .etas .leaving) (w .etas .leaving)
-  pub starts-tail : Past (s .etaCount + 1) (s .ws .etas .starts) (w .etas .starts)
-  pub rows-tail : Past (etaUsed s) (s .ws .etas .rows) (w .etas .rows)
-  pub coeffs-tail : Past (etaUsed s) (s .ws .etas .coeffs) (w .etas .coeffs)
+-- the eta columns and entries that were written: those in use, or any of the store once the basis was factored
+abbrev pub writtenTo : Bool → ℕ → ℕ → ℕ
+writtenTo there whole used = elim there [ true ↦ whole | false ↦ used ]
+
+abbrev pub columnsWritten : State → ℕ
+columnsWritten s = writtenTo (s .factor .there) etaColumns (s .etaCount)
+
+abbrev pub entriesWritten : State → ℕ
+entriesWritten s = writtenTo (s .factor .there) etaEntries (etaUsed s)
+
+-- 01: "cells past what is written never change": those of the state's workspace, and of the factor's arrays, are as they
+-- were lent in m
+pub record Tails (P : Problem) (m : Memory) (s : State) : Type 0 where
+  pub basicVars-tail : Past (mOf P) (s .ws .basicVars) (m .ws .basicVars)
+  pub basicVarVals-tail : Past (mOf P) (s .ws .basicVarVals) (m .ws .basicVarVals)
+  pub nbVars-tail : Past (nOf P) (s .ws .nbVars) (m .ws .nbVars)
+  pub nbVarVals-tail : Past (nOf P) (s .ws .nbVarVals) (m .ws .nbVarVals)
+  pub prices-tail : Past (nOf P) (s .ws .prices) (m .ws .prices)
+  pub norms-tail : Past (nOf P) (s .ws .norms) (m .ws .norms)
+  pub flags-tail : Past (nOf P) (s .ws .flags) (m .ws .flags)
+  pub varStates-tail : Past (nOf P + mOf P) (s .ws .varStates) (m .ws .varStates)
+  pub leaving-tail : Past (columnsWritten s) (s .ws .etas .leaving) (m .ws .etas .leaving)
+  pub starts-tail : Past (columnsWritten s + 1) (s .ws .etas .starts) (m .ws .etas .starts)
+  pub rows-tail : Past (entriesWritten s) (s .ws .etas .rows) (m .ws .etas .rows)
+  pub coeffs-tail : Past (entriesWritten s) (s .ws .etas .coeffs) (m .ws .etas .coeffs)
+  pub numbers-tail : Past factorNumbers (s .factor .numbers) (m .factorNumbers)
+  pub factor-coeffs-tail : Past factorCoeffs (s .factor .coeffs) (m .factorCoeffs)
 
 -- ---- the vectors of a step: in order, with places below m alone
 pub record Vector (m : ℕ) (c : Sv) : Type 0 where

@@ -15,3 +15,4 @@ pub mod Solve
 pub mod Conditions
 pub mod Invariant
 pub mod Steps
+pub mod Before

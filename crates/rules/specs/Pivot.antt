@@ -9,8 +9,9 @@ use Rattle.doubles.specs.Num.{_⊕_, _⊖_, _⊗_, _⊘_, f1, f2, finite}
 use Rattle.doubles.specs.Loop.{run, all}
 use Rattle.doubles.specs.Lists.{_!_, _#_}
 use Rattle.sparse.specs.Scattered.{Sv, listed, sqNorm}
-use Rattle.rules.specs.Plan.{Problem, Workspace, State, nOf, varMin, varMax, flagsCell, varCell}
-use Rattle.rules.specs.Basis.{etaEntryAt, pushEta}
+use Rattle.lu_factor_rules.specs.Factor.{Factor}
+use Rattle.rules.specs.Plan.{Problem, Etas, Workspace, Factored, State, nOf, varMin, varMax, flagsCell, varCell}
+use Rattle.rules.specs.Basis.{etaEntryAt, pushEta, noColumns, factoredAnew}
 use Rattle.rules.specs.declared.Entering.{Entering}
 use Rattle.rules.specs.declared.VarState.the-variants.{Basic, NonBasic}
 
@@ -60,6 +61,7 @@ module _ (P : Problem) (s : State) (e : Entering) (c : Sv) (value diff : Float) 
         etaCount = s .etaCount;
         objective = newObjective s e diff;
         steps = suc (s .steps);
+        factor = s .factor;
       }
 
 -- ---- an exchange: "which adds row, pivot and leaving value"; row and helper are those before the exchange
@@ -86,20 +88,19 @@ unfoldable pub etaFinite : Sv → ℕ → Float → Bool
 etaFinite c row pivot = all (c .pat .count) (λ k. finite (etaEntryAt c row pivot k))
 
 module _ (P : Problem) (s : State) (e : Entering) (c rowSv helper : Sv) (value diff : Float) (row : ℕ) (pivot leaving : Float) where
-  -- "every number to be stored must be finite"
-  unfoldable pub exchangeFinite : Bool
-  exchangeFinite =
+  -- "every number to be stored must be finite", but for the eta column's or the factor's
+  unfoldable pub numbersFinite : Bool
+  numbersFinite =
       let w = s .ws in
       finite (newObjective s e diff)
       && storesFinite c (newVal w c value diff row)
       && finite leaving
       && storesFinite rowSv (newPrice w e pivot rowSv)
       && storesFinite rowSv (newNorm w e c pivot rowSv helper)
-      && etaFinite c row pivot
 
   -- the two maps: the entering variable is basic in the row, the leaving one stands at the entering place
-  unfoldable pub exchanged : State
-  exchanged =
+  abbrev pub exchangedTo : Etas → ℕ → Factored → State
+  exchangedTo etas count factor =
       let w = s .ws in
       let col = e .col in
       let enters = w .nbVars # col in
@@ -114,9 +115,18 @@ module _ (P : Problem) (s : State) (e : Entering) (c rowSv helper : Sv) (value d
           norms = stored rowSv (newNorm w e c pivot rowSv helper) (w .norms);
           flags = set (w .flags) col (flagsAt P leaves leaving);
           varStates = set (set (w .varStates) enters (varCell (nOf P) (Basic row))) leaves (varCell (nOf P) (NonBasic col));
-          etas = pushEta c row pivot (s .etaCount) (w .etas);
+          etas = etas;
         };
-        etaCount = suc (s .etaCount);
+        etaCount = count;
         objective = newObjective s e diff;
         steps = suc (s .steps);
+        factor = factor;
       }
+
+  -- with its eta column
+  unfoldable pub exchanged : State
+  exchanged = exchangedTo (pushEta c row pivot (s .etaCount) (s .ws .etas)) (suc (s .etaCount)) (s .factor)
+
+  -- 02: "the exchange is made, then the new basis is factored in place of storing that column"
+  unfoldable pub refactored : Factor → State
+  refactored f = exchangedTo (noColumns (s .ws .etas)) 0 (factoredAnew f (s .factor))

@@ -48,20 +48,32 @@ pub record Workspace : Type 0 where
   pub varStates : List ℕ
   pub etas : Etas
 
--- The state between two steps: the workspace, how many eta columns it holds, cur_obj_val, and the steps taken.
+-- 02, Ask 5: whether there is a factor, how often the basis was factored, and the two arrays that hold the factor
+pub record Factored : Type 0 where
+  pub there : Bool
+  pub times : ℕ
+  pub numbers : List ℕ
+  pub coeffs : List Float
+
+-- The state between two steps: the workspace, how many eta columns it holds, cur_obj_val, the steps taken, and the
+-- factor.
 pub record State : Type 0 where
   pub ws : Workspace
   pub etaCount : ℕ
   pub objective : Float
   pub steps : ℕ
+  pub factor : Factored
 
--- Everything lent to be written. `kept` has the plan's own number of each kept row; `counts` holds kept rows, eta columns, eta entries, steps and status.
+-- Everything lent to be written. `kept` has the plan's own number of each kept row; `counts` holds kept rows, eta columns,
+-- eta entries, steps, status, whether there is a factor, and factorings.
 pub record Memory : Type 0 where
   pub values : List Float
   pub kept : List ℕ
   pub ws : Workspace
   pub counts : List ℕ
   pub objective : List Float
+  pub factorNumbers : List ℕ
+  pub factorCoeffs : List Float
 
 -- A plan with the numbers of its kept rows: column j is variable j, and the slack of kept row r is variable columns + r.
 pub record Problem : Type 0 where

@@ -9,6 +9,7 @@ use Rattle.doubles.specs.Num.{f0, f1, maxNumber, +inf, -inf, size}
 use Rattle.doubles.specs.Limits.{maxColumns, maxRows, maxEntries, maxBudget, etaColumns, etaEntries, countCells}
 use Rattle.doubles.specs.Loop.{all, first}
 use Rattle.doubles.specs.Lists.{_!_, _#_}
+use Rattle.lu_factor_rules.specs.Packed.{factorNumbers, factorCoeffs}
 use Rattle.rules.specs.Plan.{Plan, Memory, Workspace, Etas, rowCols, isEmpty}
 
 -- ---- 1: "a size or the budget passes its limit"
@@ -55,6 +56,8 @@ memoryLong p m =
     && workspaceLong (p .columns) (p .rows) (m .ws)
     && leb countCells (length (m .counts))
     && leb 1 (length (m .objective))
+    && leb factorNumbers (length (m .factorNumbers))
+    && leb factorCoeffs (length (m .factorCoeffs))
 
 -- "the row starts don't begin at 0, fall, or don't end at the entry count"
 unfoldable pub startsRise : Plan → Bool

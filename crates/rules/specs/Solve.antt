@@ -4,18 +4,18 @@ use mathlib.Core.List.{List, [], _∷_}
 use lib.Dec.{eqb}
 use lib.Ieee.{Float}
 use Rattle.doubles.specs.Lists.{over}
-use Rattle.rules.specs.Plan.{Plan, Problem, Memory, State, problemOf, mOf}
+use Rattle.rules.specs.Plan.{Plan, Problem, Memory, State, problemOf, mOf, bit}
 use Rattle.rules.specs.Refusals.{passes1, passes2, firstBadRow, firstBadIn, firstCrossed, firstFalse}
 use Rattle.rules.specs.Start.{startState, passes6, passes7, dualFeasible}
 use Rattle.rules.specs.Basis.{etaUsed}
 use Rattle.rules.specs.Step.{Ended, ended, runOf}
 use Rattle.rules.specs.FinalCheck.{valuesOf, finalCheck}
 use Rattle.rules.specs.Answers.{numberOf}
-use Rattle.rules.specs.declared.Stop.the-variants.{Finished, Spent as Stop·Spent, NoRoom as Stop·NoRoom, Unbounded as Stop·Unbounded, NotFinite as Stop·NotFinite}
+use Rattle.rules.specs.declared.Stop.the-variants.{Finished, Spent as Stop·Spent, Unbounded as Stop·Unbounded, NotFinite as Stop·NotFinite, Singular as Stop·Singular}
 use Rattle.rules.specs.declared.Checked.{Checked}
 use Rattle.rules.specs.declared.Checked.the-variants.{Passed, Value, Row}
 use Rattle.rules.specs.declared.Answer.{Answer}
-use Rattle.rules.specs.declared.Answer.the-variants.{Optimal, BadSize, BadNumber, BadEntry, CrossedBounds, FalseEmptyRow, StartNotFinite, SlackOutside, Unbounded, Spent, NoRoom, NotFinite, ValueRejected, RowRejected}
+use Rattle.rules.specs.declared.Answer.the-variants.{Optimal, BadSize, BadNumber, BadEntry, CrossedBounds, FalseEmptyRow, StartNotFinite, SlackOutside, Unbounded, Spent, NotFinite, Singular, ValueRejected, RowRejected}
 
 pub record Solved : Type 0 where
   pub answer : Answer
@@ -40,11 +40,11 @@ answerOf P e =
       | Finished ↦ checkedAnswer s (finalCheck P (valuesOf P (s .ws)))
       | Stop·Spent ↦ Spent (s .objective) (s .steps)
       | Stop·Unbounded ↦ Unbounded (s .objective) (s .steps)
-      | Stop·NoRoom ↦ NoRoom (s .objective) (s .steps)
       | Stop·NotFinite ↦ NotFinite (s .objective) (s .steps)
+      | Stop·Singular ↦ Singular (s .objective) (s .steps)
     ]
 
--- "Status 0 is Optimal and writes values, slacks last. 20 to 24 leave the values array alone"
+-- "Status 0 is Optimal and writes values, slacks last. 20 to 24 leave the values array alone", and so does 25
 unfoldable pub valuesAfter : Problem → State → Answer → List Float → List Float
 valuesAfter P s a l = elim (eqb (numberOf a) 0) [ true ↦ over (valuesOf P (s .ws)) l | false ↦ l ]
 
@@ -55,8 +55,11 @@ memoryAfter P s a m =
       values = valuesAfter P s a (m .values);
       kept = over (P .kept) (m .kept);
       ws = s .ws;
-      counts = over (mOf P ∷ s .etaCount ∷ etaUsed s ∷ s .steps ∷ numberOf a ∷ []) (m .counts);
+      counts = over (mOf P ∷ s .etaCount ∷ etaUsed s ∷ s .steps ∷ numberOf a ∷ bit (s .factor .there) ∷ s .factor .times ∷ [])
+          (m .counts);
       objective = over (s .objective ∷ []) (m .objective);
+      factorNumbers = s .factor .numbers;
+      factorCoeffs = s .factor .coeffs;
     }
 
 unfoldable pub close : Problem → Memory → Ended → Solved
@@ -65,7 +68,7 @@ close P m e = let a = answerOf P e in solved a (memoryAfter P (e .state) a m)
 -- "If dual feasible, Optimal is reached at once with 0 steps (ours), after the final check"
 unfoldable pub endOf : Problem → Memory → Ended
 endOf P m =
-    let s = startState P (m .ws) in
+    let s = startState P m in
     elim (dualFeasible (P .plan)) [ true ↦ ended Finished s | false ↦ runOf P (P .plan .budget) s ]
 
 -- ---- "The lowest number that applies is given"; "1 to 7 are refusals: all lent memory stays"

@@ -7,7 +7,8 @@ use lib.Ieee.{Float, lt, le, eq}
 use Rattle.doubles.specs.Num.{_⊕_, _⊖_, _⊗_, f0, f1, finite, infinite}
 use Rattle.doubles.specs.Loop.{run, all, table, each}
 use Rattle.doubles.specs.Lists.{_!_, _#_, over}
-use Rattle.rules.specs.Plan.{Plan, Problem, Workspace, State, nOf, mOf, rowSum, column, flagsCell, slackMin, slackMax}
+use Rattle.rules.specs.Plan.{Plan, Problem, Workspace, Memory, State, nOf, mOf, rowSum, column, flagsCell, slackMin, slackMax}
+use Rattle.rules.specs.Parts.{factoredOf}
 
 -- "Fixed: that value. Free: 0.0. Positive cost: lower if finite, else upper. Negative: upper if finite, else lower. Zero cost: lower if finite, else upper."
 abbrev pub lowerFirst : Float → Float → Float
@@ -81,10 +82,17 @@ startWorkspace P xs w =
       etas = record { leaving = w .etas .leaving; starts = set (w .etas .starts) 0 0; rows = w .etas .rows; coeffs = w .etas .coeffs };
     }
 
-unfoldable pub startState : Problem → Workspace → State
-startState P w =
+-- 02: "none yet (the identity)": no factor at the start, and its arrays as they are lent
+unfoldable pub startState : Problem → Memory → State
+startState P m =
     let xs = startVals (P .plan) in
-    record { ws = startWorkspace P xs w; etaCount = 0; objective = startObjective (P .plan) xs; steps = 0 }
+    record {
+      ws = startWorkspace P xs (m .ws);
+      etaCount = 0;
+      objective = startObjective (P .plan) xs;
+      steps = 0;
+      factor = factoredOf false 0 (m .factorNumbers) (m .factorCoeffs);
+    }
 
 -- ---- 6: "a start value, objective sum or start norm isn't finite"
 unfoldable pub passes6 : Problem → Bool

@@ -25,16 +25,17 @@ pub record Reached (P : Problem) (s t : State) (budget : ℕ) : Type 0 where
 
 -- from the start of a plan, within its budget
 abbrev pub RunsTo : Plan → Memory → State → Type 0
-RunsTo p m t = Reached (problemOf p) (startState (problemOf p) (m .ws)) t (p .budget)
+RunsTo p m t = Reached (problemOf p) (startState (problemOf p) m) t (p .budget)
 
--- 01: "After k steps the store has at most k columns and k times the row count of entries"
+-- 01: "After k steps the store has at most k columns and k times the row count of entries". The steps that made a factor
+-- leave none
 pub record Bounded (P : Problem) (t : State) : Type 0 where
-  pub columns : t .etaCount ≤ t .steps
-  pub entries : etaUsed t ≤ t .steps * mOf P
+  pub columns : t .etaCount + t .factor .times ≤ t .steps
+  pub entries : etaUsed t ≤ t .etaCount * mOf P
 
 -- 01: "cells past what is written never change"
 pub record LentTails (P : Problem) (m m′ : Memory) (t : State) : Type 0 where
-  pub workspace : Tails P (m .ws) t
+  pub workspace : Tails P m t
   pub values : Past (nOf P + mOf P) (m′ .values) (m .values)
   pub kept : Past (mOf P) (m′ .kept) (m .kept)
   pub counts : Past countCells (m′ .counts) (m .counts)
@@ -48,4 +49,6 @@ pub record Ran (p : Plan) (m : Memory) (r : Solved) (t : State) : Type 0 where
   pub steps-told : asRow (r .answer) .steps ≡ t .steps
   pub objective-told : asRow (r .answer) .objective ≡ t .objective
   pub lent : r .memory .ws ≡ t .ws
+  pub lent-numbers : r .memory .factorNumbers ≡ t .factor .numbers
+  pub lent-coeffs : r .memory .factorCoeffs ≡ t .factor .coeffs
   pub tails : LentTails (problemOf p) m (r .memory) t

@@ -51,8 +51,8 @@ pub enum Stop {
     Finished,
     Spent,
     Unbounded,
-    NoRoom,
     NotFinite,
+    Singular,
 }
 
 // The largest excess so far and its place: a value's number, or the number of values and then a kept row's. `at` is the
@@ -99,11 +99,11 @@ pub enum Answer {
         objective: f64,
         steps: usize,
     },
-    NoRoom {
+    NotFinite {
         objective: f64,
         steps: usize,
     },
-    NotFinite {
+    Singular {
         objective: f64,
         steps: usize,
     },

@@ -7,9 +7,9 @@ ghost use Rattle.doubles.specs.Limits.{maxBudget};
 ghost use Rattle.rules.specs.Parts.{rowed};
 ghost use Rattle.rules.specs.Step.{runOf};
 ghost use Rattle.basis_columns.specs.Columns.{ByColumns};
-ghost use Rattle.state.specs.Packed.{stateAt};
-ghost use Rattle.step_exchange.specs.Left.{stepped};
-ghost use Rattle.step_exchange.specs.Lent.{Ready};
+ghost use Rattle.state.specs.Packed.{stateIn};
+ghost use Rattle.step_refactor.specs.Left.{stepped};
+ghost use Rattle.step_refactor.specs.Lent.{Ready};
 ghost use Rattle.run.specs.Ran.{ranBy};
 
 // Why a run ends, and the numbers of its last state that stand in no array. 01: "The step count in the
@@ -24,6 +24,8 @@ pub struct Ran {
 pub fn optimize(
     numbers: &mut [usize],
     doubles: &mut [f64],
+    factor_numbers: &mut [usize],
+    factor_coeffs: &mut [f64],
     at: state::Tally,
     n: usize,
     lowers: &[f64],
@@ -39,13 +41,15 @@ pub fn optimize(
     budget: usize,
 ) -> Ran
     requires { ⌜ Ready n (now lowers) (now uppers) (now starts) (now cols) (now coeffs) (now ops) (now kept)
-        (now numbers) (now doubles) at ⌝ }
+        (now numbers) (now doubles) (now «factor_numbers») (now «factor_coeffs») at ⌝ }
     requires { ⌜ ByColumns (rowed n (now starts) (now cols) (now coeffs) (now kept)) (now cstarts) (now crows)
         (now ccoeffs) × (n < length (now cstarts)) × (budget ≤ maxBudget) ⌝ }
-    ensures { λ r. ⌜ ranBy r (now (numbers .exit)) (now (doubles .exit)) ≡ runOf
+    ensures { λ r. ⌜ ranBy r (now (numbers .exit)) (now (doubles .exit)) (now («factor_numbers» .exit))
+        (now («factor_coeffs» .exit)) ≡ runOf
         (stepped n (now (lowers .entry)) (now (uppers .entry)) (now (starts .entry)) (now (cols .entry))
         (now (coeffs .entry)) (now (ops .entry)) (now (kept .entry))) (budget - at .steps)
-        (stateAt (now (numbers .entry)) (now (doubles .entry)) at) ⌝ }
+        (stateIn (now (numbers .entry)) (now (doubles .entry)) (now («factor_numbers» .entry))
+        (now («factor_coeffs» .entry)) at) ⌝ }
 {
     let mut tally = at;
     loop {
@@ -65,6 +69,8 @@ pub fn optimize(
         let went = step::step(
             numbers,
             doubles,
+            factor_numbers,
+            factor_coeffs,
             tally,
             n,
             lowers,
@@ -80,10 +86,10 @@ pub fn optimize(
             e,
         );
         match went {
-            step_exchange::Went::On(after) => {
+            step_refactor::Went::On(after) => {
                 tally = after;
             }
-            step_exchange::Went::Stops(why) => {
+            step_refactor::Went::Stops(why) => {
                 return Ran { why, at: tally };
             }
         }

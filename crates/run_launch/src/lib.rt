@@ -3,10 +3,10 @@ ghost use mathlib.Core.Path.{_≡_};
 ghost use Prim.Native.Nat.{_-_, _≤_};
 ghost use Rattle.doubles.specs.Limits.{maxBudget};
 ghost use Rattle.rules.specs.Step.{runOf};
-ghost use Rattle.state.specs.Packed.{packed, stateAt};
+ghost use Rattle.state.specs.Packed.{packed, stateIn};
 ghost use Rattle.start.specs.Reckoned as Reckoned;
-ghost use Rattle.step_exchange.specs.Left.{stepped};
-ghost use Rattle.step_exchange.specs.Lent.{Ready};
+ghost use Rattle.step_refactor.specs.Left.{stepped};
+ghost use Rattle.step_refactor.specs.Lent.{Ready};
 ghost use Rattle.run.specs.Ran.{ranBy};
 ghost use Rattle.run_launch.specs.Launched.{launchedOf, firstState, launched, Launches};
 
@@ -14,6 +14,8 @@ ghost use Rattle.run_launch.specs.Launched.{launchedOf, firstState, laun
 pub fn go_on(
     numbers: &mut [usize],
     doubles: &mut [f64],
+    factor_numbers: &mut [usize],
+    factor_coeffs: &mut [f64],
     at: state::Tally,
     n: usize,
     budget: usize,
@@ -26,12 +28,14 @@ pub fn go_on(
     kept: &[usize],
 ) -> run::Ran
     requires { ⌜ Ready n (now lowers) (now uppers) (now starts) (now cols) (now coeffs) (now ops) (now kept)
-        (now numbers) (now doubles) at ⌝ }
+        (now numbers) (now doubles) (now «factor_numbers») (now «factor_coeffs») at ⌝ }
     requires { ⌜ budget ≤ maxBudget ⌝ }
-    ensures { λ r. ⌜ ranBy r (now (numbers .exit)) (now (doubles .exit)) ≡ runOf
+    ensures { λ r. ⌜ ranBy r (now (numbers .exit)) (now (doubles .exit)) (now («factor_numbers» .exit))
+        (now («factor_coeffs» .exit)) ≡ runOf
         (stepped n (now (lowers .entry)) (now (uppers .entry)) (now (starts .entry)) (now (cols .entry))
         (now (coeffs .entry)) (now (ops .entry)) (now (kept .entry))) (budget - at .steps)
-        (stateAt (now (numbers .entry)) (now (doubles .entry)) at) ⌝ }
+        (stateIn (now (numbers .entry)) (now (doubles .entry)) (now («factor_numbers» .entry))
+        (now («factor_coeffs» .entry)) at) ⌝ }
 {
     let mut cstarts = [0usize; doubles::MAX_COLUMNS + 1];
     let mut crows = [0usize; doubles::MAX_ENTRIES];
@@ -49,6 +53,8 @@ pub fn go_on(
     run::optimize(
         numbers,
         doubles,
+        factor_numbers,
+        factor_coeffs,
         at,
         n,
         lowers,
@@ -70,6 +76,8 @@ pub fn go_on(
 pub fn launch(
     numbers: &mut [usize],
     doubles: &mut [f64],
+    factor_numbers: &mut [usize],
+    factor_coeffs: &mut [f64],
     n: usize,
     budget: usize,
     costs: &[f64],
@@ -87,14 +95,16 @@ pub fn launch(
 ) -> run::Ran
     requires { ⌜ Launches (launchedOf n (now costs) (now lowers) (now uppers) (now starts) (now cols) (now coeffs)
         (now ops) (now kept)) budget (Reckoned.numbers (now xs) (now slacks) (now norms) objective) (now numbers)
-        (now doubles) ⌝ }
-    ensures { λ r. ⌜ ranBy r (now (numbers .exit)) (now (doubles .exit)) ≡ launched
+        (now doubles) (now «factor_numbers») (now «factor_coeffs») ⌝ }
+    ensures { λ r. ⌜ ranBy r (now (numbers .exit)) (now (doubles .exit)) (now («factor_numbers» .exit))
+        (now («factor_coeffs» .exit)) ≡ launched
         (launchedOf n (now (costs .entry)) (now (lowers .entry)) (now (uppers .entry)) (now (starts .entry))
         (now (cols .entry)) (now (coeffs .entry)) (now (ops .entry)) (now (kept .entry))) budget
         (firstState (launchedOf n (now (costs .entry)) (now (lowers .entry)) (now (uppers .entry)) (now (starts .entry))
         (now (cols .entry)) (now (coeffs .entry)) (now (ops .entry)) (now (kept .entry)))
         (Reckoned.numbers (now (xs .entry)) (now (slacks .entry)) (now (norms .entry)) objective)
-        (packed (now (numbers .entry)) (now (doubles .entry)))) ⌝ }
+        (packed (now (numbers .entry)) (now (doubles .entry))) (now («factor_numbers» .entry))
+        (now («factor_coeffs» .entry))) ⌝ }
 {
     start::write_start(
         n,
@@ -112,6 +122,8 @@ pub fn launch(
         eta_count: 0,
         objective,
         steps: 0,
+        factored: false,
+        factorings: 0,
     };
     if start_values::dual_feasible(costs, lowers, uppers, n) {
         return run::Ran {
@@ -122,6 +134,8 @@ pub fn launch(
     go_on(
         numbers,
         doubles,
+        factor_numbers,
+        factor_coeffs,
         at,
         n,
         budget,

@@ -1,4 +1,5 @@
--- What the calls of `solve` ask once 1 to 5 have passed, and how each way through it ends. No contract cites this file. Assumes nothing.
+-- What the calls of `solve` ask once 1 to 5 have passed, and how each way through it ends. No contract cites this file.
+-- Assumes nothing.
 use mathlib.Core.Path.{_≡_, sym, ap, _∙_, subst}
 use mathlib.Core.List.{List, [], _++_}
 use Prim.Native.Nat.{ℕ, _<_, _≤_}
@@ -9,7 +10,7 @@ use lib.Ieee.{Float}
 use Rattle.doubles.specs.Num.{f0}
 use Rattle.doubles.specs.Limits.{maxColumns, maxRows}
 use Rattle.rules.specs.Plan.{Plan, Problem, Memory, Workspace, problemOf, keptRows, nOf, mOf}
-use Rattle.rules.specs.Parts.{planOf, problem, stateOf}
+use Rattle.rules.specs.Parts.{planOf, problem, factoredOf, stateWith}
 use Rattle.rules.specs.Start.{startState}
 use Rattle.rules.specs.Step.{Ended, ended}
 use Rattle.rules.specs.Solve.{Solved, memoryAfter, close, endOf, solvePlan}
@@ -18,8 +19,8 @@ use Rattle.rules.specs.declared.Answer.{Answer}
 use Rattle.rules.proofs.Lengths.{memory-fits, lent-long}
 use Rattle.rules.proofs.Start.{start-fits, passed-fits}
 use Rattle.rules.proofs.Steps.{steps-fit, end-reached}
-use Rattle.state.specs.Packed.{packed, stateAt, keptAt, objectiveAt}
-use Rattle.state.specs.Memory.{numbersEnd, doublesEnd, memoryIn, Past, pastOf, Handed, handed, answered}
+use Rattle.state.specs.Packed.{packed, stateIn, keptAt, objectiveAt}
+use Rattle.state.specs.Memory.{memoryIn, Past, pastOf, Handed, handed, answered}
 use Rattle.state.proofs.Memory.{front-packed, front-sized, front-same, after-sized, after-long, after-memory, after-past}
 use Rattle.plan.specs.Lent.{rowsOf, Front}
 use Rattle.plan.specs.declared.Refusal.the-variants.{By, Nothing}
@@ -35,7 +36,7 @@ use Rattle.start_gate.specs.Gate.{refused, filled, refusalBy, begun, begunBy}
 use Rattle.start_gate.specs.declared.Begun.{Begun}
 use Rattle.start_gate.specs.declared.Begun.the-variants.{Refused, On}
 use Rattle.start_gate.proofs.Gate.{Accepted, accepted, solved-by, begun-part, start-refused, start-filled}
-use Rattle.start_gate.proofs.Long.{arrays-long}
+use Rattle.start_gate.proofs.Long.{Long, arrays-long}
 use Rattle.run.specs.Ran.{ranBy}
 use Rattle.run.specs.declared.Ran.{Ran}
 use Rattle.run_launch.specs.Launched.{firstState, launched, Launches}
@@ -44,9 +45,12 @@ use Rattle.check_close.specs.Lent.{Closes}
 use Rattle.check_close.proofs.Laws.{close-whole, fits-close}
 
 -- 1 to 5
-pub refuses : (p : Plan) (v : List Float) (N : List ℕ) (D : List Float) (a : Answer) → By a ≡ refusalBy p (memoryIn v N D)
-    → answered a v N D ≡ handed (solvePlan p (memoryIn v N D)) (pastOf N D)
-refuses p v N D a e = let m = memoryIn v N D in ap (λ (r : Solved). handed r (pastOf N D)) (ap (solvedBy p m) e ∙ sym (solved-by p m))
+pub refuses : (p : Plan) (v : List Float) (N : List ℕ) (D : List Float) (F : List ℕ) (G : List Float) (a : Answer)
+    → By a ≡ refusalBy p (memoryIn v N D F G)
+    → answered a v N D F G ≡ handed (solvePlan p (memoryIn v N D F G)) (pastOf N D)
+refuses p v N D F G a e =
+    let m = memoryIn v N D F G in
+    ap (λ (r : Solved). handed r (pastOf N D)) (ap (solvedBy p m) e ∙ sym (solved-by p m))
 
 -- what `begin` answered, with the scratch as it left it
 module _ (r : Begun) (xs slacks norms : List Float) (g : Gate.Scratch) (e : begunBy r xs slacks norms ≡ g) where
@@ -60,9 +64,10 @@ module _ (r : Begun) (xs slacks norms : List Float) (g : Gate.Scratch) (e : begu
 abbrev pub blank : Numbers
 blank = numbers (replicate maxColumns f0) (replicate maxRows f0) (replicate maxColumns f0) f0
 
-module _ (p : Plan) (v : List Float) (N : List ℕ) (D : List Float) (ok : Nothing ≡ refusalBy p (memoryIn v N D)) where
+module _ (p : Plan) (v : List Float) (N : List ℕ) (D : List Float) (F : List ℕ) (G : List Float)
+    (ok : Nothing ≡ refusalBy p (memoryIn v N D F G)) where
   abbrev m : Memory
-  m = memoryIn v N D
+  m = memoryIn v N D F G
 
   passed : Accepted p m
   passed = accepted p m ok
@@ -73,11 +78,11 @@ module _ (p : Plan) (v : List Float) (N : List ℕ) (D : List Float) (ok : Nothi
   lent-all : MemoryFits p m
   lent-all = memory-fits p m (passed .passes-1)
 
-  long : (numbersEnd ≤ length N) × (doublesEnd ≤ length D)
-  long = arrays-long p v N D (fits-all .plan .columns-most) (fits-all .plan .rows-most) (passed .lent)
+  long : Long p v N D F G (fits-all .plan .columns-most) (fits-all .plan .rows-most)
+  long = arrays-long p v N D F G (fits-all .plan .columns-most) (fits-all .plan .rows-most) (passed .lent)
 
   pub fronts-inside : (keptAt ≤ length N) × (objectiveAt ≤ length D)
-  fronts-inside = (omega (arith, long .0), omega (arith, long .1))
+  fronts-inside = (omega (arith, long .numbers), omega (arith, long .doubles))
 
   from-six : fromSix p m ≡ solvePlan p m
   from-six = ap (solvedBy p m) ok ∙ sym (solved-by p m)
@@ -121,56 +126,78 @@ module _ (p : Plan) (v : List Float) (N : List ℕ) (D : List Float) (ok : Nothi
     begun-whole = sym (begun-part P blank) ∙ ap (λ (Q : Problem). begun Q blank) same
 
     -- 6 and 7
-    pub start-refuses : (a : Answer) → refused a ≡ begun lentStart blank → answered a v N D ≡ handed (solvePlan p m) (pastOf N D)
-    start-refuses a e = ap (λ (r : Solved). handed r (pastOf N D)) (sym (start-refused p m blank a (e ∙ begun-whole)) ∙ from-six)
+    pub start-refuses : (a : Answer) → refused a ≡ begun lentStart blank
+        → answered a v N D F G ≡ handed (solvePlan p m) (pastOf N D)
+    start-refuses a e =
+        ap (λ (r : Solved). handed r (pastOf N D)) (sym (start-refused p m blank a (e ∙ begun-whole)) ∙ from-six)
 
     module _ (u : Numbers) (e : filled u ≡ begun lentStart blank) where
       reckons : u ≡ reckoned P blank
       reckons = start-filled p m blank u (e ∙ begun-whole) .0 ∙ ap (λ (Q : Problem). reckoned Q blank) (sym same)
 
-      pub launch-asks : Launches (launchedBy P) (p .budget) u (take keptAt N) (take objectiveAt D)
+      pub launch-asks : Launches (launchedBy P) (p .budget) u (take keptAt N) (take objectiveAt D) F G
       launch-asks =
-          fits-launch P blank u reckons fits scratch (take keptAt N) (take objectiveAt D) (front-sized N D (long .0) (long .1))
-          (subst (Lengths P) (sym (front-same N D (long .0) (long .1))) lengths)
+          fits-launch P blank u reckons fits scratch (take keptAt N) (take objectiveAt D) F G
+          (front-sized N D (long .numbers) (long .doubles))
+          (subst (Lengths P) (sym (front-same N D (long .numbers) (long .doubles))) lengths)
+          (long .factor-numbers) (long .factor-coeffs)
 
-      -- the launch left M and E
-      module _ (r : Ran) (M : List ℕ) (E : List Float) (q : length M ≡ length (take keptAt N)) (x : length E ≡ length (take objectiveAt D))
-          (w : ranBy r M E ≡ launched (launchedBy P) (p .budget) (firstState (launchedBy P) u (packed (take keptAt N) (take objectiveAt D)))) where
+      -- the launch left M and E of the fronts, and H and J of the factor's arrays
+      module _ (r : Ran) (M : List ℕ) (E : List Float) (H : List ℕ) (J : List Float)
+          (q : length M ≡ length (take keptAt N)) (x : length E ≡ length (take objectiveAt D))
+          (w : ranBy r M E H J ≡ launched (launchedBy P) (p .budget)
+          (firstState (launchedBy P) u (packed (take keptAt N) (take objectiveAt D)) F G)) where
         abbrev M+ : List ℕ
         M+ = M ++ drop keptAt N
 
         abbrev E+ : List Float
         E+ = E ++ drop objectiveAt D
 
-        ends : ranBy r M E ≡ endOf P m
+        ends : ranBy r M E H J ≡ endOf P m
         ends =
-            launched-end P blank u reckons m (ranBy r M E)
-            (w ∙ ap (λ (W : Workspace). launched (launchedBy P) (p .budget) (firstState (launchedBy P) u W)) (front-same N D (long .0) (long .1)))
+            launched-end P blank u reckons m (ranBy r M E H J)
+            (w
+            ∙ ap (λ (W : Workspace). launched (launchedBy P) (p .budget) (firstState (launchedBy P) u W F G))
+            (front-same N D (long .numbers) (long .doubles)))
 
-        whole : ended (r .why) (stateAt M+ E+ (r .at)) ≡ ranBy r M E
-        whole = ap (λ (W : Workspace). ended (r .why) (stateOf W (r .at .«eta_count») (r .at .objective) (r .at .steps))) (front-packed M (drop keptAt N) E (drop objectiveAt D) (after-sized N D (long .0) (long .1) M E q x))
+        -- where it ends, in the arrays
+        abbrev end : Ended
+        end = ended (r .why) (stateIn M+ E+ H J (r .at))
 
-        ends-fit : Fits P (stateAt M+ E+ (r .at))
-        ends-fit = subst (λ (e : Ended). Fits P (e .state)) (sym (whole ∙ ends)) (steps-fit P (startState P (m .ws)) fits (start-fits P (m .ws) lengths) (end-reached P m .by-steps))
+        whole : end ≡ ranBy r M E H J
+        whole =
+            let t = r .at in
+            ap (λ (W : Workspace). ended (r .why) (stateWith W (t .«eta_count») (t .objective) (t .steps)
+            (factoredOf (t .factored) (t .factorings) H J)))
+            (front-packed M (drop keptAt N) E (drop objectiveAt D) (after-sized N D (long .numbers) (long .doubles) M E q x))
+
+        ends-fit : Fits P (stateIn M+ E+ H J (r .at))
+        ends-fit =
+            subst (λ (e : Ended). Fits P (e .state)) (sym (whole ∙ ends))
+            (steps-fit P (startState P m) fits (start-fits P m lengths (long .factor-numbers) (long .factor-coeffs))
+            (end-reached P m .by-steps))
 
         pub close-asks : Closes (checkedBy P) v M+ E+ (r .at)
         close-asks =
-            let l = after-long N D (long .0) (long .1) M E q x in
-            fits-close P fits v M+ E+ (r .at) ends-fit (omega (arith, lent-all .values-long, fits .few)) (omega (arith, long .0, l .0)) (omega (arith, long .1, l .1))
+            let l = after-long N D (long .numbers) (long .doubles) M E q x in
+            fits-close P fits v M+ E+ H J (r .at) ends-fit (omega (arith, lent-all .values-long, fits .few))
+            (omega (arith, long .numbers, l .0)) (omega (arith, long .doubles, l .1))
 
         -- the end reads the values, the kept rows, the counts and the objective of the memory
-        closed : (z : Ended) → close P (memoryIn v M+ E+) z ≡ close P m z
+        closed : (z : Ended) → close P (memoryIn v M+ E+ H J) z ≡ close P m z
         unfolding close memoryAfter
-        closed z = ap (λ (k : Memory). close P k z) (after-memory N D (long .0) (long .1) M E q x v)
+        closed z =
+            ap (λ (k : Memory). close P k z) (after-memory N D (long .numbers) (long .doubles) M E q x v H J)
 
-        pub solves : {h : Handed} → h ≡ handed (close (checkedBy P) (memoryIn v M+ E+) (ended (r .why) (stateAt M+ E+ (r .at)))) (pastOf M+ E+)
+        pub solves : {h : Handed} → h ≡ handed (close (checkedBy P) (memoryIn v M+ E+ H J) end) (pastOf M+ E+)
             → h ≡ handed (solvePlan p m) (pastOf N D)
         solves c =
             c
-            ∙ ap (λ (t : Past). handed (close (checkedBy P) (memoryIn v M+ E+) (ended (r .why) (stateAt M+ E+ (r .at)))) t) (after-past N D (long .0) (long .1) M E q x)
+            ∙ ap (λ (t : Past). handed (close (checkedBy P) (memoryIn v M+ E+ H J) end) t)
+            (after-past N D (long .numbers) (long .doubles) M E q x)
             ∙ ap (λ (t : Solved). handed t (pastOf N D))
-            (close-whole P (memoryIn v M+ E+) (ended (r .why) (stateAt M+ E+ (r .at)))
-            ∙ closed (ended (r .why) (stateAt M+ E+ (r .at)))
+            (close-whole P (memoryIn v M+ E+ H J) end
+            ∙ closed end
             ∙ ap (close P m) (whole ∙ ends)
             ∙ ap (λ (Q : Problem). close Q m (endOf Q m)) same
             ∙ sym (start-filled p m blank u (e ∙ begun-whole) .1)

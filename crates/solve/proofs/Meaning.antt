@@ -1,9 +1,12 @@
--- What `solve` promises: the file to start from. Its contract is one equation: from any plan and any lent memory, the answer and the memory afterwards are those of
--- `solvePlan`, and the cells past the sections stay. Here each theorem of `rules` is said of any answer and memory r that this equation allows. Assumes nothing.
+-- What `solve` promises: the file to start from. Its contract is one equation: from any plan and any lent memory, the answer
+-- and the memory afterwards are those of `solvePlan`, and the cells past the sections stay. Here each theorem of `rules` is
+-- said of any answer and memory r that this equation allows. Assumes nothing.
 use mathlib.Core.Path.{_≡_, refl, sym, ap, _∙_, subst}
 use mathlib.Core.Bool.{true}
 use mathlib.Core.Logic.{_↔_, _⊎_}
-use Prim.Native.Nat.{ℕ, _*_, _<_, _≤_}
+use Prim.Native.Nat.{ℕ, _+_, _*_, _<_, _≤_}
+use native.Mathlib.Nat.{mul-le-mul-right, le-trans}
+use native.Mathlib.Omega.{arith}
 use mathlib.Core.List.{List}
 use lib.Ieee.{Float, le}
 use Rattle.doubles.specs.Num.{eps, size}
@@ -33,26 +36,30 @@ use Rattle.rules.proofs.Ran.{solved-closes, solved-ran}
 abbrev pub Promised : Plan → Memory → Solved → Type 0
 Promised p m r = r ≡ solvePlan p m
 
--- The memory is read out of the values and the two arrays: `solve` says this of the answer a and of what it leaves of
--- them, w, M and E.
-module _ (p : Plan) (v : List Float) (N : List ℕ) (D : List Float) where
-  abbrev pub PromisedIn : Answer → List Float → List ℕ → List Float → Type 0
-  PromisedIn a w M E = answered a w M E ≡ handed (solvePlan p (memoryIn v N D)) (pastOf N D)
+-- The memory is read out of the values, the two arrays and the factor's two: `solve` says this of the answer a and of what
+-- it leaves of them, w, M, E, H and J.
+module _ (p : Plan) (v : List Float) (N : List ℕ) (D : List Float) (F : List ℕ) (G : List Float) where
+  abbrev pub PromisedIn : Answer → List Float → List ℕ → List Float → List ℕ → List Float → Type 0
+  PromisedIn a w M E H J = answered a w M E H J ≡ handed (solvePlan p (memoryIn v N D F G)) (pastOf N D)
 
-  pub in-memory : (a : Answer) (w : List Float) (M : List ℕ) (E : List Float) → PromisedIn a w M E → Promised p (memoryIn v N D) (solved a (memoryIn w M E))
-  in-memory a w M E e = ap (λ (h : Handed). h .solved) e
+  pub in-memory : (a : Answer) (w : List Float) (M : List ℕ) (E : List Float) (H : List ℕ) (J : List Float)
+      → PromisedIn a w M E H J → Promised p (memoryIn v N D F G) (solved a (memoryIn w M E H J))
+  in-memory a w M E H J e = ap (λ (h : Handed). h .solved) e
 
   -- 01: "cells past what is written never change": those past the sections
-  pub past-stays : (a : Answer) (w : List Float) (M : List ℕ) (E : List Float) → PromisedIn a w M E → pastOf M E ≡ pastOf N D
-  past-stays a w M E e = ap (λ (h : Handed). h .past) e
+  pub past-stays : (a : Answer) (w : List Float) (M : List ℕ) (E : List Float) (H : List ℕ) (J : List Float)
+      → PromisedIn a w M E H J → pastOf M E ≡ pastOf N D
+  past-stays a w M E H J e = ap (λ (h : Handed). h .past) e
 
   -- 01: "Any two results allowed by a promise are shown equal": the answer and every cell, of arrays of any length
-  pub cells-settled : (a b : Answer) (w x : List Float) (M L : List ℕ) (E F : List Float) → PromisedIn a w M E → PromisedIn b x L F
-      → (a ≡ b) × (w ≡ x) × (M ≡ L) × (E ≡ F)
-  cells-settled a b w x M L E F e f =
-      let q : answered a w M E ≡ answered b x L F = e ∙ sym f in
-      let z = cells-settle {v = w} {w = x} {N = M} {M = L} {D = E} {E = F} (ap (λ (h : Handed). h .solved .memory) q) (ap (λ (h : Handed). h .past) q) in
-      (ap (λ (h : Handed). h .solved .answer) q, z .0, z .1, z .2)
+  pub cells-settled : (a b : Answer) (w x : List Float) (M L : List ℕ) (E K : List Float) (H S : List ℕ) (J T : List Float)
+      → PromisedIn a w M E H J → PromisedIn b x L K S T
+      → (a ≡ b) × (w ≡ x) × (M ≡ L) × (E ≡ K) × (H ≡ S) × (J ≡ T)
+  cells-settled a b w x M L E K H S J T e f =
+      let q : answered a w M E H J ≡ answered b x L K S T = e ∙ sym f in
+      let z = cells-settle {v = w} {w = x} {N = M} {M = L} {D = E} {E = K} {F = H} {H = S} {G = J} {J = T}
+      (ap (λ (h : Handed). h .solved .memory) q) (ap (λ (h : Handed). h .past) q) in
+      (ap (λ (h : Handed). h .solved .answer) q, z .0, z .1, z .2, z .3, z .4)
 
 -- no refusal
 abbrev pub NotRefused : Solved → Type 0
@@ -92,7 +99,7 @@ module _ (p : Plan) (m : Memory) (r : Solved) (e : Promised p m r) where
 
   -- ---- the other answers
 
-  -- 0 and 20 to 24, each with its objective, steps, excess and place, exactly when no refusal is called for and the rules' own
+  -- 0 and 20 to 25, each with its objective, steps, excess and place, exactly when no refusal is called for and the rules' own
   -- steps lead from the start, within the budget, to a state that its line of the table holds of. By `last-exactly` that
   -- is the state `reached p m`, and no other.
   pub answers-exactly : (t : Told) → (t .number ≡ 0) ⊎ (20 ≤ t .number)
@@ -105,7 +112,7 @@ module _ (p : Plan) (m : Memory) (r : Solved) (e : Promised p m r) where
   pub optimal-passes : numberOf (r .answer) ≡ 0 → Passes p m r
   optimal-passes = subst (λ (x : Solved). numberOf (x .answer) ≡ 0 → Passes p m x) (sym e) (optimal-writes p m)
 
-  -- 01: "20 to 24 leave the values array alone", and refusals do
+  -- 01: "20 to 24 leave the values array alone", and so do 25 and refusals
   pub values-stay : ¬ (numberOf (r .answer) ≡ 0) → r .memory .values ≡ m .values
   values-stay = subst (λ (x : Solved). ¬ (numberOf (x .answer) ≡ 0) → x .memory .values ≡ m .values) (sym e) (values-left p m)
 
@@ -130,7 +137,7 @@ module _ (p : Plan) (m : Memory) (r : Solved) (e : Promised p m r) where
     -- no other state is behind the answer
     pub last-only : (t : State) → Ran p m r t → t ≡ reached p m
     last-only t x =
-        let s = startState (problemOf p) (m .ws) in
+        let s = startState (problemOf p) m in
         let count : reached p m .steps ≡ t .steps = sym (ran h .steps-told) ∙ x .steps-told in
         steps-same (problemOf p) s (x .reached .by-steps)
         (subst (λ (k : ℕ). Steps (problemOf p) s k (reached p m)) count (ran h .reached .by-steps))
@@ -145,13 +152,13 @@ module _ (p : Plan) (m : Memory) (r : Solved) (e : Promised p m r) where
     -- 01: "If dual feasible, Optimal is reached at once with 0 steps (ours), after the final check"
     pub dual-at-once : dualFeasible p ≡ true
         → let P = problemOf p in
-        let s = startState P (m .ws) in
+        let s = startState P m in
         (reached p m ≡ s) × (steps ≡ 0) × (r .answer ≡ checkedAnswer s (finalCheck P (valuesOf P (s .ws))))
     unfolding startState close answerOf
     dual-at-once d =
         let P = problemOf p in
         let q = at-once P m d in
-        let start : reached p m ≡ startState P (m .ws) = ap (λ (x : Ended). x .state) q in
+        let start : reached p m ≡ startState P m = ap (λ (x : Ended). x .state) q in
         let ends = end-exact P m _ _ .0 q in (
           start,
           ran h .steps-told ∙ ap (λ (s : State). s .steps) start,
@@ -159,9 +166,9 @@ module _ (p : Plan) (m : Memory) (r : Solved) (e : Promised p m r) where
         )
 
     -- 01: "The step count in the answer is the number of steps the rules took", each step the rules' own, and at most the budget
-    pub steps-taken : Steps (problemOf p) (startState (problemOf p) (m .ws)) steps (reached p m) × (steps ≤ p .budget)
+    pub steps-taken : Steps (problemOf p) (startState (problemOf p) m) steps (reached p m) × (steps ≤ p .budget)
     steps-taken =
-        subst (λ (k : ℕ). Steps (problemOf p) (startState (problemOf p) (m .ws)) k (reached p m) × (k ≤ p .budget))
+        subst (λ (k : ℕ). Steps (problemOf p) (startState (problemOf p) m) k (reached p m) × (k ≤ p .budget))
         (sym (ran h .steps-told)) (ran h .reached .by-steps, ran h .reached .within)
 
     -- demand 2: the two maps are each other's inverse, in the workspace that is handed back
@@ -172,11 +179,22 @@ module _ (p : Plan) (m : Memory) (r : Solved) (e : Promised p m r) where
     pub all-finite : Numbers (problemOf p) (reached p m)
     all-finite = ran h .sound .numbers
 
-    -- 01: "After k steps the store has at most k columns and k times the row count of entries"
-    pub store-bounded : (reached p m .etaCount ≤ steps) × (etaUsed (reached p m) ≤ steps * mOf (problemOf p))
+    -- 01: "After k steps the store has at most k columns and k times the row count of entries". A step that factored left
+    -- no column, so steps, columns and factorings are counted against each other
+    pub store-bounded :
+        (reached p m .etaCount + reached p m .factor .times ≤ steps)
+        × (etaUsed (reached p m) ≤ steps * mOf (problemOf p))
     store-bounded =
-        subst (λ (k : ℕ). (reached p m .etaCount ≤ k) × (etaUsed (reached p m) ≤ k * mOf (problemOf p)))
-        (sym (ran h .steps-told)) (ran h .bounded .columns, ran h .bounded .entries)
+        let b = ran h .bounded in
+        let few : reached p m .etaCount ≤ reached p m .steps = omega (arith, b .columns) in
+        subst (λ (k : ℕ). (reached p m .etaCount + reached p m .factor .times ≤ k)
+        × (etaUsed (reached p m) ≤ k * mOf (problemOf p)))
+        (sym (ran h .steps-told)) (b .columns, le-trans (b .entries) (mul-le-mul-right (mOf (problemOf p)) few))
+
+    -- 02, Ask 5: the factor that is handed back is the state's
+    pub factor-left : (r .memory .factorNumbers ≡ reached p m .factor .numbers)
+        × (r .memory .factorCoeffs ≡ reached p m .factor .coeffs)
+    factor-left = (ran h .lent-numbers, ran h .lent-coeffs)
 
     -- 01: "cells past what is written never change"
     pub tails-stay : LentTails (problemOf p) m (r .memory) (reached p m)

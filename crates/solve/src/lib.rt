@@ -22,11 +22,15 @@ pub fn solve(
     values: &mut [f64],
     numbers: &mut [usize],
     doubles: &mut [f64],
+    factor_numbers: &mut [usize],
+    factor_coeffs: &mut [f64],
 ) -> rules::Answer
-    ensures { λ r. ⌜ answered r (now (values .exit)) (now (numbers .exit)) (now (doubles .exit)) ≡ handed
+    ensures { λ r. ⌜ answered r (now (values .exit)) (now (numbers .exit)) (now (doubles .exit))
+        (now («factor_numbers» .exit)) (now («factor_coeffs» .exit)) ≡ handed
         (solvePlan (planOf columns rows entries budget tolerance (now (costs .entry)) (now (lowers .entry))
         (now (uppers .entry)) (now (starts .entry)) (now (cols .entry)) (now (coeffs .entry)) (now (ops .entry))
-        (now (rhs .entry))) (memoryIn (now (values .entry)) (now (numbers .entry)) (now (doubles .entry))))
+        (now (rhs .entry))) (memoryIn (now (values .entry)) (now (numbers .entry)) (now (doubles .entry))
+        (now («factor_numbers» .entry)) (now («factor_coeffs» .entry))))
         (pastOf (now (numbers .entry)) (now (doubles .entry))) ⌝ }
 {
     let refusal = start_gate::refusal(
@@ -46,6 +50,8 @@ pub fn solve(
         values,
         numbers,
         doubles,
+        factor_numbers,
+        factor_coeffs,
     );
     if let plan::Refusal::By(answer) = refusal {
         return answer;
@@ -76,6 +82,8 @@ pub fn solve(
             let ran = run_launch::launch(
                 &mut numbers[..state::KEPT],
                 &mut doubles[..state::OBJECTIVE],
+                factor_numbers,
+                factor_coeffs,
                 columns,
                 budget,
                 costs,

@@ -2,21 +2,21 @@
 use mathlib.Core.Path.{_≡_, refl, sym, ap, _∙_, subst}
 use mathlib.Core.Bool.{Bool, true, false}
 use mathlib.Core.List.{List, [], _∷_, _++_}
-use Prim.Native.Nat.{ℕ, zero, suc, _<_, _≤_}
+use Prim.Native.Nat.{ℕ, zero, suc, _+_, _<_, _≤_}
 use native.Mathlib.Nat.{le-of-suc-le-suc, not-suc-le-zero, le-refl}
 use native.Mathlib.Numerals.{add-one}
 use native.Mathlib.Omega.{arith}
-use lib.ListN.{length, getD, set, take, length-set, replicate, length-replicate, getD-replicate}
-use lib.Seq.{length-take-le, take-suc-set, getD-set-same, getD-set-other, set-set, set-comm, set-getD, getD-take}
+use lib.ListN.{length, getD, set, take, drop, length-set, drop-of-length-le, replicate, length-replicate, getD-replicate}
+use lib.Seq.{length-take-le, take-suc-set, getD-set-same, getD-set-other, set-set, set-comm, set-getD, getD-take, drop-cons}
 use lib.Ieee.{Float, nan}
 use lib.Dec.{eqb}
 use borrow.Author.Tests.{eqb-true, eqb-false}
 use Rattle.doubles.specs.Num.{f0}
-use Rattle.doubles.specs.Lists.{_#_}
+use Rattle.doubles.specs.Lists.{_!_, _#_}
 use Rattle.doubles.specs.Limits.{places}
 use Rattle.doubles.specs.Loop.{run}
 use Rattle.doubles.proofs.Loops.{keeps}
-use Rattle.sparse.specs.Scattered.{Pat, pat, Sv, blank, touched, touchedBy, trues, Built, Wf, Good, Below, Within, listed, listedVal, putAt, takeTurn, takeOff, putTurn, loaded}
+use Rattle.sparse.specs.Scattered.{Pat, pat, Sv, blank, touched, touchedBy, trues, Built, Wf, Good, Below, Within, listed, listedVal, putAt, takeTurn, takeOff, putTurn, loaded, clearTurn, cleared}
 
 -- ---- the count of the marks
 
@@ -48,7 +48,7 @@ trues-set (true ∷ m) (suc i) h e = ap suc (trues-set m i (le-of-suc-le-suc h) 
 trues-set (false ∷ m) (suc i) h e = trues-set m i (le-of-suc-le-suc h) e
 
 -- the pigeonhole: where a place is not marked, fewer are marked than there are
-trues-room : (m : List Bool) (i : ℕ) → i < length m → getD m i false ≡ false → trues m < length m
+pub trues-room : (m : List Bool) (i : ℕ) → i < length m → getD m i false ≡ false → trues m < length m
 unfolding trues
 trues-room [] i h e = absurd (not-suc-le-zero h)
 trues-room (true ∷ m) zero h e = absurd (no-both true refl e)
@@ -257,6 +257,20 @@ below-putAt {m} s r x b h = record { below = go (getD (s .pat .marks) r false) }
     go true k g = b .below k g
     go false k g = set-below (s .pat .list) (s .pat .count) r m h (b .below) k (omega arith)
 
+-- what a column taken off keeps
+module _ {n : ℕ} (x : Float) (rows : List ℕ) (coeffs : List Float) (w : Within n (length rows) rows) (s : Sv) (g : Good n s) where
+  pub good-taking : (k : ℕ) → k ≤ length rows → Good n (run (takeTurn x rows coeffs) k s)
+  good-taking k h = keeps (takeTurn x rows coeffs) s (λ _. Good n) (length rows) (λ j t l p. good-putAt t _ _ p (w .inside j l)) g k h
+
+  pub good-takeOff : Good n (takeOff x rows coeffs s)
+  unfolding takeOff
+  good-takeOff = good-taking (length rows) (le-refl (length rows))
+
+pub below-takeOff : {m : ℕ} (x : Float) (rows : List ℕ) (coeffs : List Float) → Within m (length rows) rows → (s : Sv) → Below m s → Below m (takeOff x rows coeffs s)
+unfolding takeOff
+below-takeOff {m} x rows coeffs w s b =
+    keeps (takeTurn x rows coeffs) s (λ _. Below m) (length rows) (λ j t l p. below-putAt t _ _ p (w .inside j l)) b (length rows) (le-refl (length rows))
+
 -- what `load` keeps
 module _ {n : ℕ} (at : List ℕ) (xs : List Float) (m : ℕ) (w : Within n m at) where
   pub good-loading : (s : Sv) → Good n s → (k : ℕ) → k ≤ m → Good n (run (putTurn at xs) k s)
@@ -265,6 +279,60 @@ module _ {n : ℕ} (at : List ℕ) (xs : List Float) (m : ℕ) (w : Within n m a
   pub good-loaded : (s : Sv) → Good n s → Good n (loaded at xs m s)
   unfolding loaded
   good-loaded s g = good-loading s g m (le-refl m)
+
+-- what holds while a vector is cleared: the listed places that are left are those marked
+pub record Clearing (n : ℕ) (l : List ℕ) (k : ℕ) (s : Sv) : Type 0 where
+  pub vals-long : length (s .vals) ≡ n
+  pub marks-long : length (s .pat .marks) ≡ n
+  pub list-long : length (s .pat .list) ≡ n
+  pub left : Built (drop k l) (s .pat .marks)
+  pub zeros : (j : ℕ) → j < n → getD (s .pat .marks) j false ≡ false → s .vals ! j ≡ f0
+
+-- a place unmarked and set to 0.0
+zeros-clear : (v : List Float) (m : List Bool) (i j : ℕ) (b : Bool) → eqb j i ≡ b → i < length v → (getD m j false ≡ false → v ! j ≡ f0)
+    → getD (set m i false) j false ≡ false → set v i f0 ! j ≡ f0
+zeros-clear v m i j true e h z f = ap (λ (k : ℕ). set v i f0 ! k) (eqb-true j i e) ∙ getD-set-same v i f0 nan h
+zeros-clear v m i j false e h z f =
+    getD-set-other v i j f0 nan (eqb-false j i e) ∙ z (sym (getD-set-other m i j false false (eqb-false j i e)) ∙ f)
+
+module _ {n : ℕ} (s : Sv) (g : Good n s) where
+  abbrev lst : List ℕ
+  lst = take (s .pat .count) (s .pat .list)
+
+  clearing-turn : (k : ℕ) (t : Sv) → k < s .pat .count → Clearing n lst k t → Clearing n lst (k + 1) (clearTurn (s .pat .list) k t)
+  unfolding Built
+  clearing-turn k t h p =
+      let b = subst (λ (l : List ℕ). Built l (t .pat .marks)) (drop-cons lst k 0 (omega (arith, used-long (s .pat) (g .wf)))) (p .left) in
+      record {
+        vals-long = simp length-set (p .vals-long);
+        marks-long = simp length-set (p .marks-long);
+        list-long = p .list-long;
+        left = subst (λ (i : ℕ). Built (drop (k + 1) lst) (set (t .pat .marks) i false)) (getD-take (s .pat .count) (s .pat .list) k 0 h)
+            (subst (λ (j : ℕ). Built (drop j lst) (set (t .pat .marks) (getD lst k 0) false)) (sym (add-one k)) (b .2));
+        zeros = λ j l f. zeros-clear (t .vals) (t .pat .marks) (s .pat .list # k) j (eqb j (s .pat .list # k)) refl
+            (omega (arith, p .vals-long, wf-listed (s .pat) (g .wf) k h)) (λ u. p .zeros j l u) f;
+      }
+
+  pub clearing : (k : ℕ) → k ≤ s .pat .count → Clearing n lst k (run (clearTurn (s .pat .list)) k s)
+  clearing k h =
+      keeps (clearTurn (s .pat .list)) s (Clearing n lst) (s .pat .count) clearing-turn
+      (record { vals-long = g .vals-long; marks-long = g .wf .marks-long; list-long = g .wf .list-long; left = g .wf .built; zeros = g .zeros }) k h
+
+  pub good-cleared : Good n (cleared s)
+  unfolding cleared Built
+  good-cleared =
+      let p = clearing (s .pat .count) (le-refl (s .pat .count)) in
+      record {
+        vals-long = p .vals-long;
+        wf = record {
+          marks-long = p .marks-long;
+          list-long = p .list-long;
+          within = omega arith;
+          built = subst (λ (l : List ℕ). Built l (run (clearTurn (s .pat .list)) (s .pat .count) s .pat .marks))
+              (drop-of-length-le lst {i = s .pat .count} (omega (arith, used-long (s .pat) (g .wf)))) (p .left);
+        };
+        zeros = p .zeros;
+      }
 
 -- what fresh arrays hold is in order, and lists nothing
 pub good-blank : Good places blank
@@ -283,15 +351,6 @@ good-blank =
 
 pub below-blank : {m : ℕ} → Below m blank
 below-blank = record { below = λ k h. absurd (omega arith) }
-
--- ---- a column taken off
-module _ {n : ℕ} (x : Float) (rows : List ℕ) (coeffs : List Float) (w : Within n (length rows) rows) (s : Sv) (g : Good n s) where
-  pub good-taking : (k : ℕ) → k ≤ length rows → Good n (run (takeTurn x rows coeffs) k s)
-  good-taking k h = keeps (takeTurn x rows coeffs) s (λ _. Good n) (length rows) (λ j t l p. good-putAt t _ _ p (w .inside j l)) g k h
-
-  pub good-takeOff : Good n (takeOff x rows coeffs s)
-  unfolding takeOff
-  good-takeOff = good-taking (length rows) (le-refl (length rows))
 
 -- a loop that lists a vector anew
 pub good-relisting : (c : Sv) → Within places (c .pat .count) (c .pat .list) → (k : ℕ) → k ≤ c .pat .count → Good places (run (λ k t. putAt t (listed c k) (listedVal c k)) k blank)

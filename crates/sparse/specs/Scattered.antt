@@ -53,6 +53,13 @@ addAt s i x = putAt s i (s .vals ! i ⊕ x)
 abbrev pub subAt : Sv → ℕ → Float → Sv
 subAt s i x = putAt s i (s .vals ! i ⊖ x)
 
+-- x times a column taken off, in its order; a place is touched even where x is 0.0
+abbrev pub takeTurn : Float → List ℕ → List Float → ℕ → Sv → Sv
+takeTurn x rows coeffs k s = subAt s (rows # k) (x ⊗ coeffs ! k)
+
+unfoldable pub takeOff : Float → List ℕ → List Float → Sv → Sv
+takeOff x rows coeffs s = run (takeTurn x rows coeffs) (length rows) s
+
 -- the k-th listed place, and the value there
 abbrev pub listed : Sv → ℕ → ℕ
 listed s k = s .pat .list # k
@@ -67,19 +74,19 @@ putTurn at xs k s = putAt s (at # k) (xs ! k)
 unfoldable pub loaded : List ℕ → List Float → ℕ → Sv → Sv
 loaded at xs n s = run (putTurn at xs) n s
 
+-- `clear`: the listed places set back to 0.0 and unmarked, and the list emptied. The list is read as it was
+abbrev pub clearTurn : List ℕ → ℕ → Sv → Sv
+clearTurn l k s = svOf (set (s .vals) (l # k) f0) (pat (set (s .pat .marks) (l # k) false) (s .pat .list) (s .pat .count))
+
+unfoldable pub cleared : Sv → Sv
+cleared s = let t = run (clearTurn (s .pat .list)) (s .pat .count) s in sv (t .vals) (t .pat .marks) (t .pat .list) 0
+
 -- `sq_norm`: 01: "Sums start at 0.0 and follow entry or listed order"
 abbrev pub squareTurn : Sv → ℕ → Float → Float
 squareTurn s k t = t ⊕ listedVal s k ⊗ listedVal s k
 
 unfoldable pub sqNorm : Sv → Float
 sqNorm s = run (squareTurn s) (s .pat .count) f0
-
--- x times a column taken off, in its order; a place is touched even where x is 0.0
-abbrev pub takeTurn : Float → List ℕ → List Float → ℕ → Sv → Sv
-takeTurn x rows coeffs k s = subAt s (rows # k) (x ⊗ coeffs ! k)
-
-unfoldable pub takeOff : Float → List ℕ → List Float → Sv → Sv
-takeOff x rows coeffs s = run (takeTurn x rows coeffs) (length rows) s
 
 -- the sum of coefficient times value, from 0.0, in order
 abbrev pub dotTurn : List ℕ → List Float → List Float → ℕ → Float → Float

@@ -7,7 +7,7 @@ ghost use mathlib.Core.List.{List};
 ghost use Prim.Native.Nat.{_<_, _≤_};
 ghost use lib.ListN.{length};
 ghost use Rattle.doubles.specs.Limits.{places};
-ghost use Rattle.sparse.specs.Scattered.{pat, sv, touched, putAt, addAt, subAt, loaded, sqNorm, takeOff, dot, relisted, listedFinite, Wf, Good, Fresh, Within};
+ghost use Rattle.sparse.specs.Scattered.{pat, sv, touched, putAt, addAt, subAt, loaded, cleared, sqNorm, takeOff, dot, relisted, listedFinite, Wf, Good, Fresh, Within};
 
 // 01: "A touched list grows at first touch". The new count is returned.
 pub fn touch(
@@ -82,6 +82,31 @@ pub fn sub_at(
     n
 }
 
+// x times a column taken off the vector. Every place of the column is touched, also where x is 0.0.
+pub fn take_off(
+    values: &mut [f64; doubles::PLACES],
+    marks: &mut [bool; doubles::PLACES],
+    list: &mut [usize; doubles::PLACES],
+    count: usize,
+    rows: &[usize],
+    coeffs: &[f64],
+    x: f64,
+) -> usize
+    requires { ⌜ Good places (sv (now values) (now marks) (now list) count) ⌝ }
+    requires { ⌜ (length (now rows) ≤ length (now coeffs)) × Within places (length (now rows)) (now rows) ⌝ }
+    ensures { λ r. ⌜ sv (now (values .exit)) (now (marks .exit)) (now (list .exit)) r ≡ takeOff x (now (rows .entry))
+        (now (coeffs .entry)) (sv (now (values .entry)) (now (marks .entry)) (now (list .entry)) count) ⌝ }
+{
+    let mut n = count;
+    let mut k = 0;
+    while k < rows.len() {
+        let r = rows[k];
+        n = sub_at(values, marks, list, n, r, x * coeffs[k]);
+        k += 1;
+    }
+    n
+}
+
 // `set`, onto the vector as it stands: the first n of xs put at the first n places of `at`, in turn.
 pub fn load(
     values: &mut [f64; doubles::PLACES],
@@ -107,6 +132,26 @@ pub fn load(
     c
 }
 
+// The listed places are set back to 0.0 and unmarked. The count after it is 0.
+pub fn clear(
+    values: &mut [f64; doubles::PLACES],
+    marks: &mut [bool; doubles::PLACES],
+    list: &[usize; doubles::PLACES],
+    count: usize,
+)
+    requires { ⌜ Good places (sv (now values) (now marks) (now list) count) ⌝ }
+    ensures { λ _. ⌜ sv (now (values .exit)) (now (marks .exit)) (now (list .entry)) 0
+        ≡ cleared (sv (now (values .entry)) (now (marks .entry)) (now (list .entry)) count) ⌝ }
+{
+    let mut k = 0;
+    while k < count {
+        let i = list[k];
+        values[i] = 0.0;
+        marks[i] = false;
+        k += 1;
+    }
+}
+
 // 01: "Sums start at 0.0 and follow entry or listed order". It reads no marks: they may be any.
 pub fn sq_norm(
     values: &[f64; doubles::PLACES],
@@ -124,31 +169,6 @@ pub fn sq_norm(
         k += 1;
     }
     sum
-}
-
-// x times a column taken off the vector. Every place of the column is touched, also where x is 0.0.
-pub fn take_off(
-    values: &mut [f64; doubles::PLACES],
-    marks: &mut [bool; doubles::PLACES],
-    list: &mut [usize; doubles::PLACES],
-    count: usize,
-    rows: &[usize],
-    coeffs: &[f64],
-    x: f64,
-) -> usize
-    requires { ⌜ Good places (sv (now values) (now marks) (now list) count) ⌝ }
-    requires { ⌜ (length (now rows) ≤ length (now coeffs)) × Within places (length (now rows)) (now rows) ⌝ }
-    ensures { λ r. ⌜ sv (now (values .exit)) (now (marks .exit)) (now (list .exit)) r ≡ takeOff x (now (rows .entry))
-        (now (coeffs .entry)) (sv (now (values .entry)) (now (marks .entry)) (now (list .entry)) count) ⌝ }
-{
-    let mut n = count;
-    let mut k = 0;
-    while k < rows.len() {
-        let r = rows[k];
-        n = sub_at(values, marks, list, n, r, x * coeffs[k]);
-        k += 1;
-    }
-    n
 }
 
 // Coefficient times value, summed from 0.0 in the list's order. A row's sum and an eta column's are both this.

@@ -1,6 +1,6 @@
 -- The numbers in scratch are those of the start: cells past the columns are not read. Assumes nothing.
 use mathlib.Core.Path.{_≡_, refl, sym, ap, _∙_}
-use mathlib.Core.Bool.{Bool, _&&_}
+use mathlib.Core.Bool.{Bool, false, _&&_}
 use mathlib.Core.List.{List, []}
 use Prim.Native.Nat.{ℕ, _<_, _≤_}
 use native.Mathlib.Omega.{arith}
@@ -11,8 +11,8 @@ use Rattle.doubles.specs.Loop.{table}
 use Rattle.doubles.specs.Lists.{_!_, _#_, over}
 use Rattle.doubles.proofs.Loops.{run-same, all-same, over-same, length-tab}
 use Rattle.sparse.specs.Scattered.{Within, dot, dotTurn}
-use Rattle.rules.specs.Plan.{Plan, Problem, Etas, Workspace, nOf, mOf, rowCols, rowCoeffs, slackMin, slackMax}
-use Rattle.rules.specs.Parts.{workspaceOf, stateOf}
+use Rattle.rules.specs.Plan.{Plan, Problem, Etas, Workspace, Factored, State, Memory, nOf, mOf, rowCols, rowCoeffs, slackMin, slackMax}
+use Rattle.rules.specs.Parts.{workspaceOf, factoredOf, stateWith}
 use Rattle.rules.specs.Start.{startValAt, startVals, startObjective, objectiveTurn, startSlack, startNorm, startFlags, startWorkspace, startState, inBounds, passes6, passes7}
 use Rattle.rules.specs.Invariant.{ProblemFits}
 use Rattle.rules.proofs.Lists.{over-at, over-enough}
@@ -75,11 +75,20 @@ module _ (P : Problem) (s : Numbers) where
 and-same : {a b c d : Bool} → a ≡ b → c ≡ d → (a && c) ≡ (b && d)
 and-same e f = rw (e, f)
 
-workspace-same : {basicVars nbVars flags flags′ places : List ℕ} {basicVarVals basicVarVals′ nbVarVals nbVarVals′ prices norms norms′ : List Float} {h : Etas} {o : Float}
+workspace-same : {basicVars nbVars flags flags′ places : List ℕ}
+    {basicVarVals basicVarVals′ nbVarVals nbVarVals′ prices norms norms′ : List Float}
+    {h : Etas} {o : Float} {F : Factored}
     → basicVarVals ≡ basicVarVals′ → nbVarVals ≡ nbVarVals′ → norms ≡ norms′ → flags ≡ flags′
-    → stateOf (workspaceOf basicVars basicVarVals nbVars nbVarVals prices norms flags places h) 0 o 0
-    ≡ stateOf (workspaceOf basicVars basicVarVals′ nbVars nbVarVals′ prices norms′ flags′ places h) 0 o 0
+    → stateWith (workspaceOf basicVars basicVarVals nbVars nbVarVals prices norms flags places h) 0 o 0 F
+    ≡ stateWith (workspaceOf basicVars basicVarVals′ nbVars nbVarVals′ prices norms′ flags′ places h) 0 o 0 F
 workspace-same a b c d = rw (a, b, c, d)
+
+-- the state of numbers in scratch: the workspace that `write_start` leaves, and no factor
+abbrev pub stateFrom : Problem → Numbers → Memory → State
+stateFrom P u m =
+    let p = P .plan in
+    stateWith (written (nOf P) (mOf P) (p .costs) (p .lowers) (p .uppers) (u .vals) (u .slacks) (u .norms) (m .ws)) 0
+    (u .objective) 0 (factoredOf false 0 (m .factorNumbers) (m .factorCoeffs))
 
 module _ (P : Problem) (s : Numbers) where
   abbrev t : Numbers
@@ -120,14 +129,17 @@ module _ (P : Problem) (s : Numbers) where
       all-same (λ r. inBounds (slackMin (op r)) (t .slacks ! r) (slackMax (op r))) (λ r. inBounds (slackMin (op r)) (startSlack P ys r) (slackMax (op r))) (mOf P)
       (λ r h. ap (λ (x : Float). inBounds (slackMin (op r)) x (slackMax (op r))) (slack r h))
 
-  first-state : (w : Workspace) → stateOf (written (nOf P) (mOf P) (P .plan .costs) (P .plan .lowers) (P .plan .uppers) (t .vals) (t .slacks) (t .norms) w) 0 (t .objective) 0 ≡ startState P w
+  first-state : (m : Memory) → stateFrom P t m ≡ startState P m
   unfolding written startState startWorkspace reckoned
-  first-state w =
+  first-state m =
+      let w = m .ws in
       workspace-same
       (over-same (λ r. t .slacks ! r) (startSlack P ys) (mOf P) (w .basicVarVals) (w .basicVarVals) slack refl)
       (over-same (λ j. t .vals ! j) (λ j. ys ! j) (nOf P) (w .nbVarVals) (w .nbVarVals) val refl)
       (over-same (λ j. t .norms ! j) (startNorm P) (nOf P) (w .norms) (w .norms) norm refl)
-      (over-same (startFlags (costed (nOf P) [] (P .plan .lowers) (P .plan .uppers)) (t .vals)) (startFlags (P .plan) ys) (nOf P) (w .flags) (w .flags) (λ j h. rw (val j h)) refl)
+      (over-same
+      (startFlags (costed (nOf P) [] (P .plan .lowers) (P .plan .uppers)) (t .vals)) (startFlags (P .plan) ys) (nOf P)
+      (w .flags) (w .flags) (λ j h. rw (val j h)) refl)
 
 -- ---- for a caller: `u` is what `reckon` left, and `e` its promise
 module _ (P : Problem) (s u : Numbers) (e : u ≡ reckoned (unruledOf P) s) where
@@ -152,10 +164,8 @@ module _ (P : Problem) (s u : Numbers) (e : u ≡ reckoned (unruledOf P) s) wher
       })
 
   -- the workspace that `write_start` leaves is the start's
-  pub start-is : (w : Workspace) → stateOf (written (nOf P) (mOf P) (P .plan .costs) (P .plan .lowers) (P .plan .uppers) (u .vals) (u .slacks) (u .norms) w) 0 (u .objective) 0 ≡ startState P w
-  start-is w =
-      ap (λ (v : Numbers). stateOf (written (nOf P) (mOf P) (P .plan .costs) (P .plan .lowers) (P .plan .uppers) (v .vals) (v .slacks) (v .norms) w) 0 (v .objective) 0) whole
-      ∙ first-state P s w
+  pub start-is : (m : Memory) → stateFrom P u m ≡ startState P m
+  start-is m = ap (λ (v : Numbers). stateFrom P v m) whole ∙ first-state P s m
 
 -- ---- what the functions ask, of a problem that fits
 module _ (P : Problem) (f : ProblemFits P) where

@@ -1,4 +1,5 @@
--- The arrays that `memoryLong` asks for are long enough exactly when the two that hold them have their last sections.
+-- The arrays that `memoryLong` asks for are long enough exactly when the two that hold them have their last sections
+-- and the factor's two are long enough.
 -- Assumes nothing.
 use mathlib.Core.Path.{_≡_, refl, sym, ap, _∙_}
 use mathlib.Core.Bool.{Bool, true, false, _&&_}
@@ -12,6 +13,7 @@ use lib.Ieee.{Float}
 use borrow.Author.Tests.{leb-true, leb-false, le-leb, lt-leb}
 use Rattle.doubles.specs.Limits.{maxColumns, maxRows, vars, etaColumns, etaEntries, countCells}
 use Rattle.doubles.proofs.Loops.{both-true}
+use Rattle.lu_factor_rules.specs.Packed.{factorNumbers, factorCoeffs}
 use Rattle.rules.specs.Plan.{Plan, Memory}
 use Rattle.rules.specs.Refusals.{storeLong, workspaceLong, memoryLong}
 use Rattle.state.specs.Packed.{section, basicVarsAt, nbVarsAt, varStatesAt, flagCellsAt, etaLeavingAt, etaStartsAt, etaRowsAt, keptAt, countsAt, basicVarValsAt, nbVarValsAt, pricesAt, normsAt, etaCoeffsAt, objectiveAt}
@@ -40,9 +42,10 @@ failed-last x z = and-false x ∙ sym (and-false z)
 failed : (x z y c : Bool) → (x && false && y) ≡ (z && false && c)
 failed x z y c = ap (λ (b : Bool). b && y) (and-false x) ∙ sym (ap (λ (b : Bool). b && c) (and-false z))
 
-module _ (p : Plan) (v : List Float) (N : List ℕ) (D : List Float) (few : p .columns ≤ maxColumns) (low : p .rows ≤ maxRows) where
+module _ (p : Plan) (v : List Float) (N : List ℕ) (D : List Float) (F : List ℕ) (G : List Float)
+    (few : p .columns ≤ maxColumns) (low : p .rows ≤ maxRows) where
   abbrev m : Memory
-  m = memoryIn v N D
+  m = memoryIn v N D F G
 
   abbrev values : Bool
   values = leb (p .columns + p .rows) (length v)
@@ -51,9 +54,13 @@ module _ (p : Plan) (v : List Float) (N : List ℕ) (D : List Float) (few : p .c
   abbrev others : Bool
   others = values && leb (p .rows) (length (m .kept)) && workspaceLong (p .columns) (p .rows) (m .ws)
 
+  -- all but the factor's arrays
+  abbrev stateLong : Bool
+  stateLong = others && leb countCells (length (m .counts)) && leb 1 (length (m .objective))
+
   decided : (b c : Bool) → leb numbersEnd (length N) ≡ b → leb doublesEnd (length D) ≡ c
-      → memoryLong p (memoryIn v N D) ≡ (leb (p .columns + p .rows) (length v) && b && c)
-  unfolding memoryLong workspaceLong storeLong
+      → stateLong ≡ (values && b && c)
+  unfolding workspaceLong storeLong
   decided true true e f =
       let n : numbersEnd ≤ length N = leb-true _ _ e in
       let d : doublesEnd ≤ length D = leb-true _ _ f in
@@ -76,11 +83,30 @@ module _ (p : Plan) (v : List Float) (N : List ℕ) (D : List Float) (few : p .c
   decided true false e f = rw (lacks objectiveAt 1 D (omega arith) (leb-false doublesEnd (length D) f)) (failed-last (others && leb countCells (length (m .counts))) (values && true))
   decided false c e f = rw (lacks countsAt countCells N (omega arith) (leb-false numbersEnd (length N) e)) (failed others values (leb 1 (length (m .objective))) c)
 
-  pub long-is : memoryLong p (memoryIn v N D) ≡ (leb (p .columns + p .rows) (length v) && leb numbersEnd (length N) && leb doublesEnd (length D))
-  long-is = decided (leb numbersEnd (length N)) (leb doublesEnd (length D)) refl refl
+  pub long-is :
+      memoryLong p m ≡ (values && leb numbersEnd (length N) && leb doublesEnd (length D) && leb factorNumbers (length F)
+      && leb factorCoeffs (length G))
+  unfolding memoryLong
+  long-is =
+      ap (λ (b : Bool). b && leb factorNumbers (length F) && leb factorCoeffs (length G))
+      (decided (leb numbersEnd (length N)) (leb doublesEnd (length D)) refl refl)
 
   -- for the caller
-  pub arrays-long : memoryLong p (memoryIn v N D) ≡ true → (numbersEnd ≤ length N) × (doublesEnd ≤ length D)
+  pub record Long : Type 0 where
+    pub numbers : numbersEnd ≤ length N
+    pub doubles : doublesEnd ≤ length D
+    pub factor-numbers : factorNumbers ≤ length F
+    pub factor-coeffs : factorCoeffs ≤ length G
+
+  pub arrays-long : memoryLong p m ≡ true → Long
   arrays-long e =
-      let b = both-true (leb (p .columns + p .rows) (length v) && leb numbersEnd (length N)) (leb doublesEnd (length D)) (sym long-is ∙ e) in
-      (leb-true numbersEnd (length N) (both-true (leb (p .columns + p .rows) (length v)) (leb numbersEnd (length N)) (b .0) .1), leb-true doublesEnd (length D) (b .1))
+      let d = both-true _ (leb factorCoeffs (length G)) (sym long-is ∙ e) in
+      let c = both-true _ (leb factorNumbers (length F)) (d .0) in
+      let b = both-true _ (leb doublesEnd (length D)) (c .0) in
+      let a = both-true values (leb numbersEnd (length N)) (b .0) in
+      record {
+        numbers = leb-true _ _ (a .1);
+        doubles = leb-true _ _ (b .1);
+        factor-numbers = leb-true _ _ (c .1);
+        factor-coeffs = leb-true _ _ (d .1);
+      }

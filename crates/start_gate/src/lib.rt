@@ -20,22 +20,27 @@ pub enum Begun {
     On(f64),
 }
 
-// 1: "Needed are columns plus rows of values, dropped rows counted, and the full stated store": each array whole,
-// whatever the plan's sizes. Those are small by then, so that they may be added.
+// 1: "Needed are columns plus rows of values, dropped rows counted, and the full stated store", and the factor's two
+// arrays: each whole, whatever the plan's sizes. Those are small by then, so that they may be added.
 pub fn memory_long(
     columns: usize,
     rows: usize,
     values: &[f64],
     numbers: &[usize],
     doubles: &[f64],
+    factor_numbers: &[usize],
+    factor_coeffs: &[f64],
 ) -> bool
     requires { ⌜ (columns ≤ maxColumns) × (rows ≤ maxRows) ⌝ }
     ensures { λ r. ⌜ r ≡ memoryLong (planOf columns rows 0 0 f0 [] [] [] [] [] [] [] [])
-        (memoryIn (now (values .entry)) (now (numbers .entry)) (now (doubles .entry))) ⌝ }
+        (memoryIn (now (values .entry)) (now (numbers .entry)) (now (doubles .entry)) (now («factor_numbers» .entry))
+        (now («factor_coeffs» .entry))) ⌝ }
 {
     (columns + rows <= values.len())
         & (state::NUMBERS <= numbers.len())
         & (state::DOUBLES <= doubles.len())
+        & (lu_factor_rules::FACTOR_NUMBERS <= factor_numbers.len())
+        & (lu_factor_rules::FACTOR_COEFFS <= factor_coeffs.len())
 }
 
 // 1 to 5. Any sizes and any arrays: "Sizes are tested before any cell is read".
@@ -56,11 +61,13 @@ pub fn refusal(
     values: &[f64],
     numbers: &[usize],
     doubles: &[f64],
+    factor_numbers: &[usize],
+    factor_coeffs: &[f64],
 ) -> plan::Refusal
     ensures { λ r. ⌜ r ≡ refusalBy (planOf columns rows entries budget tolerance (now (costs .entry))
         (now (lowers .entry)) (now (uppers .entry)) (now (starts .entry)) (now (cols .entry)) (now (coeffs .entry))
         (now (ops .entry)) (now (rhs .entry))) (memoryIn (now (values .entry)) (now (numbers .entry))
-        (now (doubles .entry))) ⌝ }
+        (now (doubles .entry)) (now («factor_numbers» .entry)) (now («factor_coeffs» .entry))) ⌝ }
 {
     if !plan::sizes_fit(columns, rows, entries, budget) {
         return plan::Refusal::By(rules::Answer::BadSize);
@@ -80,7 +87,15 @@ pub fn refusal(
     ) {
         return plan::Refusal::By(rules::Answer::BadSize);
     }
-    if !memory_long(columns, rows, values, numbers, doubles) {
+    if !memory_long(
+        columns,
+        rows,
+        values,
+        numbers,
+        doubles,
+        factor_numbers,
+        factor_coeffs,
+    ) {
         return plan::Refusal::By(rules::Answer::BadSize);
     }
     plan::first_refusal(

@@ -35,8 +35,8 @@ doublesOf m past =
 next : {A : Type 0} (a k : ℕ) (xs : List A) {rest : List A} → drop (a + k) xs ≡ rest → drop a xs ≡ section a k xs ++ rest
 next {A} a k xs e = glue a k xs ∙ ap (λ (l : List A). section a k xs ++ l) e
 
-module _ (v : List Float) (N : List ℕ) (D : List Float) where
-  numbers-are : N ≡ numbersOf (memoryIn v N D) (pastOf N D)
+module _ (v : List Float) (N : List ℕ) (D : List Float) (F : List ℕ) (G : List Float) where
+  numbers-are : N ≡ numbersOf (memoryIn v N D F G) (pastOf N D)
   numbers-are =
       next basicVarsAt maxRows N
       (next nbVarsAt maxColumns N
@@ -48,7 +48,7 @@ module _ (v : List Float) (N : List ℕ) (D : List Float) where
       (next keptAt maxRows N
       (glue countsAt countCells N))))))))
 
-  doubles-are : D ≡ doublesOf (memoryIn v N D) (pastOf N D)
+  doubles-are : D ≡ doublesOf (memoryIn v N D F G) (pastOf N D)
   doubles-are =
       next basicVarValsAt maxRows D
       (next nbVarValsAt maxColumns D
@@ -57,12 +57,21 @@ module _ (v : List Float) (N : List ℕ) (D : List Float) where
       (next etaCoeffsAt etaEntries D
       (glue objectiveAt 1 D)))))
 
-pub cells-settle : {v w : List Float} {N M : List ℕ} {D E : List Float} → memoryIn v N D ≡ memoryIn w M E → pastOf N D ≡ pastOf M E → (v ≡ w) × (N ≡ M) × (D ≡ E)
-cells-settle {v} {w} {N} {M} {D} {E} e f = (
-  ap (λ (m : Memory). m .values) e,
-  numbers-are v N D ∙ ap (λ (m : Memory). numbersOf m (pastOf N D)) e ∙ ap (numbersOf (memoryIn w M E)) f ∙ sym (numbers-are w M E),
-  doubles-are v N D ∙ ap (λ (m : Memory). doublesOf m (pastOf N D)) e ∙ ap (doublesOf (memoryIn w M E)) f ∙ sym (doubles-are w M E),
-)
+module _ {v w : List Float} {N M : List ℕ} {D E : List Float} {F H : List ℕ} {G J : List Float} where
+  pub cells-settle :
+      memoryIn v N D F G ≡ memoryIn w M E H J
+      → pastOf N D ≡ pastOf M E
+      → (v ≡ w) × (N ≡ M) × (D ≡ E) × (F ≡ H) × (G ≡ J)
+  cells-settle e f =
+      let m = memoryIn w M E H J in (
+        ap (λ (m : Memory). m .values) e,
+        numbers-are v N D F G
+            ∙ ap (λ (m : Memory). numbersOf m (pastOf N D)) e ∙ ap (numbersOf m) f ∙ sym (numbers-are w M E H J),
+        doubles-are v N D F G
+            ∙ ap (λ (m : Memory). doublesOf m (pastOf N D)) e ∙ ap (doublesOf m) f ∙ sym (doubles-are w M E H J),
+        ap (λ (m : Memory). m .factorNumbers) e,
+        ap (λ (m : Memory). m .factorCoeffs) e,
+      )
 
 -- ---- a run is lent the front of each array
 pub front-packed : (M R : List ℕ) (E S : List Float) → Sized M E → packed (M ++ R) (E ++ S) ≡ packed M E
@@ -106,8 +115,12 @@ module _ (N : List ℕ) (D : List Float) (n : numbersEnd ≤ length N) (d : doub
     pub after-long : (length (M ++ drop keptAt N) ≡ length N) × (length (E ++ drop objectiveAt D) ≡ length D)
     after-long = (numbers-changed .long, doubles-changed .long)
 
-    pub after-memory : (v : List Float) → memoryIn v (M ++ drop keptAt N) (E ++ drop objectiveAt D) ≡ memoryOf v (section keptAt maxRows N) (packed M E) (section countsAt countCells N) (section objectiveAt 1 D)
-    after-memory v =
+    pub after-memory :
+        (v : List Float) (F : List ℕ) (G : List Float)
+        → memoryIn v (M ++ drop keptAt N) (E ++ drop objectiveAt D) F G
+        ≡ memoryOf v (section keptAt maxRows N) (packed M E) (section countsAt countCells N) (section objectiveAt 1 D)
+        F G
+    after-memory v F G =
         rw (
           front-packed M (drop keptAt N) E (drop objectiveAt D) after-sized,
           numbers-changed .after keptAt maxRows (omega arith),

@@ -1,5 +1,6 @@
--- Everything lent to a solve, read out of the values and the two arrays. The counts and the objective stand last, so an
--- array that has them has every section, whatever the plan's sizes. Assumes nothing.
+-- Everything lent to a solve, read out of the values, the two arrays and the factor's two, which stand whole. The
+-- counts and the objective stand last, so an array that has them has every section, whatever the plan's sizes. Assumes
+-- nothing.
 use mathlib.Core.List.{List}
 use Prim.Native.Nat.{ℕ, _+_}
 use lib.ListN.{drop}
@@ -18,8 +19,9 @@ numbersEnd = countsAt + countCells
 abbrev pub doublesEnd : ℕ
 doublesEnd = objectiveAt + 1
 
-abbrev pub memoryIn : List Float → List ℕ → List Float → Memory
-memoryIn v N D = memoryOf v (section keptAt maxRows N) (packed N D) (section countsAt countCells N) (section objectiveAt 1 D)
+abbrev pub memoryIn : List Float → List ℕ → List Float → List ℕ → List Float → Memory
+memoryIn v N D F G =
+    memoryOf v (section keptAt maxRows N) (packed N D) (section countsAt countCells N) (section objectiveAt 1 D) F G
 
 -- the cells past the sections
 pub record Past : Type 0 where
@@ -37,5 +39,5 @@ pub record Handed : Type 0 where
 abbrev pub handed : Solved → Past → Handed
 handed s past = record { solved = s; past = past }
 
-abbrev pub answered : Answer → List Float → List ℕ → List Float → Handed
-answered a v N D = handed (solved a (memoryIn v N D)) (pastOf N D)
+abbrev pub answered : Answer → List Float → List ℕ → List Float → List ℕ → List Float → Handed
+answered a v N D F G = handed (solved a (memoryIn v N D F G)) (pastOf N D)

@@ -1,13 +1,13 @@
 -- The state in two lists: each array of the workspace is a section at a fixed place. src/lib.rt has the same names for
 -- the code. Assumes nothing.
 use mathlib.Core.Path.{_≡_}
-use mathlib.Core.List.{List}
+use mathlib.Core.List.{List, []}
 use Prim.Native.Nat.{ℕ, _+_}
 use lib.ListN.{length, take, drop}
 use lib.Ieee.{Float}
 use Rattle.doubles.specs.Limits.{maxRows, maxColumns, vars, etaColumns, etaEntries}
 use Rattle.rules.specs.Plan.{Workspace, State}
-use Rattle.rules.specs.Parts.{etasOf, workspaceOf, stateOf}
+use Rattle.rules.specs.Parts.{etasOf, workspaceOf, factoredOf, stateWith}
 use Rattle.state.specs.declared.Tally.{Tally}
 
 -- k cells from a on: what is lent by `&xs[a..a + k]`
@@ -78,9 +78,14 @@ packed N D =
     (section etaRowsAt etaEntries N)
     (section etaCoeffsAt etaEntries D))
 
--- the state, with its numbers that stand in no array
+-- the state, with its numbers that stand in no array and the factor's two arrays, whole
+abbrev pub stateIn : List ℕ → List Float → List ℕ → List Float → Tally → State
+stateIn N D F G t =
+    stateWith (packed N D) (t .«eta_count») (t .objective) (t .steps) (factoredOf (t .factored) (t .factorings) F G)
+
+-- the state for a function that isn't lent the factor's arrays
 abbrev pub stateAt : List ℕ → List Float → Tally → State
-stateAt N D t = stateOf (packed N D) (t .«eta_count») (t .objective) (t .steps)
+stateAt N D t = stateIn N D [] [] t
 
 -- each array is just the workspace's part, which ends where the kept rows and the objective begin
 pub record Sized (N : List ℕ) (D : List Float) : Type 0 where

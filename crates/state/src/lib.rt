@@ -73,6 +73,9 @@ pub struct Tally {
     pub eta_count: usize,
     pub objective: f64,
     pub steps: usize,
+    // Whether there is a factor, and how often the basis was factored.
+    pub factored: bool,
+    pub factorings: usize,
 }
 
 // The numbers of an exchange, as the ratio gives them.

@@ -101,7 +101,7 @@ pub fn maps_fine(columns: usize, rows: usize, starts: &[usize], numbers: &[usize
     requires { ⌜ (columns ≤ maxColumns) × (rows ≤ maxRows) × (rows < length (now starts)) ×
         (numbersEnd ≤ length (now numbers)) ⌝ }
     ensures { λ r. ⌜ r ≡ mapsFine (planOf columns rows 0 0 f0 [] [] [] (now (starts .entry)) [] [] [] [])
-        (memoryIn [] (now (numbers .entry)) []) ⌝ }
+        (memoryIn [] (now (numbers .entry)) [] [] []) ⌝ }
 {
     let count = numbers[state::COUNTS];
     if !rows_fine(rows, starts, count, &numbers[state::KEPT..state::KEPT_END]) {

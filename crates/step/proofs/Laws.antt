@@ -1,23 +1,23 @@
 -- What the calls of a step ask, from a problem and a state that fit, the ways it ends, and what a run uses. No contract cites this file. Assumes nothing.
 use mathlib.Core.Path.{_≡_, refl, sym, subst, ap, _∙_}
 use mathlib.Core.Bool.{Bool, true, false}
-use mathlib.Core.List.{List}
-use Prim.Native.Nat.{ℕ, suc, _<_, _≤_}
+use mathlib.Core.List.{List, []}
+use Prim.Native.Nat.{ℕ, suc, _+_, _<_, _≤_}
 use native.Mathlib.Omega.{arith}
 use lib.ListN.{length}
 use lib.Ieee.{Float}
 use Rattle.doubles.specs.Limits.{maxRows, maxColumns, places}
 use Rattle.doubles.specs.Lists.{_#_}
-use Rattle.sparse.specs.Scattered.{Sv, sv, Within, listedFinite}
+use Rattle.sparse.specs.Scattered.{Sv, sv, Wf, Within, listedFinite}
 use Rattle.rules.specs.Plan.{Problem, Workspace, State, nOf, column, varMin, varMax}
 use Rattle.rules.specs.Parts.{planOf, problem, bounded, rowed}
 use Rattle.rules.specs.Choose.{otherVal, choose}
-use Rattle.rules.specs.Basis.{colCoeffs, addRow, combine, rowCoeffsOf, helperOf}
+use Rattle.rules.specs.Basis.{colCoeffs, addRow, combine, rowCoeffsOf, helperOf, touchAt}
 use Rattle.rules.specs.Ratio.{ahead, limit, examined, relaxed, stepTo, soundRatios, passOne, candidate, passTwoTurn, passTwo, flipOf, exchangeOf as ratioExchange, pivotOf, soundDistance, ratio}
 use Rattle.rules.specs.Choices.{RatioGives, exchanges as gives-exchange}
-use Rattle.rules.specs.Pivot.{flagsAt, flipFinite, flipped, exchangeFinite, exchanged}
+use Rattle.rules.specs.Pivot.{flagsAt, flipFinite, flipped, numbersFinite, exchanged, refactored}
 use Rattle.rules.specs.Step.{Outcome, moved, stopped, orStop, step, pivot, flip, exchange}
-use Rattle.rules.specs.Invariant.{ProblemFits, Fits, Vector}
+use Rattle.rules.specs.Invariant.{ProblemFits, FactorFits, Fits, Vector}
 use Rattle.rules.specs.declared.Entering.{Entering}
 use Rattle.rules.specs.declared.Choice.the-variants.{Enters as Enters·column}
 use Rattle.rules.specs.declared.PivotInfo.{PivotInfo}
@@ -26,7 +26,7 @@ use Rattle.rules.specs.declared.Ratio.{Ratio}
 use Rattle.rules.specs.declared.Ratio.the-variants.{Pivot, Unbounded, NotFinite}
 use Rattle.rules.specs.declared.Stop.{Stop}
 use Rattle.rules.specs.declared.Stop.the-variants.{Unbounded as Stop·Unbounded, NotFinite as Stop·NotFinite}
-use Rattle.rules.proofs.Vectors.{rows-places, column-vector}
+use Rattle.rules.proofs.Vectors.{rows-places, scattered-vector, vector-touchAt, column-vector}
 use Rattle.rules.proofs.Choices.{ratio-exactly}
 use Rattle.rules.proofs.Keeps.{step-fits}
 use Rattle.rules.proofs.Steps.{step-counts}
@@ -40,21 +40,23 @@ use Rattle.step_numbers.specs.Lent.{Listing}
 use Rattle.step_numbers.proofs.Parts.{vector-listing}
 use Rattle.step_store.specs.Lent.{Flips}
 use Rattle.cells.proofs.Parts.{boundsOf}
-use Rattle.step_store.proofs.Parts.{fits-flips, flipped-part}
+use Rattle.step_store.proofs.Parts.{fits-flips, withArrays, flipped-part}
 use Rattle.basis_columns.specs.Columns.{ByColumns}
-use Rattle.basis_solves.specs.Lent.{ColumnLent}
-use Rattle.state.specs.Packed.{packed, stateAt}
+use Rattle.basis_columns.specs.Loading.{columnOn, ColumnLent}
+use Rattle.basis_columns.proofs.Loading.{column-is}
+use Rattle.state.specs.Packed.{packed, stateIn}
 use Rattle.state.specs.declared.Tally.{Tally}
 use Rattle.state.specs.declared.Exchange.{Exchange}
-use Rattle.step_exchange.specs.Left.{Left, on, off, after, stepped}
-use Rattle.step_exchange.specs.Lent.{Ready}
+use Rattle.step_refactor.specs.Left.{Left, on, off, after, stepped}
+use Rattle.step_refactor.specs.Lent.{Ready, ReadyBy}
+use Rattle.step_refactor.proofs.Laws.{column-lent}
 use Rattle.step.specs.Found.{Found, flips, exchanges, ends, exchangeOf, byPivot, byRatio, found, foundBy}
 use Rattle.step.specs.declared.Decided.{Decided}
 use Rattle.step.specs.declared.Decided.the-variants.{Flips as Flips·found, Exchanges, Stops}
 
 -- ---- what the calls ask
-module _ {n : ℕ} {lowers uppers : List Float} {starts cols : List ℕ} {coeffs : List Float} {ops kept : List ℕ} {N : List ℕ} {D : List Float} {t : Tally}
-    (rd : Ready n lowers uppers starts cols coeffs ops kept N D t) (e : Entering) (inside : e .col < n) where
+module _ {n : ℕ} {lowers uppers : List Float} {starts cols : List ℕ} {coeffs : List Float} {ops kept : List ℕ} {N : List ℕ} {D : List Float}
+    {F : List ℕ} {G : List Float} {t : Tally} (rd : Ready n lowers uppers starts cols coeffs ops kept N D F G t) (e : Entering) (inside : e .col < n) where
   abbrev P : Problem
   P = problem (planOf n (rd .rows) (rd .entries) (rd .budget) (rd .tolerance) (rd .costs) lowers uppers starts cols coeffs ops (rd .rhs)) kept
 
@@ -62,31 +64,48 @@ module _ {n : ℕ} {lowers uppers : List Float} {starts cols : List ℕ} {coeffs
   Q = stepped n lowers uppers starts cols coeffs ops kept
 
   abbrev s : State
-  s = stateAt N D t
+  s = stateIn N D F G t
 
   abbrev var : ℕ
   var = packed N D .nbVars # e .col
 
+  -- the entering variable is one
+  var-below : var < n + length kept
+  var-below = rd .state-fits .maps .place (e .col) inside .var
+
   pub column-asks : {S R : List ℕ} {X : List Float} → ByColumns (rowed n starts cols coeffs kept) S R X → n < length S
-      → (e .col < maxColumns) × ColumnLent S R X n var × Readable (packed N D .etas) (t .«eta_count»)
-  column-asks m long =
-      let few = rows-places P (rd .problem-fits) in (
+      → (e .col < maxColumns) × (ColumnLent S R X n var × Vector (length kept) (columnOn S R X n var))
+      × (Readable (packed N D .etas) (t .«eta_count») × FactorFits (length kept) (s .factor))
+  unfolding column
+  column-asks {S} {R} {X} m long =
+      let rb : ReadyBy n lowers uppers ops kept S R X N D F G t = record {
+        starts = starts;
+        cols = cols;
+        coeffs = coeffs;
+        ready = rd;
+        by-columns = m;
+        starts-long = long;
+      } in (
         omega (arith, rd .problem-fits .plan .columns-most),
-        record {
-          starts-long = λ h. omega arith;
-          rises = λ h. m .column var h .rises;
-          rows-long = λ h. omega (arith, m .rows-long, m .column var h .ends);
-          coeffs-long = λ h. omega (arith, m .coeffs-long, m .column var h .ends);
-          row = λ h k a b. omega (arith, m .column var h .row k a b);
-          own = λ h. omega (arith, rd .state-fits .maps .place (e .col) inside .var);
-        },
-        fits-readable P (rd .problem-fits) s (rd .state-fits),
+        (
+          column-lent rb var var-below,
+          subst (Vector (length kept)) (sym (column-is S R X n var (rowed n starts cols coeffs kept) refl m))
+              (scattered-vector P (rd .problem-fits) var var-below),
+        ),
+        (fits-readable P (rd .problem-fits) s (rd .state-fits), rd .state-fits .factor),
       )
 
   module _ {c : Sv} (ec : c ≡ colCoeffs Q s var) where
     pub solved : Vector (length kept) c
     unfolding colCoeffs column
     solved = subst (Vector (length kept)) (sym ec) (column-vector P (rd .problem-fits) s (rd .state-fits) var (rd .state-fits .maps .place (e .col) inside .var))
+
+    pub touch-asks : (row : ℕ) → row < length kept → (row < places) × Wf places (c .pat)
+    touch-asks row h = (omega (arith, rows-places P (rd .problem-fits)), solved .good .wf)
+
+    -- with the leaving row touched
+    pub touched-solved : (row : ℕ) → row < length kept → (k : Sv) → k ≡ touchAt c row → Vector (length kept) k
+    touched-solved row h k q = subst (Vector (length kept)) (sym q) (vector-touchAt c row (rows-places P (rd .problem-fits)) solved h)
 
     pub listed-asks : (c .pat .count ≤ places) × Within places (c .pat .count) (c .pat .list)
     listed-asks = vector-listed c solved
@@ -174,7 +193,7 @@ module _ (Q : Problem) (s : State) (e : Entering) where
 
   abbrev byFound : Found → Outcome
   byFound (flips c value diff) = moved (Flip value diff) (flipped Q s e c value diff)
-  byFound (exchanges c x) = exchange Q s e c (x .value) (x .diff) (x .row) (x .pivot) (x .leaving)
+  byFound (exchanges c x) = exchange Q s e (touchAt c (x .row)) (x .value) (x .diff) (x .row) (x .pivot) (x .leaving)
   byFound (ends w) = stopped w
 
   by-test : (c : Sv) (b : Bool) (u v : Float) → orStop b Stop·NotFinite (moved (Flip u v) (flipped Q s e c u v)) ≡ byFound (elim b [ true ↦ flips c u v | false ↦ ends Stop·NotFinite ])
@@ -199,7 +218,7 @@ module _ (Q : Problem) (s : State) (e : Entering) where
 
   -- what the code decided, with the vector as it left it
   module _ (d : Decided) (v : List Float) (m : List Bool) (l : List ℕ) (q : foundBy d v m l ≡ found Q s e) where
-    pub step-stops : (w : Stop) → d ≡ Stops w → off w (s .ws) ≡ after s (step Q s e)
+    pub step-stops : (w : Stop) → d ≡ Stops w → off w (s .ws) (s .factor .numbers) (s .factor .coeffs) ≡ after s (step Q s e)
     unfolding after
     step-stops w f = ended-by (ends w) (rw f at q)
 
@@ -211,9 +230,10 @@ module _ (Q : Problem) (s : State) (e : Entering) where
       unfolding found
       flips-column = flips-by Q s e col (listedFinite col) (ratio Q (s .ws) e col) flip-found
 
-      pub step-flips : (t : State) → t ≡ flipped (boundsOf Q) s e (sv v m l k) value diff → on t ≡ after s (step Q s e)
+      pub step-flips : {u : State} → u ≡ flipped (boundsOf Q) (withArrays [] [] s) e (sv v m l k) value diff
+          → on (withArrays (s .factor .numbers) (s .factor .coeffs) u) ≡ after s (step Q s e)
       unfolding after
-      step-flips t et = ap on (et ∙ flipped-part Q s e (sv v m l k) value diff) ∙ ended-by (flips (sv v m l k) value diff) flip-found
+      step-flips {u} eu = ap on (flipped-part Q s e (sv v m l k) value diff {u = u} eu) ∙ ended-by (flips (sv v m l k) value diff) flip-found
 
     module _ (k : ℕ) (x : Exchange) (f : d ≡ Exchanges k x) where
       exchange-found : exchanges (sv v m l k) x ≡ found Q s e
@@ -223,8 +243,10 @@ module _ (Q : Problem) (s : State) (e : Entering) where
       unfolding found
       exchanges-column = exchanges-by Q s e col (listedFinite col) (ratio Q (s .ws) e col) exchange-found
 
-      pub step-exchanges : (o : Left) → o ≡ after s (exchange Q s e (sv v m l k) (x .value) (x .diff) (x .row) (x .pivot) (x .leaving)) → o ≡ after s (step Q s e)
-      step-exchanges o el = el ∙ ended-by (exchanges (sv v m l k) x) exchange-found
+      pub step-exchanges : (c : Sv) → c ≡ touchAt (sv v m l k) (x .row) → (o : Left) → o ≡ after s (exchange Q s e c (x .value) (x .diff) (x .row) (x .pivot) (x .leaving)) → o ≡ after s (step Q s e)
+      step-exchanges c ec o el =
+          el ∙ ap (λ (c : Sv). after s (exchange Q s e c (x .value) (x .diff) (x .row) (x .pivot) (x .leaving))) ec
+          ∙ ended-by (exchanges (sv v m l k) x) exchange-found
 
 -- ---- what a run uses
 abbrev pub steppedOf : Problem → Problem
@@ -232,7 +254,7 @@ steppedOf P = stepped (nOf P) (P .plan .lowers) (P .plan .uppers) (P .plan .star
 
 module _ (P : Problem) (s : State) (e : Entering) where
   pivot-part : (c : Sv) (i : PivotInfo) → pivot P s e c i ≡ pivot (steppedOf P) s e c i
-  unfolding pivot flip exchange flipFinite flipped exchangeFinite exchanged flagsAt varMin varMax rowCoeffsOf helperOf combine addRow
+  unfolding pivot flip exchange flipFinite flipped numbersFinite exchanged refactored flagsAt varMin varMax rowCoeffsOf helperOf combine addRow column
   pivot-part c (Flip value diff) = refl
   pivot-part c (Exchanging value diff row coeff leaving) = refl
 
@@ -256,10 +278,11 @@ module _ (s : State) where
   moves-on (moved i u) t q = (i, cc)
   moves-on (stopped w) t q = absurd (let z : _≡_ {A = ℕ} 0 1 = cc in omega arith)
 
-  pub stops-at : (o : Outcome) (w : Stop) (x : Workspace) → off w x ≡ after s o → (o ≡ stopped w) × (x ≡ s .ws)
+  pub stops-at : (o : Outcome) (w : Stop) (x : Workspace) (F : List ℕ) (G : List Float) → off w x F G ≡ after s o
+      → (o ≡ stopped w) × (x ≡ s .ws) × (F ≡ s .factor .numbers) × (G ≡ s .factor .coeffs)
   unfolding after
-  stops-at (moved i u) w x q = absurd (let z : _≡_ {A = ℕ} 0 1 = cc in omega arith)
-  stops-at (stopped v) w x q = (cc, cc)
+  stops-at (moved i u) w x F G q = absurd (let z : _≡_ {A = ℕ} 0 1 = cc in omega arith)
+  stops-at (stopped v) w x F G q = (cc, cc, cc, cc)
 
 -- the state after a step fits, and one more step is counted
 pub moved-fits : (P : Problem) → ProblemFits P → (s : State) → Fits P s → (e : Entering) → choose P (s .ws) ≡ Enters·column e → (t : State) → on t ≡ after s (step (steppedOf P) s e)

@@ -1,3 +1,2 @@
--- What is decided of a step, and what that asks of the arrays that it is lent.
+-- What is decided of a step.
 pub mod Found
-pub mod Lent

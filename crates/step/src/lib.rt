@@ -1,5 +1,6 @@
 // One step from the entering column on: its solve, the ratio, then a flip or an exchange. From minilp 0.2.2,
 // src/solver.rs, choose_pivot and pivot, Apache-2.0, changed: 01's answers 21 and 23, and the vectors are local arrays.
+use step_refactor::Went;
 ghost use mathlib.Core.Path.{_≡_};
 ghost use mathlib.Core.List.{List};
 ghost use Prim.Native.Nat.{ℕ, _<_};
@@ -10,11 +11,10 @@ ghost use Rattle.rules.specs.Plan.{State};
 ghost use Rattle.rules.specs.Parts.{rowed};
 ghost use Rattle.rules.specs.Step as Step;
 ghost use Rattle.basis_columns.specs.Columns.{ByColumns};
-ghost use Rattle.state.specs.Packed.{stateAt};
-ghost use Rattle.step_exchange.specs.Left.{afterBy, leftBy, stepped};
-ghost use Rattle.step_exchange.specs.Lent.{Ready};
+ghost use Rattle.state.specs.Packed.{stateIn};
+ghost use Rattle.step_refactor.specs.Left.{afterBy, leftBy, stepped};
+ghost use Rattle.step_refactor.specs.Lent.{Ready, ReadyBy};
 ghost use Rattle.step.specs.Found.{found, foundBy};
-ghost use Rattle.step.specs.Lent.{Enters};
 
 // What is decided of a step: how many places the column lists, with the numbers of the flip or of the exchange, or why
 // there is none.
@@ -32,6 +32,8 @@ fn decide(
     list: &mut [usize; doubles::PLACES],
     numbers: &[usize],
     doubles: &[f64],
+    factor_numbers: &[usize],
+    factor_coeffs: &[f64],
     at: state::Tally,
     n: usize,
     lowers: &[f64],
@@ -44,13 +46,14 @@ fn decide(
     e: rules::Entering,
 ) -> Decided
     requires { ⌜ Fresh (sv (now values) (now marks) (now list) 0) ⌝ }
-    requires { ⌜ Enters n (now lowers) (now uppers) (now ops) (now kept) (now cstarts) (now crows) (now ccoeffs)
-        (now numbers) (now doubles) at e ⌝ }
+    requires { ⌜ ReadyBy n (now lowers) (now uppers) (now ops) (now kept) (now cstarts) (now crows) (now ccoeffs)
+        (now numbers) (now doubles) (now «factor_numbers») (now «factor_coeffs») at × (e .col < n) ⌝ }
     ensures { λ r. ⌜ ((starts cols : List ℕ) (coeffs : List Float) → ByColumns
         (rowed n starts cols coeffs (now (kept .entry))) (now (cstarts .entry)) (now (crows .entry))
         (now (ccoeffs .entry)) → foundBy r (now (values .exit)) (now (marks .exit)) (now (list .exit)) ≡ found
         (stepped n (now (lowers .entry)) (now (uppers .entry)) starts cols coeffs (now (ops .entry))
-        (now (kept .entry))) (stateAt (now (numbers .entry)) (now (doubles .entry)) at) e) ⌝ }
+        (now (kept .entry))) (stateIn (now (numbers .entry)) (now (doubles .entry)) (now («factor_numbers» .entry))
+        (now («factor_coeffs» .entry)) at) e) ⌝ }
 {
     let col = e.col;
     let count = step_reads::column(
@@ -59,8 +62,11 @@ fn decide(
         list,
         numbers,
         doubles,
+        factor_numbers,
+        factor_coeffs,
         at,
         n,
+        kept.len(),
         cstarts,
         crows,
         ccoeffs,
@@ -116,10 +122,12 @@ fn decide(
     }
 }
 
-// A step that is decided is a stop, a flip to be stored, or an exchange.
+// A step that is decided is a stop, a flip to be stored, or an exchange, whose leaving row is touched in the column.
 pub fn step(
     numbers: &mut [usize],
     doubles: &mut [f64],
+    factor_numbers: &mut [usize],
+    factor_coeffs: &mut [f64],
     at: state::Tally,
     n: usize,
     lowers: &[f64],
@@ -133,15 +141,17 @@ pub fn step(
     crows: &[usize],
     ccoeffs: &[f64],
     e: rules::Entering,
-) -> step_exchange::Went
+) -> Went
     requires { ⌜ Ready n (now lowers) (now uppers) (now starts) (now cols) (now coeffs) (now ops) (now kept)
-        (now numbers) (now doubles) at ⌝ }
+        (now numbers) (now doubles) (now «factor_numbers») (now «factor_coeffs») at ⌝ }
     requires { ⌜ ByColumns (rowed n (now starts) (now cols) (now coeffs) (now kept)) (now cstarts) (now crows)
         (now ccoeffs) × (n < length (now cstarts)) × (e .col < n) ⌝ }
-    ensures { λ r. ⌜ leftBy r (now (numbers .exit)) (now (doubles .exit)) ≡ afterBy
+    ensures { λ r. ⌜ leftBy r (now (numbers .exit)) (now (doubles .exit)) (now («factor_numbers» .exit))
+        (now («factor_coeffs» .exit)) ≡ afterBy
         (λ (s : State). Step.step (stepped n (now (lowers .entry)) (now (uppers .entry)) (now (starts .entry))
         (now (cols .entry)) (now (coeffs .entry)) (now (ops .entry)) (now (kept .entry))) s e)
-        (stateAt (now (numbers .entry)) (now (doubles .entry)) at) ⌝ }
+        (stateIn (now (numbers .entry)) (now (doubles .entry)) (now («factor_numbers» .entry))
+        (now («factor_coeffs» .entry)) at) ⌝ }
 {
     let mut values = [0.0; doubles::PLACES];
     let mut marks = [false; doubles::PLACES];
@@ -152,6 +162,8 @@ pub fn step(
         &mut list,
         numbers,
         doubles,
+        factor_numbers,
+        factor_coeffs,
         at,
         n,
         lowers,
@@ -165,10 +177,10 @@ pub fn step(
     );
     match decided {
         Decided::Stops(why) => {
-            return step_exchange::Went::Stops(why);
+            return Went::Stops(why);
         }
         Decided::Flips { count, value, diff } => {
-            return step_exchange::Went::On(step_store::store_flip(
+            return Went::On(step_store::store_flip(
                 numbers,
                 doubles,
                 at,
@@ -186,9 +198,12 @@ pub fn step(
             ));
         }
         Decided::Exchanges { count, x } => {
+            let touched = sparse::touch(&mut marks, &mut list, count, x.row);
             return step_exchange::exchange(
                 numbers,
                 doubles,
+                factor_numbers,
+                factor_coeffs,
                 at,
                 n,
                 lowers,
@@ -198,9 +213,12 @@ pub fn step(
                 coeffs,
                 ops,
                 kept,
+                cstarts,
+                crows,
+                ccoeffs,
                 &values,
                 &list,
-                count,
+                touched,
                 e,
                 x,
             );

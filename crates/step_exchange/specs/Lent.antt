@@ -1,42 +1,14 @@
--- What an exchange asks. Assumes nothing.
-use mathlib.Core.Path.{_≡_}
-use mathlib.Core.Bool.{Bool}
+-- What deciding an exchange asks. Assumes nothing.
 use mathlib.Core.List.{List}
-use Prim.Native.Nat.{ℕ, _<_}
+use Prim.Native.Nat.{ℕ}
 use lib.Ieee.{Float}
-use Rattle.doubles.specs.Limits.{maxBudget}
-use Rattle.sparse.specs.Scattered.{sv, sqNorm}
-use Rattle.rules.specs.Parts.{planOf, problem}
-use Rattle.rules.specs.Invariant.{ProblemFits, Fits, Vector}
-use Rattle.state.specs.Packed.{Sized, stateAt}
 use Rattle.state.specs.declared.Tally.{Tally}
+use Rattle.step_refactor.specs.Lent.{Ready}
 
--- the problem, of which a step is lent the part that it reads, and the state fit: what is not lent is some plan's
-pub record Ready (n : ℕ) (lowers uppers : List Float) (starts cols : List ℕ) (coeffs : List Float) (ops kept : List ℕ)
-    (N : List ℕ) (D : List Float) (t : Tally) : Type 0 where
-  pub rows : ℕ
-  pub entries : ℕ
-  pub budget : ℕ
-  pub tolerance : Float
-  pub costs : List Float
-  pub rhs : List Float
-  pub sized : Sized N D
-  pub problem-fits : ProblemFits (problem (planOf n rows entries budget tolerance costs lowers uppers starts cols coeffs ops rhs) kept)
-  pub state-fits : Fits (problem (planOf n rows entries budget tolerance costs lowers uppers starts cols coeffs ops rhs) kept) (stateAt N D t)
-  pub budget-left : t .steps < maxBudget
-
--- the same, of a function that is lent no bounds
-pub record Solving (n : ℕ) (starts cols : List ℕ) (coeffs : List Float) (kept : List ℕ) (N : List ℕ) (D : List Float) (t : Tally) : Type 0 where
+-- what an exchange asks, of a function that is lent no bounds
+pub record Solving (n : ℕ) (starts cols : List ℕ) (coeffs : List Float) (kept : List ℕ) (N : List ℕ) (D : List Float)
+    (F : List ℕ) (G : List Float) (t : Tally) : Type 0 where
   pub lowers : List Float
   pub uppers : List Float
   pub ops : List ℕ
-  pub ready : Ready n lowers uppers starts cols coeffs ops kept N D t
-
--- the entering column, solved, is in order
-pub record Solved (m : ℕ) (values : List Float) (list : List ℕ) (count : ℕ) : Type 0 where
-  pub marks : List Bool
-  pub vector : Vector m (sv values marks list count)
-
--- its sum of squares
-pub record Squares (values : List Float) (list : List ℕ) (count : ℕ) (sq : Float) : Type 0 where
-  pub sum : (m : List Bool) → sq ≡ sqNorm (sv values m list count)
+  pub ready : Ready n lowers uppers starts cols coeffs ops kept N D F G t

@@ -1,4 +1,3 @@
--- What a step leaves, what is decided of an exchange, and what it asks of the arrays that it is lent.
-pub mod Left
+-- What is decided of an exchange, and what that asks of the arrays that it is lent.
 pub mod Decided
 pub mod Lent

@@ -1,6 +1,7 @@
-// An exchange is decided (eta room, row solve, all new numbers), then stored. Nothing is stored before every test has
-// passed, and the store can't fail. From minilp 0.2.2, src/solver.rs, pivot, Apache-2.0, changed: 01's answers 22 and
-// 23, and the vectors are local arrays.
+// An exchange is decided (row solve, all new numbers), then stored with its eta column or, where that doesn't fit, with the
+// new basis' factor. Nothing is stored before every test has passed, and a store can't fail. From minilp 0.2.2,
+// src/solver.rs, pivot, Apache-2.0, changed: 01's answer 23, 02's factoring, and the vectors are local arrays.
+use step_refactor::Went;
 ghost use mathlib.Core.Path.{_≡_};
 ghost use mathlib.Core.Bool.{Bool, _&&_};
 ghost use mathlib.Core.List.{List};
@@ -10,24 +11,20 @@ ghost use Rattle.doubles.specs.Limits.{maxRows, maxColumns, places};
 ghost use Rattle.sparse.specs.Scattered.{sv, Within, listedFinite, Fresh};
 ghost use Rattle.rules.specs.Plan.{Problem, State};
 ghost use Rattle.rules.specs.Parts.{rowed};
-ghost use Rattle.rules.specs.Pivot.{exchangeFinite};
+ghost use Rattle.rules.specs.Pivot.{numbersFinite};
 ghost use Rattle.rules.specs.Step as Step;
 ghost use Rattle.step_numbers.specs.Lent.{Listing};
-ghost use Rattle.state.specs.Packed.{stateAt, objectiveAt};
-ghost use Rattle.step_exchange.specs.Left.{afterBy, leftBy, stepped};
+ghost use Rattle.basis_columns.specs.Columns.{ByColumns};
+ghost use Rattle.state.specs.Packed.{stateAt, stateIn, objectiveAt};
+ghost use Rattle.step_refactor.specs.Left.{afterBy, leftBy, stepped};
+ghost use Rattle.step_refactor.specs.Lent.{Ready, Solved, Squares};
 ghost use Rattle.step_exchange.specs.Decided.{decided, decidedBy};
-ghost use Rattle.step_exchange.specs.Lent.{Ready, Solving, Solved, Squares};
+ghost use Rattle.step_exchange.specs.Lent.{Solving};
 
-// What a step gives: the numbers of the state after it that stand in no array, or why there is none.
-pub enum Went {
-    On(state::Tally),
-    Stops(rules::Stop),
-}
-
-// What is decided of an exchange: how many places its row lists, or why there is none.
+// What is decided of an exchange: how many places its row lists, or a number isn't finite.
 pub enum Decided {
     Goes(usize),
-    Stops(rules::Stop),
+    NotFinite,
 }
 
 // 01: "Column, row and helper entries .. must be finite", and every number to be stored.
@@ -53,7 +50,7 @@ fn numbers_finite(
         (now «helper_list») ⌝ }
     ensures { λ r. ⌜ ((P : Problem) (N : List ℕ) (m rm hm : List Bool) → r ≡
         (listedFinite (sv (now («row_values» .entry)) rm (now («row_list» .entry)) «row_count») && listedFinite
-        (sv (now («helper_values» .entry)) hm (now («helper_list» .entry)) «helper_count») && exchangeFinite P
+        (sv (now («helper_values» .entry)) hm (now («helper_list» .entry)) «helper_count») && numbersFinite P
         (stateAt N (now (doubles .entry)) at) e (sv (now (values .entry)) m (now (list .entry)) count)
         (sv (now («row_values» .entry)) rm (now («row_list» .entry)) «row_count»)
         (sv (now («helper_values» .entry)) hm (now («helper_list» .entry)) «helper_count») (x .value) (x .diff) (x .row)
@@ -65,7 +62,7 @@ fn numbers_finite(
     if !sparse::listed_finite(helper_values, helper_list, helper_count) {
         return false;
     }
-    step_reads::exchange_finite(
+    step_reads::numbers_finite(
         doubles,
         at,
         values,
@@ -81,7 +78,8 @@ fn numbers_finite(
     )
 }
 
-// 01: "eta room; row solve; all new numbers". The row and the helper are written to fresh vectors, the state is read.
+// 01: "row solve; all new numbers". The row, touched at the entering place, and the helper are written to fresh vectors, the
+// state is read.
 fn decide(
     row_values: &mut [f64; doubles::PLACES],
     row_marks: &mut [bool; doubles::PLACES],
@@ -91,6 +89,8 @@ fn decide(
     helper_list: &mut [usize; doubles::PLACES],
     numbers: &[usize],
     doubles: &[f64],
+    factor_numbers: &[usize],
+    factor_coeffs: &[f64],
     at: state::Tally,
     n: usize,
     starts: &[usize],
@@ -106,24 +106,23 @@ fn decide(
 ) -> Decided
     requires { ⌜ Fresh (sv (now «row_values») (now «row_marks») (now «row_list») 0) × Fresh
         (sv (now «helper_values») (now «helper_marks») (now «helper_list») 0) ⌝ }
-    requires { ⌜ Solving n (now starts) (now cols) (now coeffs) (now kept) (now numbers) (now doubles) at × Solved
-        (length (now kept)) (now values) (now list) count × Squares (now values) (now list) count sq ×
-        (x .row < length (now kept)) ⌝ }
+    requires { ⌜ Solving n (now starts) (now cols) (now coeffs) (now kept) (now numbers) (now doubles)
+        (now «factor_numbers») (now «factor_coeffs») at × Solved (length (now kept)) (now values) (now list) count
+        × Squares (now values) (now list) count sq × (x .row < length (now kept)) × (e .col < n) ⌝ }
     ensures { λ r. ⌜ ((m : List Bool) → decidedBy r (now («row_values» .exit)) (now («row_marks» .exit))
         (now («row_list» .exit)) (now («helper_values» .exit)) ≡ decided
         (rowed n (now (starts .entry)) (now (cols .entry)) (now (coeffs .entry)) (now (kept .entry)))
-        (stateAt (now (numbers .entry)) (now (doubles .entry)) at) e
-        (sv (now (values .entry)) m (now (list .entry)) count) x) ⌝ }
+        (stateIn (now (numbers .entry)) (now (doubles .entry)) (now («factor_numbers» .entry))
+        (now («factor_coeffs» .entry)) at) e (sv (now (values .entry)) m (now (list .entry)) count) x) ⌝ }
 {
-    if !basis_store::eta_fits(numbers, at, count) {
-        return Decided::Stops(rules::Stop::NoRoom);
-    }
-    let row_count = step_reads::row(
+    let untouched = step_reads::row(
         row_values,
         row_marks,
         row_list,
         numbers,
         doubles,
+        factor_numbers,
+        factor_coeffs,
         at,
         n,
         starts,
@@ -132,6 +131,7 @@ fn decide(
         kept,
         x.row,
     );
+    let row_count = sparse::touch(row_marks, row_list, untouched, e.col);
     let helper_count = step_reads::helper(
         helper_values,
         helper_marks,
@@ -141,6 +141,8 @@ fn decide(
         count,
         numbers,
         doubles,
+        factor_numbers,
+        factor_coeffs,
         at,
         n,
         starts,
@@ -164,15 +166,18 @@ fn decide(
         e,
         x,
     ) {
-        return Decided::Stops(rules::Stop::NotFinite);
+        return Decided::NotFinite;
     }
     Decided::Goes(row_count)
 }
 
-// An exchange. 01: "eta room; row solve; all new numbers; store".
+// An exchange: "row solve; all new numbers; then the eta entries where the column fits, or the factor where it doesn't; then
+// the store" (docs/RULES-02.md). The column is touched at the leaving row already.
 pub fn exchange(
     numbers: &mut [usize],
     doubles: &mut [f64],
+    factor_numbers: &mut [usize],
+    factor_coeffs: &mut [f64],
     at: state::Tally,
     n: usize,
     lowers: &[f64],
@@ -182,6 +187,9 @@ pub fn exchange(
     coeffs: &[f64],
     ops: &[u8],
     kept: &[usize],
+    cstarts: &[usize],
+    crows: &[usize],
+    ccoeffs: &[f64],
     values: &[f64; doubles::PLACES],
     list: &[usize; doubles::PLACES],
     count: usize,
@@ -189,14 +197,18 @@ pub fn exchange(
     x: state::Exchange,
 ) -> Went
     requires { ⌜ Ready n (now lowers) (now uppers) (now starts) (now cols) (now coeffs) (now ops) (now kept)
-        (now numbers) (now doubles) at ⌝ }
+        (now numbers) (now doubles) (now «factor_numbers») (now «factor_coeffs») at ⌝ }
+    requires { ⌜ ByColumns (rowed n (now starts) (now cols) (now coeffs) (now kept)) (now cstarts) (now crows)
+        (now ccoeffs) × (n < length (now cstarts)) ⌝ }
     requires { ⌜ Solved (length (now kept)) (now values) (now list) count × (e .col < n) × (x .row < length (now kept))
         ⌝ }
-    ensures { λ r. ⌜ ((m : List Bool) → leftBy r (now (numbers .exit)) (now (doubles .exit)) ≡ afterBy
+    ensures { λ r. ⌜ ((m : List Bool) → leftBy r (now (numbers .exit)) (now (doubles .exit))
+        (now («factor_numbers» .exit)) (now («factor_coeffs» .exit)) ≡ afterBy
         (λ (s : State). Step.exchange (stepped n (now (lowers .entry)) (now (uppers .entry)) (now (starts .entry))
         (now (cols .entry)) (now (coeffs .entry)) (now (ops .entry)) (now (kept .entry))) s e
         (sv (now (values .entry)) m (now (list .entry)) count) (x .value) (x .diff) (x .row) (x .pivot) (x .leaving))
-        (stateAt (now (numbers .entry)) (now (doubles .entry)) at)) ⌝ }
+        (stateIn (now (numbers .entry)) (now (doubles .entry)) (now («factor_numbers» .entry))
+        (now («factor_coeffs» .entry)) at)) ⌝ }
 {
     let mut row_values = [0.0; doubles::PLACES];
     let mut row_marks = [false; doubles::PLACES];
@@ -214,6 +226,8 @@ pub fn exchange(
         &mut helper_list,
         numbers,
         doubles,
+        factor_numbers,
+        factor_coeffs,
         at,
         n,
         starts,
@@ -227,31 +241,57 @@ pub fn exchange(
         e,
         x,
     );
-    match decided {
-        Decided::Stops(why) => {
-            return Went::Stops(why);
-        }
-        Decided::Goes(row_count) => {
-            return Went::On(step_store::store_exchange(
-                numbers,
-                doubles,
-                at,
-                n,
-                lowers,
-                uppers,
-                ops,
-                kept,
-                values,
-                list,
-                count,
-                &row_values,
-                &row_list,
-                row_count,
-                &helper_values,
-                sq,
-                e,
-                x,
-            ));
-        }
+    let Decided::Goes(row_count) = decided else {
+        return Went::Stops(rules::Stop::NotFinite);
+    };
+    if !basis_store::eta_fits(numbers, at, count) {
+        return step_refactor::refactor(
+            numbers,
+            doubles,
+            factor_numbers,
+            factor_coeffs,
+            at,
+            n,
+            lowers,
+            uppers,
+            ops,
+            kept,
+            cstarts,
+            crows,
+            ccoeffs,
+            values,
+            list,
+            count,
+            &row_values,
+            &row_list,
+            row_count,
+            &helper_values,
+            sq,
+            e,
+            x,
+        );
     }
+    if !step_numbers::eta_finite(values, list, count, x.row, x.pivot) {
+        return Went::Stops(rules::Stop::NotFinite);
+    }
+    Went::On(step_store::store_exchange(
+        numbers,
+        doubles,
+        at,
+        n,
+        lowers,
+        uppers,
+        ops,
+        kept,
+        values,
+        list,
+        count,
+        &row_values,
+        &row_list,
+        row_count,
+        &helper_values,
+        sq,
+        e,
+        x,
+    ))
 }

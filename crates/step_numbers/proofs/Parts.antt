@@ -9,7 +9,7 @@ use Rattle.sparse.specs.Scattered.{Sv}
 use Rattle.sparse.proofs.Laws.{wf-listed}
 use Rattle.rules.specs.Plan.{Problem, State}
 use Rattle.rules.specs.Parts.{stateOf}
-use Rattle.rules.specs.Pivot.{newObjective, movedVal, flipFinite, newVal, newPrice, newNorm, exchangeFinite}
+use Rattle.rules.specs.Pivot.{newObjective, movedVal, flipFinite, newVal, newPrice, newNorm, numbersFinite}
 use Rattle.rules.specs.Invariant.{Vector}
 use Rattle.rules.proofs.Vectors.{vector-once}
 use Rattle.rules.specs.declared.Entering.{Entering}
@@ -37,8 +37,8 @@ module _ (P Q : Problem) (s : State) (e : Entering) (c : Sv) (value diff : Float
   unfolding flipFinite newObjective movedVal
   flip-finite-part = refl
 
-  pub exchange-finite-part : (rowSv helper : Sv) (row : ℕ) (pivot leaving : Float)
-      → exchangeFinite P s e c rowSv helper value diff row pivot leaving
-      ≡ exchangeFinite Q (stateOf (numbersOf (s .ws .basicVarVals) (s .ws .prices) (s .ws .norms)) 0 (s .objective) 0) e c rowSv helper value diff row pivot leaving
-  unfolding exchangeFinite newObjective newVal movedVal newPrice newNorm
-  exchange-finite-part rowSv helper row pivot leaving = refl
+  pub numbers-finite-part : (rowSv helper : Sv) (row : ℕ) (pivot leaving : Float)
+      → numbersFinite P s e c rowSv helper value diff row pivot leaving
+      ≡ numbersFinite Q (stateOf (numbersOf (s .ws .basicVarVals) (s .ws .prices) (s .ws .norms)) 0 (s .objective) 0) e c rowSv helper value diff row pivot leaving
+  unfolding numbersFinite newObjective newVal movedVal newPrice newNorm
+  numbers-finite-part rowSv helper row pivot leaving = refl

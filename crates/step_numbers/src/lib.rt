@@ -10,7 +10,7 @@ ghost use Rattle.doubles.specs.Limits.{places};
 ghost use Rattle.sparse.specs.Scattered.{Pat, Sv, sv, svOf, sqNorm, Within};
 ghost use Rattle.rules.specs.Plan.{Problem};
 ghost use Rattle.rules.specs.Parts.{stateOf};
-ghost use Rattle.rules.specs.Pivot.{storesFinite, newObjective, movedVal, flipFinite, newVal, newPrice, newNorm, etaFinite, exchangeFinite};
+ghost use Rattle.rules.specs.Pivot.{storesFinite, newObjective, movedVal, flipFinite, newVal, newPrice, newNorm, etaFinite, numbersFinite};
 ghost use Rattle.step_numbers.specs.New.{valBy, priceBy, normBy};
 ghost use Rattle.step_numbers.specs.Lent.{numbersOf, Listing};
 
@@ -171,8 +171,8 @@ fn norms_finite(
     true
 }
 
-// The entries of the eta column.
-fn eta_finite(
+// The entries of the eta column, where one is to be pushed.
+pub fn eta_finite(
     values: &[f64; doubles::PLACES],
     list: &[usize; doubles::PLACES],
     count: usize,
@@ -220,9 +220,9 @@ pub fn flip_finite(
     moved_finite(basic_var_vals, values, list, count, diff)
 }
 
-// An exchange stores the objective, the basic values, the leaving value, prices, norms and an eta column. `sq` is the
-// column's sum of squares, which the norms' store needs again.
-pub fn exchange_finite(
+// An exchange stores the objective, the basic values, the leaving value, prices and norms; then its eta column, or the
+// new basis' factor. `sq` is the column's sum of squares, which the norms' store needs again.
+pub fn numbers_finite(
     basic_var_vals: &[f64],
     prices: &[f64],
     norms: &[f64],
@@ -246,7 +246,7 @@ pub fn exchange_finite(
         ((m : List Bool) → sq ≡ sqNorm (sv (now values) m (now list) count)) ⌝ }
     requires { ⌜ Listing (length (now prices)) «row_count» (now «row_list») × Listing (length (now norms)) «row_count»
         (now «row_list») ⌝ }
-    ensures { λ r. ⌜ ((P : Problem) (m rm : List Bool) (p : Pat) → r ≡ exchangeFinite P
+    ensures { λ r. ⌜ ((P : Problem) (m rm : List Bool) (p : Pat) → r ≡ numbersFinite P
         (stateOf (numbersOf (now («basic_var_vals» .entry)) (now (prices .entry)) (now (norms .entry))) 0 objective 0) e
         (sv (now (values .entry)) m (now (list .entry)) count)
         (sv (now («row_values» .entry)) rm (now («row_list» .entry)) «row_count») (svOf (now (helper .entry)) p) value
@@ -264,8 +264,5 @@ pub fn exchange_finite(
     if !prices_finite(prices, row_values, row_list, row_count, e, pivot) {
         return false;
     }
-    if !norms_finite(norms, row_values, row_list, row_count, helper, e, sq, pivot) {
-        return false;
-    }
-    eta_finite(values, list, count, row, pivot)
+    norms_finite(norms, row_values, row_list, row_count, helper, e, sq, pivot)
 }

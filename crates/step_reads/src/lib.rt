@@ -1,4 +1,5 @@
-// What a step reads of the state: each function is lent both arrays to read and makes the sections that it needs.
+// What a step reads of the state: each function is lent both arrays to read and makes the sections that it needs. The
+// solves are lent the factor's two arrays, whole.
 ghost use mathlib.Core.Path.{_≡_};
 ghost use mathlib.Core.Bool.{Bool};
 ghost use mathlib.Core.List.{List, []};
@@ -8,19 +9,21 @@ ghost use Rattle.doubles.specs.Num.{f1};
 ghost use Rattle.doubles.specs.Limits.{maxRows, maxColumns, places};
 ghost use Rattle.doubles.specs.Lists.{_#_};
 ghost use Rattle.sparse.specs.Scattered.{Pat, sv, svOf, sqNorm, blank, putAt, Within, relisted, Fresh};
-ghost use Rattle.rules.specs.Plan.{Problem, nOf};
-ghost use Rattle.rules.specs.Parts.{bounded, rowed};
+ghost use Rattle.rules.specs.Plan.{Problem, nOf, mOf};
+ghost use Rattle.rules.specs.Parts.{bounded, rowed, factoredOf};
 ghost use Rattle.rules.specs.Choose as Choose;
 ghost use Rattle.rules.specs.Ratio as Ratio;
 ghost use Rattle.rules.specs.Basis.{colCoeffs, rowCoeffsOf, helperOf};
-ghost use Rattle.rules.specs.Pivot.{flipFinite, exchangeFinite};
+ghost use Rattle.rules.specs.Pivot.{flipFinite, numbersFinite};
+ghost use Rattle.rules.specs.Invariant.{FactorFits, Vector};
 ghost use Rattle.basis_columns.specs.Columns.{ByColumns};
 ghost use Rattle.basis_etas.specs.Store.{Readable};
 ghost use Rattle.step_choose.specs.Lent.{Choosing};
 ghost use Rattle.step_ratio.specs.Lent.{Stepping};
-ghost use Rattle.basis_solves.specs.Lent.{ColumnLent, RowSolve};
+ghost use Rattle.basis_columns.specs.Loading.{columnOn, ColumnLent};
+ghost use Rattle.basis_solves.specs.Lent.{RowSolve};
 ghost use Rattle.step_numbers.specs.Lent.{Listing};
-ghost use Rattle.state.specs.Packed.{packed, stateAt, Sized, objectiveAt};
+ghost use Rattle.state.specs.Packed.{packed, stateAt, stateIn, Sized, objectiveAt};
 
 // The entering column, or none.
 pub fn choose(
@@ -58,8 +61,11 @@ pub fn column(
     list: &mut [usize; doubles::PLACES],
     numbers: &[usize],
     doubles: &[f64],
+    factor_numbers: &[usize],
+    factor_coeffs: &[f64],
     at: state::Tally,
     n: usize,
+    m: usize,
     cstarts: &[usize],
     crows: &[usize],
     ccoeffs: &[f64],
@@ -68,11 +74,14 @@ pub fn column(
     requires { ⌜ Sized (now numbers) (now doubles) × Fresh (sv (now values) (now marks) (now list) 0) ×
         (col < maxColumns) ⌝ }
     requires { ⌜ ColumnLent (now cstarts) (now crows) (now ccoeffs) n (packed (now numbers) (now doubles) .nbVars # col)
-        × Readable (packed (now numbers) (now doubles) .etas) (at .«eta_count») ⌝ }
-    ensures { λ c. ⌜ ((P : Problem) → nOf P ≡ n → ByColumns P (now (cstarts .entry)) (now (crows .entry))
+        × Vector m
+        (columnOn (now cstarts) (now crows) (now ccoeffs) n (packed (now numbers) (now doubles) .nbVars # col)) ⌝ }
+    requires { ⌜ Readable (packed (now numbers) (now doubles) .etas) (at .«eta_count») × FactorFits m
+        (factoredOf (at .factored) (at .factorings) (now «factor_numbers») (now «factor_coeffs»)) ⌝ }
+    ensures { λ c. ⌜ ((P : Problem) → nOf P ≡ n → mOf P ≡ m → ByColumns P (now (cstarts .entry)) (now (crows .entry))
         (now (ccoeffs .entry)) → sv (now (values .exit)) (now (marks .exit)) (now (list .exit)) c ≡ colCoeffs P
-        (stateAt (now (numbers .entry)) (now (doubles .entry)) at)
-        (packed (now (numbers .entry)) (now (doubles .entry)) .nbVars # col)) ⌝ }
+        (stateIn (now (numbers .entry)) (now (doubles .entry)) (now («factor_numbers» .entry))
+        (now («factor_coeffs» .entry)) at) (packed (now (numbers .entry)) (now (doubles .entry)) .nbVars # col)) ⌝ }
 {
     let var = numbers[state::NB_VARS + col];
     let columns = at.eta_count;
@@ -83,12 +92,16 @@ pub fn column(
         cstarts,
         crows,
         ccoeffs,
+        at.factored,
+        factor_numbers,
+        factor_coeffs,
         &numbers[state::ETA_LEAVING..state::ETA_LEAVING_END],
         &numbers[state::ETA_STARTS..state::ETA_STARTS_END],
         &numbers[state::ETA_ROWS..state::ETA_ROWS_END],
         &doubles[state::ETA_COEFFS..state::ETA_COEFFS_END],
         columns,
         n,
+        m,
         var,
     )
 }
@@ -139,6 +152,8 @@ pub fn row(
     list: &mut [usize; doubles::PLACES],
     numbers: &[usize],
     doubles: &[f64],
+    factor_numbers: &[usize],
+    factor_coeffs: &[f64],
     at: state::Tally,
     n: usize,
     starts: &[usize],
@@ -150,16 +165,21 @@ pub fn row(
     requires { ⌜ Sized (now numbers) (now doubles) × Fresh (sv (now values) (now marks) (now list) 0) × (row < places) ⌝ }
     requires { ⌜ RowSolve (rowed n (now starts) (now cols) (now coeffs) (now kept))
         (length (packed (now numbers) (now doubles) .varStates)) (packed (now numbers) (now doubles) .etas)
-        (at .«eta_count») (putAt blank row f1) ⌝ }
+        (at .«eta_count») (factoredOf (at .factored) (at .factorings) (now «factor_numbers») (now «factor_coeffs»))
+        (putAt blank row f1) ⌝ }
     ensures { λ c. ⌜ sv (now (values .exit)) (now (marks .exit)) (now (list .exit)) c
         ≡ rowCoeffsOf (rowed n (now (starts .entry)) (now (cols .entry)) (now (coeffs .entry)) (now (kept .entry)))
-        (stateAt (now (numbers .entry)) (now (doubles .entry)) at) row ⌝ }
+        (stateIn (now (numbers .entry)) (now (doubles .entry)) (now («factor_numbers» .entry))
+        (now («factor_coeffs» .entry)) at) row ⌝ }
 {
     let columns = at.eta_count;
     basis_solves::row_coeffs(
         values,
         marks,
         list,
+        at.factored,
+        factor_numbers,
+        factor_coeffs,
         &numbers[state::ETA_LEAVING..state::ETA_LEAVING_END],
         &numbers[state::ETA_STARTS..state::ETA_STARTS_END],
         &numbers[state::ETA_ROWS..state::ETA_ROWS_END],
@@ -185,6 +205,8 @@ pub fn helper(
     from_count: usize,
     numbers: &[usize],
     doubles: &[f64],
+    factor_numbers: &[usize],
+    factor_coeffs: &[f64],
     at: state::Tally,
     n: usize,
     starts: &[usize],
@@ -196,10 +218,12 @@ pub fn helper(
         × («from_count» ≤ places) × Within places «from_count» (now «from_list») ⌝ }
     requires { ⌜ RowSolve (rowed n (now starts) (now cols) (now coeffs) (now kept))
         (length (packed (now numbers) (now doubles) .varStates)) (packed (now numbers) (now doubles) .etas)
-        (at .«eta_count») (relisted (sv (now from) [] (now «from_list») «from_count»)) ⌝ }
+        (at .«eta_count») (factoredOf (at .factored) (at .factorings) (now «factor_numbers») (now «factor_coeffs»))
+        (relisted (sv (now from) [] (now «from_list») «from_count»)) ⌝ }
     ensures { λ c. ⌜ ((m : List Bool) → sv (now (values .exit)) (now (marks .exit)) (now (list .exit)) c ≡ helperOf
         (rowed n (now (starts .entry)) (now (cols .entry)) (now (coeffs .entry)) (now (kept .entry)))
-        (stateAt (now (numbers .entry)) (now (doubles .entry)) at)
+        (stateIn (now (numbers .entry)) (now (doubles .entry)) (now («factor_numbers» .entry))
+        (now («factor_coeffs» .entry)) at)
         (sv (now (from .entry)) m (now («from_list» .entry)) «from_count»)) ⌝ }
 {
     let columns = at.eta_count;
@@ -210,6 +234,9 @@ pub fn helper(
         from,
         from_list,
         from_count,
+        at.factored,
+        factor_numbers,
+        factor_coeffs,
         &numbers[state::ETA_LEAVING..state::ETA_LEAVING_END],
         &numbers[state::ETA_STARTS..state::ETA_STARTS_END],
         &numbers[state::ETA_ROWS..state::ETA_ROWS_END],
@@ -251,8 +278,9 @@ pub fn flip_finite(
     )
 }
 
-// Every number that an exchange stores is finite. `sq` is the column's sum of squares.
-pub fn exchange_finite(
+// Every number that an exchange stores is finite, but for the eta column's or the factor's. `sq` is the column's sum
+// of squares.
+pub fn numbers_finite(
     doubles: &[f64],
     at: state::Tally,
     values: &[f64; doubles::PLACES],
@@ -269,12 +297,12 @@ pub fn exchange_finite(
     requires { ⌜ (length (now doubles) ≡ objectiveAt) × Listing maxRows count (now list) × Listing maxColumns
         «row_count» (now «row_list») ⌝ }
     requires { ⌜ ((m : List Bool) → sq ≡ sqNorm (sv (now values) m (now list) count)) ⌝ }
-    ensures { λ r. ⌜ ((P : Problem) (N : List ℕ) (m rm : List Bool) (p : Pat) → r ≡ exchangeFinite P
+    ensures { λ r. ⌜ ((P : Problem) (N : List ℕ) (m rm : List Bool) (p : Pat) → r ≡ numbersFinite P
         (stateAt N (now (doubles .entry)) at) e (sv (now (values .entry)) m (now (list .entry)) count)
         (sv (now («row_values» .entry)) rm (now («row_list» .entry)) «row_count») (svOf (now (helper .entry)) p)
         (x .value) (x .diff) (x .row) (x .pivot) (x .leaving)) ⌝ }
 {
-    step_numbers::exchange_finite(
+    step_numbers::numbers_finite(
         &doubles[state::BASIC_VAR_VALS..state::BASIC_VAR_VALS_END],
         &doubles[state::PRICES..state::PRICES_END],
         &doubles[state::NORMS..state::NORMS_END],

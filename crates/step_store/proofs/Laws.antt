@@ -1,5 +1,6 @@
 -- A store at listed places that reads the cell it writes, and what the stores leave. No contract cites this file. Assumes nothing.
 use mathlib.Core.Path.{_≡_, refl, sym, ap, _∙_}
+use mathlib.Core.Bool.{true}
 use mathlib.Core.List.{List, []}
 use Prim.Native.Nat.{ℕ, suc, _+_, _<_}
 use native.Mathlib.Nat.{le-refl}
@@ -14,17 +15,19 @@ use Rattle.doubles.specs.Lists.{_!_, _#_}
 use Rattle.doubles.proofs.Loops.{next, keeps}
 use Rattle.sparse.specs.Scattered.{Sv, listed}
 use Rattle.rules.specs.Plan.{Problem, Workspace, State, nOf, varCell}
-use Rattle.rules.specs.Parts.{stateOf}
+use Rattle.rules.specs.Parts.{workspaceOf, factoredOf, stateWith}
+use Rattle.rules.specs.Basis.{noColumns}
 use Rattle.rules.specs.Pivot.{storeTurn, stored, flagsAt, newObjective, movedVal, flipped, newVal, newPrice, newNorm, exchanged}
 use Rattle.rules.specs.declared.Entering.{Entering}
 use Rattle.rules.specs.declared.VarState.the-variants.{Basic, NonBasic}
 use Rattle.state.specs.Packed.{section, packed, stateAt, basicVarsAt, nbVarsAt, varStatesAt, flagCellsAt, basicVarValsAt, nbVarValsAt, pricesAt, normsAt, objectiveAt}
 use Rattle.state.specs.declared.Tally.{Tally}
+use Rattle.state.specs.declared.Exchange.{Exchange}
 use Rattle.state.proofs.Sections.{section-at, lent, written}
 use Rattle.state.proofs.Moves.{as-lent, in-basicVars, in-nbVars, in-varStates, in-flags, in-basicVarVals, in-nbVarVals, in-prices, in-norms}
 use Rattle.basis_store.specs.Room.{Room, columnPushed}
 use Rattle.step_numbers.specs.Lent.{numbersOf, Listing}
-use Rattle.step_store.specs.Halves.{numbersStored, basisStored}
+use Rattle.step_store.specs.Halves.{numbersStored, basisStored, swapped, emptied}
 use Rattle.step_store.specs.Lent.{Flips, Swaps}
 
 module _ (c : Sv) (l₀ : List Float) where
@@ -58,7 +61,9 @@ module _ (P : Problem) (N : List ℕ) (D : List Float) (t : Tally) (e : Entering
 
   pub flip-is : (b : List Float) (x : ℕ) (o : Float) → b ≡ stored c (movedVal (numbersOf vals [] []) c diff) vals → length b ≡ length vals
       → x ≡ flagsAt P (N # (nbVarsAt + e .col)) value → o ≡ newObjective (stateAt N D t) e diff
-      → stateOf (packed (set N (flagCellsAt + e .col) x) (set (putMid basicVarValsAt maxRows D b) (nbVarValsAt + e .col) value)) (t .«eta_count») o (t .steps + 1)
+      → stateWith
+      (packed (set N (flagCellsAt + e .col) x) (set (putMid basicVarValsAt maxRows D b) (nbVarValsAt + e .col) value))
+      (t .«eta_count») o (t .steps + 1) (stateAt N D t .factor)
       ≡ flipped P (stateAt N D t) e c value diff
   unfolding flipped movedVal
   flip-is b x o eb kb ex eo =
@@ -68,7 +73,8 @@ module _ (P : Problem) (N : List ℕ) (D : List Float) (t : Tally) (e : Entering
       let h2 = in-nbVarVals h1 (written nbVarValsAt maxColumns D1 col value (f .col-inside)) in
       let h3 = in-flags h2 (written flagCellsAt maxColumns N col x (f .col-inside)) in
       let i : t .steps + 1 ≡ suc (t .steps) = omega arith in
-      ap (λ (w : Workspace). stateOf w (t .«eta_count») o (t .steps + 1)) (h3 .is) ∙ rw (i, ex, var-is, eo)
+      ap (λ (w : Workspace). stateWith w (t .«eta_count») o (t .steps + 1) (stateAt N D t .factor)) (h3 .is)
+      ∙ rw (i, ex, var-is, eo)
 
 -- the numbers of an exchange: three sections were lent
 module _ (N : List ℕ) (D : List Float) (e : Entering) (c rowSv helper : Sv) (value diff : Float) (row : ℕ) (pivot : Float) (long : length D ≡ objectiveAt) where
@@ -129,19 +135,43 @@ module _ (P : Problem) (N : List ℕ) (D : List Float) (col row : ℕ) (leaving 
       let h6 = in-varStates h5 (written varStatesAt vars N4 leaves z (omega (arith, leaves-is, s .leaves))) in
       h6 .is ∙ rw (ex, ey, ez, enters-is, leaves-is)
 
--- the two halves, the eta column and the objective
-module _ (P : Problem) (s : State) (e : Entering) (c rowSv helper : Sv) (value diff : Float) (row : ℕ) (pivot leaving : Float) where
-  pub exchange-is : {u v w : Workspace} {o : Float} → u ≡ numbersStored (s .ws) e c rowSv helper value diff row pivot → v ≡ basisStored P u (e .col) row leaving
-      → w ≡ columnPushed c row pivot (s .etaCount) v → o ≡ newObjective s e diff
-      → stateOf w (s .etaCount + 1) o (s .steps + 1) ≡ exchanged P s e c rowSv helper value diff row pivot leaving
-  unfolding numbersStored basisStored exchanged
-  exchange-is eu ev ew eo =
-      let k : s .etaCount + 1 ≡ suc (s .etaCount) = omega arith in
-      let i : s .steps + 1 ≡ suc (s .steps) = omega arith in
-      rw (k, i, ew, ev, eu, eo)
+-- ---- the two halves, the objective, and what comes after them
+abbrev bare : Workspace → Workspace
+bare w =
+    workspaceOf (w .basicVars) (w .basicVarVals) (w .nbVars) (w .nbVarVals) (w .prices) (w .norms) (w .flags)
+    (w .varStates) (noColumns (w .etas))
 
-  -- the room for the eta column is as it was
-  pub room-kept : {u v : Workspace} (j : ℕ) → u ≡ numbersStored (s .ws) e c rowSv helper value diff row pivot → v ≡ basisStored P u (e .col) row leaving
-      → Room (s .ws .etas) (s .etaCount) j → Room (v .etas) (s .etaCount) j
-  unfolding numbersStored basisStored
-  room-kept j eu ev r = rw (ev, eu) r
+module _ (P : Problem) (s : State) (e : Entering) (c rowSv helper : Sv) (x : Exchange) where
+  pub swap-is : {u v : Workspace} {o : Float}
+      → u ≡ numbersStored (s .ws) e c rowSv helper (x .value) (x .diff) (x .row) (x .pivot)
+      → v ≡ basisStored P u (e .col) (x .row) (x .leaving)
+      → o ≡ newObjective s e (x .diff)
+      → stateWith v (s .etaCount) o (s .steps + 1) (s .factor) ≡ swapped P s e c rowSv helper x
+  unfolding numbersStored basisStored swapped
+  swap-is eu ev eo =
+      let i : s .steps + 1 ≡ suc (s .steps) = omega arith in
+      rw (i, ev, eu, eo)
+
+  module _ {u : State} (eu : u ≡ swapped P s e c rowSv helper x) where
+    -- the room for the eta column is as it was
+    pub room-kept : (j : ℕ) → Room (s .ws .etas) (s .etaCount) j → Room (u .ws .etas) (s .etaCount) j
+    unfolding swapped
+    room-kept j r = rw eu r
+
+    -- the eta column
+    pub exchange-is : {w : Workspace} → w ≡ columnPushed c (x .row) (x .pivot) (s .etaCount) (u .ws)
+        → stateWith w (s .etaCount + 1) (u .objective) (u .steps) (u .factor)
+        ≡ exchanged P s e c rowSv helper (x .value) (x .diff) (x .row) (x .pivot) (x .leaving)
+    unfolding swapped exchanged
+    exchange-is ew =
+        let k : s .etaCount + 1 ≡ suc (s .etaCount) = omega arith in
+        rw (k, ew, eu)
+
+    -- no eta columns
+    pub emptied-is : {w : Workspace} → w ≡ bare (u .ws)
+        → stateWith w 0 (u .objective) (u .steps) (factoredOf true (s .factor .times + 1) [] [])
+        ≡ emptied P s e c rowSv helper x
+    unfolding swapped emptied
+    emptied-is ew =
+        let k : s .factor .times + 1 ≡ suc (s .factor .times) = omega arith in
+        rw (k, ew, eu)

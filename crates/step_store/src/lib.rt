@@ -13,7 +13,7 @@ ghost use Rattle.rules.specs.Pivot.{stored, flagsAt, movedVal, flipped, newVal,
 ghost use Rattle.state.specs.Packed.{packed, stateAt, objectiveAt};
 ghost use Rattle.basis_store.specs.Room.{Room};
 ghost use Rattle.step_numbers.specs.Lent.{numbersOf, Listing};
-ghost use Rattle.step_store.specs.Halves.{numbersStored, basisStored};
+ghost use Rattle.step_store.specs.Halves.{numbersStored, basisStored, swapped, emptied};
 ghost use Rattle.step_store.specs.Lent.{Bounded, Flips, Swaps};
 
 // The basic values of a flip.
@@ -188,6 +188,8 @@ pub fn store_flip(
         eta_count: at.eta_count,
         objective: step_numbers::new_objective(at.objective, e, diff),
         steps,
+        factored: at.factored,
+        factorings: at.factorings,
     }
 }
 
@@ -271,8 +273,77 @@ fn store_basis(
     numbers[state::VAR_STATES + leaves] = cells::var_cell(n, rules::VarState::NonBasic(col));
 }
 
-// An exchange: the entering variable becomes basic in the row, the leaving one stands at the entering place, and the
-// eta column is pushed. `sq` is the column's sum of squares.
+// The entering variable becomes basic in the row, the leaving one stands at the entering place: the eta store and the
+// factor stay. `sq` is the column's sum of squares.
+fn store_swap(
+    numbers: &mut [usize],
+    doubles: &mut [f64],
+    at: state::Tally,
+    n: usize,
+    lowers: &[f64],
+    uppers: &[f64],
+    ops: &[u8],
+    kept: &[usize],
+    values: &[f64; doubles::PLACES],
+    list: &[usize; doubles::PLACES],
+    count: usize,
+    row_values: &[f64; doubles::PLACES],
+    row_list: &[usize; doubles::PLACES],
+    row_count: usize,
+    helper: &[f64; doubles::PLACES],
+    sq: f64,
+    e: rules::Entering,
+    x: state::Exchange,
+) -> state::Tally
+    requires { ⌜ Swaps (bounded n (now lowers) (now uppers) (now ops) (now kept)) (now numbers) (now doubles) (e .col)
+        (x .row) ⌝ }
+    requires { ⌜ at .steps < maxBudget ⌝ }
+    requires { ⌜ Listing maxRows count (now list) × ((m : List Bool) → sq ≡ sqNorm (sv (now values) m (now list) count))
+        × Listing maxColumns «row_count» (now «row_list») ⌝ }
+    ensures { λ r. ⌜ ((m rm : List Bool) (p : Pat) → stateAt (now (numbers .exit)) (now (doubles .exit)) r ≡ swapped
+        (bounded n (now (lowers .entry)) (now (uppers .entry)) (now (ops .entry)) (now (kept .entry)))
+        (stateAt (now (numbers .entry)) (now (doubles .entry)) at) e
+        (sv (now (values .entry)) m (now (list .entry)) count)
+        (sv (now («row_values» .entry)) rm (now («row_list» .entry)) «row_count») (svOf (now (helper .entry)) p) x) ⌝ }
+{
+    let col = e.col;
+    let row = x.row;
+    store_numbers(
+        doubles,
+        values,
+        list,
+        count,
+        row_values,
+        row_list,
+        row_count,
+        helper,
+        sq,
+        e,
+        x,
+    );
+    store_basis(
+        numbers,
+        doubles,
+        n,
+        lowers,
+        uppers,
+        ops,
+        kept,
+        col,
+        row,
+        x.leaving,
+    );
+    let taken = at.steps + 1;
+    state::Tally {
+        eta_count: at.eta_count,
+        objective: step_numbers::new_objective(at.objective, e, x.diff),
+        steps: taken,
+        factored: at.factored,
+        factorings: at.factorings,
+    }
+}
+
+// An exchange whose eta column fits: it is pushed.
 pub fn store_exchange(
     numbers: &mut [usize],
     doubles: &mut [f64],
@@ -305,10 +376,15 @@ pub fn store_exchange(
         (sv (now («row_values» .entry)) rm (now («row_list» .entry)) «row_count») (svOf (now (helper .entry)) p)
         (x .value) (x .diff) (x .row) (x .pivot) (x .leaving)) ⌝ }
 {
-    let col = e.col;
-    let row = x.row;
-    store_numbers(
+    let t = store_swap(
+        numbers,
         doubles,
+        at,
+        n,
+        lowers,
+        uppers,
+        ops,
+        kept,
         values,
         list,
         count,
@@ -320,23 +396,87 @@ pub fn store_exchange(
         e,
         x,
     );
-    store_basis(
+    let columns = at.eta_count;
+    basis_store::push_eta(
         numbers,
         doubles,
+        columns,
+        values,
+        list,
+        count,
+        x.row,
+        x.pivot,
+    );
+    let eta_count = columns + 1;
+    state::Tally {
+        eta_count,
+        objective: t.objective,
+        steps: t.steps,
+        factored: t.factored,
+        factorings: t.factorings,
+    }
+}
+
+// An exchange whose eta column doesn't fit, so that its basis was factored: the eta store is emptied and the factoring
+// counted. The caller writes the factor.
+pub fn store_bare(
+    numbers: &mut [usize],
+    doubles: &mut [f64],
+    at: state::Tally,
+    n: usize,
+    lowers: &[f64],
+    uppers: &[f64],
+    ops: &[u8],
+    kept: &[usize],
+    values: &[f64; doubles::PLACES],
+    list: &[usize; doubles::PLACES],
+    count: usize,
+    row_values: &[f64; doubles::PLACES],
+    row_list: &[usize; doubles::PLACES],
+    row_count: usize,
+    helper: &[f64; doubles::PLACES],
+    sq: f64,
+    e: rules::Entering,
+    x: state::Exchange,
+) -> state::Tally
+    requires { ⌜ Swaps (bounded n (now lowers) (now uppers) (now ops) (now kept)) (now numbers) (now doubles) (e .col)
+        (x .row) ⌝ }
+    requires { ⌜ (at .steps < maxBudget) × (at .factorings < maxBudget) ⌝ }
+    requires { ⌜ Listing maxRows count (now list) × ((m : List Bool) → sq ≡ sqNorm (sv (now values) m (now list) count))
+        × Listing maxColumns «row_count» (now «row_list») ⌝ }
+    ensures { λ r. ⌜ ((m rm : List Bool) (p : Pat) → stateAt (now (numbers .exit)) (now (doubles .exit)) r ≡ emptied
+        (bounded n (now (lowers .entry)) (now (uppers .entry)) (now (ops .entry)) (now (kept .entry)))
+        (stateAt (now (numbers .entry)) (now (doubles .entry)) at) e
+        (sv (now (values .entry)) m (now (list .entry)) count)
+        (sv (now («row_values» .entry)) rm (now («row_list» .entry)) «row_count») (svOf (now (helper .entry)) p) x) ⌝ }
+{
+    let t = store_swap(
+        numbers,
+        doubles,
+        at,
         n,
         lowers,
         uppers,
         ops,
         kept,
-        col,
-        row,
-        x.leaving,
+        values,
+        list,
+        count,
+        row_values,
+        row_list,
+        row_count,
+        helper,
+        sq,
+        e,
+        x,
     );
-    let columns = at.eta_count;
-    basis_store::push_eta(numbers, doubles, columns, values, list, count, row, x.pivot);
+    numbers[state::ETA_STARTS] = 0;
+    let factorings = at.factorings + 1;
     state::Tally {
-        eta_count: columns + 1,
-        objective: step_numbers::new_objective(at.objective, e, x.diff),
-        steps: at.steps + 1,
+        eta_count: 0,
+        objective: t.objective,
+        steps: t.steps,
+        factored: true,
+        factorings,
     }
 }

@@ -369,12 +369,16 @@ pub extern "C" fn tevalumi_solve(
     values: &mut [f64],
     numbers: &mut [usize],
     doubles: &mut [f64],
+    factor_numbers: &mut [usize],
+    factor_coeffs: &mut [f64],
 ) -> face::TevalumiAnswer
-    ensures { λ r. ⌜ faced r (now (values .exit)) (now (numbers .exit)) (now (doubles .exit)) ≡ facedBy
+    ensures { λ r. ⌜ faced r (now (values .exit)) (now (numbers .exit)) (now (doubles .exit))
+        (now («factor_numbers» .exit)) (now («factor_coeffs» .exit)) ≡ facedBy
         (handed (solvePlan (Parts.planOf columns rows entries budget tolerance (now (costs .entry))
         (now (lowers .entry)) (now (uppers .entry)) (now (starts .entry)) (now (cols .entry)) (now (coeffs .entry))
         (now (ops .entry)) (now (rhs .entry))) (memoryIn (now (values .entry)) (now (numbers .entry))
-        (now (doubles .entry)))) (pastOf (now (numbers .entry)) (now (doubles .entry)))) ⌝ }
+        (now (doubles .entry)) (now («factor_numbers» .entry)) (now («factor_coeffs» .entry))))
+        (pastOf (now (numbers .entry)) (now (doubles .entry)))) ⌝ }
 {
     let a = solve::solve(
         columns,
@@ -393,6 +397,8 @@ pub extern "C" fn tevalumi_solve(
         values,
         numbers,
         doubles,
+        factor_numbers,
+        factor_coeffs,
     );
     face::solve_answer(a)
 }

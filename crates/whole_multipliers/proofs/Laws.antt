@@ -41,7 +41,7 @@ module _ (n m : ℕ) (S O N : List ℕ) (D : List Float) (i : ℕ) where
   p = rowsOf n m S O
 
   abbrev w : Memory
-  w = memoryIn [] N D
+  w = memoryIn [] N D [] []
 
   pub dropped : S # i ≡ S # (i + 1) → f0 ≡ slackPrice p w i
   unfolding slackPrice

@@ -36,7 +36,7 @@ fn slack_price(
 ) -> f64
     requires { ⌜ Long columns rows (now starts) (now ops) (now numbers) (now doubles) × (i < rows) ⌝ }
     ensures { λ r. ⌜ r ≡ slackPrice (rowsOf columns rows (now (starts .entry)) (now (ops .entry)))
-        (memoryIn [] (now (numbers .entry)) (now (doubles .entry))) i ⌝ }
+        (memoryIn [] (now (numbers .entry)) (now (doubles .entry)) [] []) i ⌝ }
 {
     if starts[i] == starts[i + 1] {
         return 0.0;
@@ -60,7 +60,7 @@ pub fn row_multiplier(
 ) -> whole_round::Rounded
     requires { ⌜ Long columns rows (now starts) (now ops) (now numbers) (now doubles) × (i < rows) ⌝ }
     ensures { λ r. ⌜ r ≡ multiplierAt (rowsOf columns rows (now (starts .entry)) (now (ops .entry)))
-        (memoryIn [] (now (numbers .entry)) (now (doubles .entry))) i ⌝ }
+        (memoryIn [] (now (numbers .entry)) (now (doubles .entry)) [] []) i ⌝ }
 {
     let price = slack_price(columns, rows, starts, ops, numbers, doubles, i);
     whole_round::multiplier(ops[i], price)
@@ -77,7 +77,7 @@ pub fn first_multiplier(
 ) -> usize
     requires { ⌜ Long columns rows (now starts) (now ops) (now numbers) (now doubles) ⌝ }
     ensures { λ r. ⌜ r ≡ firstMultiplier (rowsOf columns rows (now (starts .entry)) (now (ops .entry)))
-        (memoryIn [] (now (numbers .entry)) (now (doubles .entry))) ⌝ }
+        (memoryIn [] (now (numbers .entry)) (now (doubles .entry)) [] []) ⌝ }
 {
     let mut i = 0;
     while i < rows {
@@ -102,7 +102,7 @@ pub fn write_multipliers(
     requires { ⌜ Long columns rows (now starts) (now ops) (now numbers) (now doubles) × (rows ≤ length (now mults)) ⌝ }
     ensures { λ _. ⌜ now (mults .exit) ≡ over (multipliers
         (rowsOf columns rows (now (starts .entry)) (now (ops .entry)))
-        (memoryIn [] (now (numbers .entry)) (now (doubles .entry)))) (now (mults .entry)) ⌝ }
+        (memoryIn [] (now (numbers .entry)) (now (doubles .entry)) [] [])) (now (mults .entry)) ⌝ }
 {
     let mut i = 0;
     while i < rows {

@@ -30,21 +30,21 @@ use Rattle.whole_propose.specs.Propose.{proposal, isProposed, handed, pr
 
 -- ---- the values are no part of rows, maps and prices
 module _ (p : Plan) (v : List Float) (N : List ℕ) (D : List Float) where
-  pub same-multiplier : (i : ℕ) → multiplierAt p (memoryIn v N D) i ≡ multiplierAt p (memoryIn [] N D) i
+  pub same-multiplier : (i : ℕ) → multiplierAt p (memoryIn v N D [] []) i ≡ multiplierAt p (memoryIn [] N D [] []) i
   unfolding multiplierAt slackPrice
   same-multiplier i = refl
 
-  pub same-first : firstMultiplier p (memoryIn v N D) ≡ firstMultiplier p (memoryIn [] N D)
+  pub same-first : firstMultiplier p (memoryIn v N D [] []) ≡ firstMultiplier p (memoryIn [] N D [] [])
   unfolding firstMultiplier multiplierAt slackPrice
   same-first = refl
 
-  pub same-all : multipliers p (memoryIn v N D) ≡ multipliers p (memoryIn [] N D)
+  pub same-all : multipliers p (memoryIn v N D [] []) ≡ multipliers p (memoryIn [] N D [] [])
   unfolding multipliers multiplierAt slackPrice
   same-all = refl
 
 -- nor are the comparisons of rows and maps
 pub same-maps : (n m : ℕ) (S O : List ℕ) (v : List Float) (N : List ℕ) (D : List Float)
-    → mapsFine (rowsOf n m S O) (memoryIn v N D) ≡ mapsFine (rowsOf n m S []) (memoryIn [] N [])
+    → mapsFine (rowsOf n m S O) (memoryIn v N D [] []) ≡ mapsFine (rowsOf n m S []) (memoryIn [] N [] [] [])
 unfolding mapsFine rowsFine cellsFine keptRows
 same-maps n m S O v N D = refl
 

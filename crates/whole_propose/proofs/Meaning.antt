@@ -7,6 +7,7 @@ use Prim.Native.Nat.{ℕ, zero, suc, _<_}
 use native.Mathlib.Omega.{arith}
 use lib.ListN.{drop}
 use lib.IntN.{ℤ, pos}
+use lib.Ieee.{Float}
 use Rattle.doubles.specs.Limits.{maxAmount}
 use Rattle.doubles.specs.Lists.{_!_, _#_, over}
 use Rattle.doubles.proofs.Bools.{truth}
@@ -32,7 +33,7 @@ use Rattle.state_maps.proofs.Left.{left-kept}
 use Rattle.whole_multipliers.specs.Rows.{slackPrice, multiplierAt, multipliers, rowsOf}
 use Rattle.whole_propose.specs.declared.Proposal.{Proposal}
 use Rattle.whole_propose.specs.declared.Proposal.the-variants.{Proposed, Refused}
-use Rattle.whole_propose.specs.Propose.{Lent, memory, amountsOf, proposal, isProposed, Handed, handed, proposed}
+use Rattle.whole_propose.specs.Propose.{Lent, memoryWith, memory, amountsOf, proposal, isProposed, Handed, handed, proposed}
 use Rattle.whole_propose.specs.Words.{WholeAmount, WholeMultiplier, Each, Says}
 use Rattle.whole_propose.specs.Meaning.{FromRun, Audited}
 use Rattle.whole_propose.proofs.Exact.{proposal-says}
@@ -155,11 +156,18 @@ same-test : (p : Plan) (m : Memory) → mapsFine (rowsOf (p .columns) (p .rows) 
 unfolding mapsFine keptRows
 same-test p m = refl
 
-pub never-41 : (p : Plan) (m : Memory) (l : Lent) → Answers.numberOf (solvePlan p m .answer) ≡ 0
-    → l .plan ≡ rowsOf (p .columns) (p .rows) (p .starts) (p .ops) → memory l ≡ solvePlan p m .memory → ¬ (proposal l ≡ Refused 41)
-never-41 p m l h q e w =
-    let f : mapsFine (l .plan) (memory l) ≡ false =
-    broken-exactly (l .plan) (memory l) .1 (broken-of (proposal-says l) w) in
+-- the factor's arrays are no part of the test
+any-factor : (F : List ℕ) (G : List Float) (l : Lent)
+    → mapsFine (l .plan) (memoryWith F G l) ≡ mapsFine (l .plan) (memory l)
+unfolding mapsFine
+any-factor F G l = refl
+
+pub never-41 : (p : Plan) (m : Memory) (F : List ℕ) (G : List Float) (l : Lent)
+    → Answers.numberOf (solvePlan p m .answer) ≡ 0 → l .plan ≡ rowsOf (p .columns) (p .rows) (p .starts) (p .ops)
+    → memoryWith F G l ≡ solvePlan p m .memory → ¬ (proposal l ≡ Refused 41)
+never-41 p m F G l h q e w =
+    let f : mapsFine (l .plan) (memoryWith F G l) ≡ false =
+    any-factor F G l ∙ broken-exactly (l .plan) (memory l) .1 (broken-of (proposal-says l) w) in
     not-both (fine-exactly p (solvePlan p m .memory) .1 (left-kept p m (inl h)))
     (sym (same-test p (solvePlan p m .memory)) ∙ rw (q, e) at f)
 

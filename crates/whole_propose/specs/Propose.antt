@@ -1,6 +1,6 @@
 -- A proposal for the sheet from a plan and the memory of a run (02, Ask 3; docs/RULES-02.md). Assumes nothing.
 use mathlib.Core.Bool.{Bool, true, false, not, _&&_}
-use mathlib.Core.List.{List}
+use mathlib.Core.List.{List, []}
 use Prim.Native.Nat.{ℕ}
 use lib.Dec.{ltb, leb, eqb}
 use lib.ListN.{length}
@@ -31,8 +31,12 @@ abbrev pub lentOf : ℕ → ℕ → List ℕ → List ℕ → List Float → Lis
 lentOf n m starts ops v N D x y =
     record { plan = rowsOf n m starts ops; values = v; numbers = N; doubles = D; amounts = x; mults = y }
 
+-- the factor's arrays aren't lent, and nothing reads them: they may be any
+abbrev pub memoryWith : List ℕ → List Float → Lent → Memory
+memoryWith F G l = memoryIn (l .values) (l .numbers) (l .doubles) F G
+
 abbrev pub memory : Lent → Memory
-memory l = memoryIn (l .values) (l .numbers) (l .doubles)
+memory l = memoryWith [] [] l
 
 -- ---- 1: a size over its limit, or a lent array too short
 unfoldable pub lentFine : Lent → Bool

@@ -1,5 +1,6 @@
 // A proposal for the sheet from a plan and the memory of a run (02, Ask 3). It asks nothing: any bytes bring an answer.
 ghost use mathlib.Core.Path.{_≡_};
+ghost use mathlib.Core.List.{[]};
 ghost use Prim.Native.Nat.{_≤_};
 ghost use lib.ListN.{length};
 ghost use Rattle.doubles.specs.Lists.{over};
@@ -88,7 +89,7 @@ fn first_not_whole(
     requires { ⌜ Long columns rows (now starts) (now ops) (now numbers) (now doubles) × (columns ≤ length (now values))
         ⌝ }
     ensures { λ r. ⌜ r ≡ firstNotWhole (rowsOf columns rows (now (starts .entry)) (now (ops .entry)))
-        (memoryIn (now (values .entry)) (now (numbers .entry)) (now (doubles .entry))) ⌝ }
+        (memoryIn (now (values .entry)) (now (numbers .entry)) (now (doubles .entry)) [] []) ⌝ }
 {
     let j = first_amount(columns, values);
     if j < columns {

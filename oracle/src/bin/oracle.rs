@@ -3,7 +3,7 @@
 //!
 //! oracle [--state] [--why] [--shown NAME]..
 //!
-//! --state appends the state after the last whole step, --why where a 6, 22 or 23 arose, and
+//! --state appends the state after the last whole step, --why where a 6 or 23 arose, and
 //! --shown switches the named correction of document 01 off (`all`: every one).
 
 use std::io::{self, BufWriter, Write};

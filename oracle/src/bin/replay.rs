@@ -12,6 +12,7 @@ use std::process::ExitCode;
 
 use oracle::answer::{Answer, Outcome};
 use oracle::exchange::{answer_line, tri_answer_line, Extras, Item, Reader};
+use oracle::families::factorings;
 use oracle::plan::Plan;
 use oracle::shown::{Correction, Options};
 use oracle::tri::{Tri, TriAnswer};
@@ -23,7 +24,7 @@ const PLANS: &str = include_str!("../../fixed.txt");
 
 /// The programs' arrays have so many cells past the limits.
 const PAST: u64 = 16;
-/// The longest block that is taken, in words, but for an answer that needs a long one.
+/// The longest plan and the longest triangle that is taken, in words.
 const SHORT: usize = 400;
 const LONG: usize = 1_500;
 
@@ -198,13 +199,8 @@ fn plans() -> Result<List, String> {
         let Item::Plan(plan) = item else { continue };
         let answer = gate::solve(&plan, Options::default());
         let words = plan_words(&plan);
-        let long = if answer.outcome.number() == 22 {
-            LONG
-        } else {
-            SHORT
-        };
         let kind = plan_kind(&plan, &answer);
-        if plan_fits(&plan) && (night || words.len() <= long && few.takes(kind)) {
+        if plan_fits(&plan) && (night || words.len() <= SHORT && few.takes(kind)) {
             let extras = Extras {
                 state: true,
                 ..Extras::default()
@@ -216,9 +212,18 @@ fn plans() -> Result<List, String> {
 }
 
 /// Number, sort of place, what its reason is, whether it arose on a flip, steps up to 4, for a 2 whether
-/// it is 02's, and whether a column is left at neither bound with a price of about EPS or less, where
-/// 02's filter decides.
-type Kind = (u8, String, Option<&'static str>, bool, u64, bool, bool);
+/// it is 02's, whether a column is left at neither bound with a price of about EPS or less, where 02's
+/// filter decides, and how often the basis was factored, up to 2.
+type Kind = (
+    u8,
+    String,
+    Option<&'static str>,
+    bool,
+    u64,
+    bool,
+    bool,
+    usize,
+);
 
 fn plan_kind(plan: &Plan, answer: &Answer) -> Kind {
     let line = answer_line("", answer, Extras::default());
@@ -235,6 +240,7 @@ fn plan_kind(plan: &Plan, answer: &Answer) -> Kind {
             let mut places = state.flags.iter().zip(&state.price);
             places.any(|(&flags, price)| flags == 0 && price.abs() < 2e-8)
         }),
+        factorings(answer).min(2),
     )
 }
 

@@ -5,24 +5,25 @@ use std::ffi::{OsStr, OsString};
 use super::desk::Act;
 use super::plan::{shown, Plan};
 use super::source::Format;
+use super::Task;
 
 #[derive(Clone, Debug)]
 pub enum Command {
     /// The help text of a command, or of the program.
     Help(&'static str),
     Version,
-    Solve(Request),
-    Audit(Request),
-    Why(Request),
-    Keep(Request),
+    Plans(Task, Request),
     Desk(Act, Request),
-    Night(Night),
+    /// The night that comes with the program.
+    Bundled(Request),
 }
 
-#[derive(Clone, Debug)]
+#[derive(Clone, Debug, Default)]
 pub struct Request {
     pub file: OsString,
     pub format: Format,
+    /// The most bytes that a file may have, packed or not.
+    pub most: usize,
     pub relax: bool,
     pub maximise: Option<bool>,
     pub budget: Option<usize>,
@@ -31,9 +32,17 @@ pub struct Request {
     pub json: bool,
     /// Where `keep` puts the plan.
     pub out: OsString,
+    /// Where a page goes, and a list in glpsol's form.
+    pub html: OsString,
+    pub sol: OsString,
     /// What `what-if` changes, and the journal's file.
     pub sets: Vec<String>,
     pub journal: OsString,
+    /// How `night` tells.
+    pub groups: Vec<String>,
+    pub short: bool,
+    pub ascii: bool,
+    pub sheets: bool,
 }
 
 impl Request {
@@ -45,11 +54,10 @@ impl Request {
     }
 }
 
-#[derive(Clone, Debug, Default)]
-pub struct Night {
-    pub ascii: bool,
-    pub sheets: bool,
-}
+/// In MB: the most that is read where the command line says nothing, and the most that it may say.
+const MB: usize = 1 << 20;
+const MOST: usize = 64;
+const MOST_OF_ALL: usize = 4_000;
 
 pub const HELP: &str = "\
 tevalumi: small linear programs, solved and audited by a library whose every function is proved.
@@ -65,61 +73,71 @@ usage: tevalumi solve FILE    solve a plan and print its values
                               take the journal's last change back
        tevalumi replay FILE JOURNAL [-o PLAN.tev]
                               make the journal's changes on the plan's sheet again
+       tevalumi night FILE    which unit gets what it wants, and how good the plan is
        tevalumi night         the bundled frost night, once with each set of costs
        tevalumi COMMAND --help
 
 exit status: 0 Optimal; 1 refused (answers 1 to 7; a change of the sheet: 11 to 16, 35 to 37);
-             3 not solved (answers 20 to 24); 2 the command line or the file is wrong
+             3 not solved (answers 20 to 25); 4 an audit shows no gap;
+             2 the command line or a file is wrong, or what was to be written isn't
 ";
 
 pub const HELP_SOLVE: &str = "\
 usage: tevalumi solve [OPTIONS] FILE
 
 Solves the plan in FILE (- is standard input) and prints the status with its number and a
-sentence, the objective, the steps, and the values by name. At most 128 columns, 96 rows and
-2,048 entries.
+sentence, the objective, the steps, and by name the columns with value, bounds, cost, price (reduced
+cost) and where each stands, and the rows with activity, right side, slack and multiplier (dual).
+At most 128 columns, 96 rows and 2,048 entries.
 
 The run begins with each column at the bound that its cost wants: below 0 the upper one, else the
 lower one; the other where that is infinite, 0 where both are. A plan with a row that isn't kept
 there is refused with 7, though it may have a solution.
 
 formats: MPS, free or fixed, as GLPK, Clp and HiGHS write it; CPLEX-LP; the project's own text
-         (docs/EXCHANGE.md); a plan that `tevalumi keep` wrote. Which one is told by the content;
-         a name that ends in .tev is a kept plan's.
+         (docs/EXCHANGE.md); a plan that `tevalumi keep` wrote; each of them packed by gzip, where
+         that program is there. Which one is told by the content; a name that ends in .tev is a kept
+         plan's.
 
 options:
   --format F   auto, mps, free-mps, fixed-mps, lp, text or kept
   --max, --min maximise or minimise, whatever the file says (GLPK and Clp don't write it)
   --relax      allow fractions where the file wants whole numbers; without it they are refused
   --budget N   take at most N steps (0 to 10000; 10000 where the file says none)
-  --tol X      the final check's tolerance (0 to 1; 1e-8 where the file says none)
+  --tol X      the final check's tolerance (0 to 1; 1e-6 where the file says none)
+  --max-size N read files of at most N MB, packed or not (64)
   --bits       print the 16 hex digits of each double too
   --json       print one JSON object a plan, on one line
+  --sol FILE   write a solved plan in the form of `glpsol -o`
+  --html FILE  write one page to keep or print
 
+in LP:  `x <= -3` alone leaves the lower bound 0, as GLPK and Clp read it, and the bounds cross
 in MPS: a negative UP without a lower bound means no lower bound; bounds of 1e20 and more mean
         none; a range becomes two rows; N rows after the first are left out; the objective's right
         side is a constant with its sign turned (in files of glpsol, as glpsol does, not turned)
 
-exit status: 0 Optimal; 1 refused (answers 1 to 7); 3 not solved (answers 20 to 24);
+exit status: 0 Optimal; 1 refused (answers 1 to 7); 3 not solved (answers 20 to 25);
              2 the command line or the file is wrong
 ";
 
 pub const HELP_AUDIT: &str = "\
 usage: tevalumi audit [OPTIONS] FILE
 
-Solves the plan in FILE as `tevalumi solve` does, rounds its amounts to whole numbers (nearest,
-ties to even) and its prices to multipliers of 1/1024, opens the audit sheet with them, and prints
-the sheet and its verdict. The verdict is the sheet's: a proposal that was rounded badly only makes
-it worse, never prettier. A plan with a number that isn't whole or is over the sheet's limits is
-said to be so, and no sheet is shown. Where the plan isn't solved and the sheet shows that none
+Solves the plan in FILE as `tevalumi solve` does, looks for good whole amounts and for good
+multipliers of 1/1024 near its values and prices, opens the audit sheet with several of each, keeps
+the best, and prints the sheet and its verdict. The verdict is the sheet's: a bad proposal only
+makes it worse, never prettier. A plan with a number that isn't whole or is over the sheet's limits
+is said to be so, and no sheet is shown. Where the plan isn't solved and the sheet shows that none
 exists, it says why, as `tevalumi why` does.
 
 limits: coefficients 4,096, costs 2^20, right sides 2^31, bounds and amounts 2^16, multipliers 1,024
 
-options: --format, --max, --min, --relax, --budget, --tol, --json as for `tevalumi solve`
+options: --format, --max, --min, --relax, --budget, --tol, --max-size, --json, --html as for
+         `tevalumi solve`
 
-exit status: 0 Optimal, whatever the verdict; 1 refused (answers 1 to 7); 3 not solved (answers 20
-             to 24); 2 the command line or the file is wrong, or the plan isn't in whole numbers
+exit status: 0 the sheet shows a gap; 4 it shows none; 1 refused (answers 1 to 7); 3 not solved
+             (answers 20 to 25); 2 the command line or the file is wrong, or the plan isn't in
+             whole numbers
 ";
 
 pub const HELP_WHY: &str = "\
@@ -133,7 +151,7 @@ solution or none. Numbers must be whole and within the sheet's limits; costs are
 
 limits: coefficients 4,096, right sides 2^31, bounds 2^16
 
-options: --format, --max, --min, --relax, --json as for `tevalumi solve`
+options: --format, --max, --min, --relax, --max-size, --json, --html as for `tevalumi solve`
 
 exit status: 0 no plan exists; 3 that isn't shown; 1 refused (answers 1 to 4); 2 the command line or
              the file is wrong, or the plan isn't in whole numbers
@@ -142,17 +160,18 @@ exit status: 0 no plan exists; 3 that isn't shown; 1 refused (answers 1 to 4); 2
 pub const HELP_KEEP: &str = "\
 usage: tevalumi keep [OPTIONS] FILE -o PLAN.tev
 
-Solves the plan in FILE and rounds its amounts and prices as `tevalumi audit` does, and keeps plan,
-amounts and multipliers in PLAN.tev: blocks of 512 bytes, each with a check (docs/FILES.md). The
-file is written to another name, put on the disk and renamed, so a power cut leaves the old one or
-the new one whole. A file with a changed byte, a block that is missing, cut or misplaced, or numbers
-that a sheet refuses isn't read: the number, the block and a sentence say why. Every command reads
-PLAN.tev where it reads FILE. Names aren't kept, nor a constant; where FILE maximises, the costs are
-kept with their signs turned.
+Solves the plan in FILE, finds whole amounts and multipliers as `tevalumi audit` does, and keeps
+plan, amounts and multipliers in PLAN.tev: blocks of 512 bytes, each with a check (docs/FILES.md).
+The file is written to another name, put on the disk and renamed, so a power cut leaves the old one
+or the new one whole. A file with a changed byte, a block that is missing, cut or misplaced, or
+numbers that a sheet refuses isn't read: the number, the block and a sentence say why. Every command
+reads PLAN.tev where it reads FILE. Names aren't kept, nor a constant; where FILE maximises, the
+costs are kept with their signs turned.
 
 limits: as for `tevalumi audit`
 
-options: --format, --max, --min, --relax, --budget, --tol, --json as for `tevalumi solve`
+options: --format, --max, --min, --relax, --budget, --tol, --max-size, --json as for
+         `tevalumi solve`
 
 exit status: 0 kept; 1 and 3 the plan isn't solved, as for `tevalumi solve`, and nothing is kept;
              2 the command line or a file is wrong, or the plan isn't in whole numbers
@@ -162,8 +181,9 @@ pub const HELP_WHAT_IF: &str = "\
 usage: tevalumi what-if [OPTIONS] FILE --set WHAT:NAME=NUMBER ...
 
 Opens the sheet of the plan in FILE, as it was kept or else as `tevalumi audit` would, changes the
-numbers that are named, one after another, and prints the sheet and its verdict. Nothing is solved
-again: the sheet says what the changed amounts, costs and bounds mean.
+numbers that are named, one after another, and prints for each the kept numbers of the sheet that
+moved and the verdict after and before, then the sheet and its verdict. Nothing is solved again: the
+sheet says what the changed amounts, costs and bounds mean.
 
   --set amount:COLUMN=N    a column's amount     --set cost:COLUMN=N      its cost
   --set lower:COLUMN=N     its lower bound       --set upper:COLUMN=N     its upper bound
@@ -179,7 +199,8 @@ The sheet of a maximised plan minimises: its costs are those of the file with th
 Where a change is refused nothing is written. Columns of a kept plan are x0, x1, .. and its rows r0,
 r1, ..
 
-options: --format, --max, --min, --relax, --budget, --tol, --json as for `tevalumi solve`
+options: --format, --max, --min, --relax, --budget, --tol, --max-size, --json as for
+         `tevalumi solve`
 
 exit status: 0 done, whatever the verdict; 1 a change is refused (11 to 16); 1 and 3 the plan isn't
              solved, as for `tevalumi solve`; 2 the command line or a file is wrong, or the plan
@@ -210,16 +231,28 @@ exit status: 0 done; else as for `tevalumi what-if`
 ";
 
 pub const HELP_NIGHT: &str = "\
-usage: tevalumi night [--ascii] [--sheets]
+usage: tevalumi night [OPTIONS] FILE
+       tevalumi night [--ascii] [--sheets] [--html FILE]
 
-Tells the bundled frost night: alarms and soil reports share the air of a quarter hour. The same
-plan is solved and audited twice, with the costs that lost the alarms and with alarms priced first.
+With FILE: solves and audits that plan and tells which unit gets how much of what it wants. Columns
+are named GROUP.UNIT, such as alarm.A01 and soil.A01. A column wants as much as its upper bound, or
+as an \"at most\" row of it alone. The first three lines have the answer: who is cut, what the plan
+costs, and how much cheaper another could be.
+
+Without: tells the bundled frost night. Alarms and soil reports share the air of a quarter hour; the
+same plan is solved and audited with the costs that lost the alarms and with alarms priced first.
 
 options:
-  --ascii    draw the bars with # and .
-  --sheets   print both audit sheets in full, as `tevalumi audit` would
+  --groups A,B one to three groups (alarm,soil)
+  --short      at most 24 lines of 80 columns: the units that are cut most
+  --ascii      draw the bars with # and .
+  --sheets     print the audit sheets in full, as `tevalumi audit` would
+  --html FILE  write one page to keep or print
+  with FILE also --format, --max, --min, --relax, --budget, --tol, --max-size and --json, as for
+  `tevalumi solve`
 
-exit status: 0
+exit status: as for `tevalumi audit`; 4 too where the plan isn't in whole numbers; 2 too where no
+             column has such a name
 ";
 
 /// What is wrong with the command line.
@@ -260,14 +293,14 @@ pub fn parse(args: &[OsString]) -> Result<Command, Usage> {
         return Ok(Command::Help(help));
     }
     match command.to_str() {
-        Some("night") => night(rest).map(Command::Night),
-        Some("audit") => request(rest, &[]).map(Command::Audit),
-        Some("why") => request(rest, &[]).map(Command::Why),
+        Some("night") => night(rest),
+        Some("audit") => Ok(Command::Plans(Task::Audit, request(rest, &["--html"])?)),
+        Some("why") => Ok(Command::Plans(Task::Why, request(rest, &["--html"])?)),
         Some("keep") => match request(rest, &["-o"])? {
             Request { out, .. } if out.is_empty() => {
                 Err("expected a file to keep the plan in (-o PLAN.tev)".to_string())
             }
-            request => Ok(Command::Keep(request)),
+            request => Ok(Command::Plans(Task::Keep, request)),
         },
         Some("what-if") => {
             let own = ["-o", "--set", "--journal"];
@@ -275,7 +308,10 @@ pub fn parse(args: &[OsString]) -> Result<Command, Usage> {
         }
         Some("undo") => with_journal(rest).map(|request| Command::Desk(Act::Undo, request)),
         Some("replay") => with_journal(rest).map(|request| Command::Desk(Act::Replay, request)),
-        _ => request(rest, &["--bits"]).map(Command::Solve),
+        _ => Ok(Command::Plans(
+            Task::Solve,
+            request(rest, &["--bits", "--sol", "--html"])?,
+        )),
     }
 }
 
@@ -283,21 +319,25 @@ fn text(arg: &OsStr) -> String {
     shown(&arg.to_string_lossy())
 }
 
-fn night(args: &[OsString]) -> Result<Night, Usage> {
-    let mut options = Night::default();
-    for arg in args {
+/// The bundled night has a few options; one's own has a file and all of them.
+fn night(args: &[OsString]) -> Result<Command, Usage> {
+    let mut bundled = Request::default();
+    let mut rest = args.iter();
+    while let Some(arg) = rest.next() {
         match arg.to_str() {
-            Some("--ascii") => options.ascii = true,
-            Some("--sheets") => options.sheets = true,
+            Some("--ascii") => bundled.ascii = true,
+            Some("--sheets") => bundled.sheets = true,
+            Some("--html") => {
+                let file = rest.next().ok_or("expected a file behind --html")?;
+                bundled.html.clone_from(file);
+            }
             _ => {
-                return Err(format!(
-                    "expected --ascii or --sheets, found `{}`",
-                    text(arg)
-                ))
+                let own = ["--ascii", "--sheets", "--short", "--groups", "--html"];
+                return Ok(Command::Plans(Task::Night, request(args, &own)?));
             }
         }
     }
-    Ok(options)
+    Ok(Command::Bundled(bundled))
 }
 
 /// A file and a journal.
@@ -315,17 +355,8 @@ const JOURNAL: &str = "JOURNAL";
 fn request(args: &[OsString], own: &[&str]) -> Result<Request, Usage> {
     let mut file = None;
     let mut request = Request {
-        file: OsString::new(),
-        format: Format::Auto,
-        relax: false,
-        maximise: None,
-        budget: None,
-        tolerance: None,
-        bits: false,
-        json: false,
-        out: OsString::new(),
-        sets: Vec::new(),
-        journal: OsString::new(),
+        most: MOST * MB,
+        ..Request::default()
     };
     let mut args = args.iter();
     let mut only_files = false;
@@ -364,13 +395,20 @@ fn request(args: &[OsString], own: &[&str]) -> Result<Request, Usage> {
             "--min" => request.maximise = Some(false),
             "--relax" => request.relax = true,
             "--json" => request.json = true,
+            "--max-size" => request.most = max_size(&value()?)?,
             "--bits" if own.contains(&option) => request.bits = true,
+            "--short" if own.contains(&option) => request.short = true,
+            "--ascii" if own.contains(&option) => request.ascii = true,
+            "--sheets" if own.contains(&option) => request.sheets = true,
+            "--groups" if own.contains(&option) => request.groups = groups(&value()?)?,
             "--set" if own.contains(&option) => request.sets.push(value()?),
-            "-o" | "--journal" if own.contains(&option) => {
+            "-o" | "--journal" | "--html" | "--sol" if own.contains(&option) => {
                 let file = given.map(OsString::from).or_else(|| args.next().cloned());
                 let file = file.ok_or(format!("expected a file behind {option}"))?;
                 match option {
                     "-o" => request.out = file,
+                    "--html" => request.html = file,
+                    "--sol" => request.sol = file,
                     _ => request.journal = file,
                 }
             }
@@ -398,6 +436,30 @@ fn budget(word: &str) -> Result<usize, Usage> {
         )
     };
     word.parse().map_err(wrong)
+}
+
+fn max_size(word: &str) -> Result<usize, Usage> {
+    let size = word.parse().ok();
+    let size = size.filter(|size| (1..=MOST_OF_ALL).contains(size));
+    size.map(|size| size * MB).ok_or(format!(
+        "expected 1 to {MOST_OF_ALL} (MB) behind --max-size, found `{}`",
+        shown(word)
+    ))
+}
+
+/// One to three, parted by commas: more don't fit beside each other.
+fn groups(word: &str) -> Result<Vec<String>, Usage> {
+    let groups: Vec<String> = word
+        .split(',')
+        .map(|group| group.trim().to_string())
+        .collect();
+    match groups.len() > 3 || groups.iter().any(String::is_empty) {
+        true => Err(format!(
+            "expected one to three names, parted by commas, behind --groups, found `{}`",
+            shown(word)
+        )),
+        false => Ok(groups),
+    }
 }
 
 fn tolerance(word: &str) -> Result<f64, Usage> {

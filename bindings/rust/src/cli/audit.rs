@@ -1,21 +1,36 @@
 //! From doubles to a sheet in whole numbers. The plan's own numbers have to be whole; amounts and
-//! multipliers are the library's proposal, and the sheet judges it.
+//! multipliers are the library's proposal and others near it, and the sheet judges each.
 
+use tevalumi::proposals;
 use tevalumi::raw::limits;
 use tevalumi::sheet::{Figures, NotProposed, Sheet, Verdict};
 use tevalumi::wholes::{propose_into, Rounded};
 use tevalumi::ComparisonOp;
 
 use super::engine::{lent, Solved};
+use super::html::Page;
+use super::moved::kind;
 use super::plan::{counted, Plan, EQ, LE};
 use super::show::{number, of_1024, quoted, Side, Table};
 
-/// Opens the sheet of a solved plan. The error is a sentence that names the first number that
-/// doesn't fit.
+/// The exit status where the sheet shows no gap.
+pub const NO_GAP: u8 = 4;
+
+/// Opens the sheet of a solved plan with the best proposal. The error is a sentence that names the
+/// first number that doesn't fit.
 pub fn open(plan: &Plan, solved: &Solved) -> Result<Sheet, String> {
     let mut figures = figures(plan, Costs::Own)?;
     propose(plan, solved, &mut figures)?;
-    Sheet::open(&figures).map_err(|refusal| format!("the sheet isn't opened: {refusal}"))
+    let sheet = proposals::best(&figures, &solved.values, &solved.multipliers(plan));
+    sheet.map_err(|refusal| format!("the sheet isn't opened: {refusal}"))
+}
+
+/// 0 where the sheet shows a gap.
+pub fn exit(sheet: &Sheet) -> u8 {
+    match sheet.verdict() {
+        Verdict::Gap(_) => 0,
+        _ => NO_GAP,
+    }
 }
 
 /// Which costs a sheet is opened with.
@@ -220,28 +235,30 @@ fn totals(plan: &Plan, sheet: &Sheet) -> String {
     out
 }
 
-/// The verdict in one sentence, no prettier than the sheet's.
+/// The verdict in one sentence that names its subject, no prettier than the sheet's.
 pub fn verdict(plan: &Plan, sheet: &Sheet) -> String {
-    let better = match plan.maximise {
-        true => "worth more than this one",
-        false => "cheaper than this one",
+    let (costs, cheapest, cheaper) = match plan.maximise {
+        true => ("is worth", "best", "worth more"),
+        false => ("costs", "cheapest", "cheaper"),
     };
+    let this = format!("This whole plan, which {costs} {},", worth(plan, sheet));
     match sheet.verdict() {
-        Verdict::Gap(0) => format!("No plan, whole or fractional, is {better}."),
+        Verdict::Gap(0) => format!(
+            "{this} is the {cheapest} one: no plan, whole or fractional, is {cheaper}."
+        ),
         Verdict::Gap(gap) => format!(
-            "No plan, whole or fractional, is {better} by more than {}.",
-            of_1024(gap)
+            "{this} is the {cheapest} one to within {gap}: no plan, whole or fractional, is {cheaper} by more than {gap}.",
+            gap = of_1024(gap)
         ),
         Verdict::NoFloor => format!(
-            "The whole amounts are a plan, but the sheet has no floor ({}), so it doesn't say by how much another could be {}.",
+            "{this} keeps every row and bound, but the sheet has no floor ({}), so it doesn't say by how much another could be {cheaper}.",
             listed(&[
                 (sheet.wrong_signs(), "multiplier has the wrong sign", "multipliers have the wrong sign"),
                 (sheet.absent_bounds(), "price needs a bound that is absent", "prices need a bound that is absent"),
-            ]),
-            if plan.maximise { "worth more" } else { "cheaper" }
+            ])
         ),
         Verdict::NotAPlan => format!(
-            "The whole amounts aren't a plan ({}), so the sheet says nothing about other plans.",
+            "The whole amounts that were found aren't a plan ({}), so the sheet says nothing about other plans.",
             listed(&[
                 (sheet.rows_broken(), "row is broken", "rows are broken"),
                 (sheet.amounts_out(), "amount is out of its bounds", "amounts are out of their bounds"),
@@ -251,20 +268,75 @@ pub fn verdict(plan: &Plan, sheet: &Sheet) -> String {
     }
 }
 
+/// The sheet's cost in the plan's direction. The constant is no part of it.
+fn worth(plan: &Plan, sheet: &Sheet) -> String {
+    let cost = match plan.maximise {
+        true => -sheet.cost(),
+        false => sheet.cost(),
+    };
+    match plan.constant {
+        0.0 => cost.to_string(),
+        constant => format!("{cost} without the constant {}", number(constant)),
+    }
+}
+
 fn listed(counts: &[(usize, &str, &str)]) -> String {
     let some = counts.iter().filter(|&&(n, _, _)| n > 0);
     let some: Vec<String> = some.map(|&(n, one, more)| counted(n, one, more)).collect();
     some.join(" and ")
 }
 
+/// The page of an audit.
+pub fn page(plan: &Plan, sheet: &Sheet) -> Page {
+    let mut page = Page::new(&format!("Audit of {}", plan.name), &verdict(plan, sheet));
+    put_gap(&mut page, plan, sheet);
+    put_tables(&mut page, plan, sheet);
+    page
+}
+
+/// The gap as a part of the cost.
+pub fn put_gap(page: &mut Page, plan: &Plan, sheet: &Sheet) {
+    if let Verdict::Gap(gap) = sheet.verdict() {
+        let part = gap as f64 / 1024.0 / (sheet.cost().abs() as f64).max(1.0);
+        let what = if plan.maximise { "worth" } else { "cost" };
+        let percent = match 100.0 * part {
+            percent if percent < 0.001 => "under 0.001".to_string(),
+            percent => format!("{percent:.3}"),
+        };
+        let words = match gap {
+            0 => "The gap is 0.".to_string(),
+            gap => format!("The gap is {}, {percent} % of the {what}.", of_1024(gap)),
+        };
+        page.gap(&words, part);
+    }
+}
+
+/// The sheet as tables.
+pub fn put_tables(page: &mut Page, plan: &Plan, sheet: &Sheet) {
+    let totals = totals(plan, sheet);
+    let mut facts = Vec::new();
+    let mut remarks = Vec::new();
+    for line in totals.lines() {
+        match line.split_once("  ") {
+            Some((name, value)) => facts.push((name, value.trim().to_string())),
+            None => remarks.push(line),
+        }
+    }
+    page.facts(&facts);
+    for remark in remarks {
+        page.text(remark);
+    }
+    page.table("Rows", &rows(plan, sheet));
+    page.table("Columns", &columns(plan, sheet));
+}
+
 /// What a solve's JSON has beside it in an audit.
 pub fn as_json(plan: &Plan, sheet: &Sheet) -> String {
-    let (name, gap) = match sheet.verdict() {
-        Verdict::Gap(gap) => ("gap", gap.to_string()),
-        Verdict::NoFloor => ("no floor", "null".to_string()),
-        Verdict::NotAPlan => ("not a plan", "null".to_string()),
-        Verdict::NoneExists => ("none exists", "null".to_string()),
+    let gap = match sheet.verdict() {
+        Verdict::Gap(gap) => gap.to_string(),
+        _ => "null".to_string(),
     };
+    let name = kind(sheet.verdict());
     let list = |of: &dyn Fn(usize) -> i64, n: usize| {
         let numbers: Vec<String> = (0..n).map(|k| of(k).to_string()).collect();
         numbers.join(",")

@@ -4,10 +4,11 @@
 use std::ffi::OsStr;
 use std::io::ErrorKind;
 
-use tevalumi::raw::Status;
+use tevalumi::raw::{limits, Status};
 use tevalumi::sheet::{Edit, Entry, Journal, Sheet};
 
 use super::args::Request;
+use super::moved::Change;
 use super::plan::{counted, shown, Plan};
 use super::show::{of_1024, quoted};
 use super::source::{self, Format};
@@ -24,6 +25,9 @@ pub enum Act {
 /// The exit status where the sheet or the journal refuses an edit.
 const REFUSED: u8 = 1;
 
+/// The most bytes of a journal's file: 65,535 blocks.
+const JOURNAL: usize = 65_535 * limits::BLOCK;
+
 /// What ends a command early.
 type Ended = Outcome;
 
@@ -39,14 +43,20 @@ fn act_on(request: &Request, act: Act, files: &dyn Files) -> Result<Outcome, End
         true => None,
         false => Some(replayed(&request.journal, act, &mut sheet, files)?),
     };
-    let mut said = Vec::new();
+    let mut changes = Vec::new();
     match (act, &mut journal) {
         (Act::WhatIf, journal) => {
             for set in &request.sets {
-                said.push(edited(set, &plan, &mut sheet, journal.as_mut())?);
+                let before = sheet.clone();
+                let words = edited(set, &plan, &mut sheet, journal.as_mut())?;
+                changes.push(Change::new(words, &plan, &before, &sheet));
             }
         }
-        (Act::Undo, Some(journal)) => said.push(undone(&plan, &mut sheet, journal)?),
+        (Act::Undo, Some(journal)) => {
+            let before = sheet.clone();
+            let words = undone(&plan, &mut sheet, journal)?;
+            changes.push(Change::new(words, &plan, &before, &sheet));
+        }
         (Act::Undo | Act::Replay, _) => {}
     }
     let written = match &journal {
@@ -61,7 +71,7 @@ fn act_on(request: &Request, act: Act, files: &dyn Files) -> Result<Outcome, End
     }
     let entries = journal.map_or(Vec::new(), |journal| journal.entries());
     let kept = new.map(|(file, bytes)| (name(file), bytes.len()));
-    Ok(told(request, act, &plan, &sheet, &said, &entries, kept))
+    Ok(told(request, act, &plan, &sheet, &changes, &entries, kept))
 }
 
 fn name(file: &OsStr) -> String {
@@ -71,10 +81,8 @@ fn name(file: &OsStr) -> String {
 /// The plan's sheet: as it was kept, or with what `audit` proposes.
 fn opened(request: &Request, files: &dyn Files) -> Result<(Plan, Sheet), Ended> {
     let file = name(&request.file);
-    let bytes = files
-        .read(&request.file)
-        .map_err(|error| wrong(format!("{file}: can't be read: {error}")))?;
-    let format = request.format.told_by_name(&request.file);
+    let (bytes, format) =
+        source::load(request, files).map_err(|what| wrong(format!("{file}: {what}")))?;
     let fault = |fault| wrong(source::told(&file, fault));
     if format == Format::Kept || format == Format::Auto && source::is_kept(&bytes) {
         let sheet = kept::sheet(&bytes).map_err(fault)?;
@@ -112,7 +120,7 @@ fn replayed(
     sheet: &mut Sheet,
     files: &dyn Files,
 ) -> Result<Journal, Ended> {
-    let bytes = match files.read(file) {
+    let bytes = match files.read(file, JOURNAL) {
         Ok(bytes) => bytes,
         Err(error) if error.kind() == ErrorKind::NotFound && act == Act::WhatIf => {
             return Ok(Journal::new(2));
@@ -274,26 +282,29 @@ fn told(
     act: Act,
     plan: &Plan,
     sheet: &Sheet,
-    said: &[String],
+    changes: &[Change],
     entries: &[Entry],
     kept: Option<(String, usize)>,
 ) -> Outcome {
     let out = if request.json {
-        let said: Vec<String> = said.iter().map(|words| quoted(words)).collect();
+        let said: Vec<String> = changes.iter().map(|change| quoted(&change.words)).collect();
+        let changes: Vec<String> = changes.iter().map(Change::as_json).collect();
         let kept = kept.map_or(String::new(), |(file, bytes)| kept::as_json(&file, bytes));
         format!(
-            "{{\"file\":{},\"plan\":{},\"edits\":[{}],\"entries\":{}{kept}{}}}\n",
+            "{{\"version\":{},\"file\":{},\"plan\":{},\"edits\":[{}],\"entries\":{},\"changes\":[{}]{kept}{}}}\n",
+            report::JSON_VERSION,
             quoted(&request.file.to_string_lossy()),
             quoted(&plan.name),
             said.join(","),
             entries.len(),
+            changes.join(","),
             audit::as_json(plan, sheet)
         )
     } else {
         let mut out = report::title(plan);
         let before = if act == Act::Undo { "undone" } else { "edit" };
-        for words in said {
-            out += &format!("{before:<9}  {words}\n");
+        for change in changes {
+            out += &format!("{before:<9}  {}\n{}", change.words, change.text());
         }
         if !request.journal.is_empty() {
             let file = name(&request.journal);

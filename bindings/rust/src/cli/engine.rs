@@ -18,6 +18,51 @@ pub struct Solved {
     pub work: Box<Workspace>,
 }
 
+/// Where a variable of a solved plan stands.
+#[derive(Clone, Copy, Debug, PartialEq)]
+pub enum Stands {
+    Basic,
+    AtLower,
+    AtUpper,
+    Fixed,
+    /// Non-basic, with no bound to stand at.
+    Free,
+}
+
+impl Solved {
+    /// The price of each column and of each kept row's slack, as minimised, and where it stands. Only
+    /// of a run that wasn't refused.
+    pub fn ends(&self, plan: &Plan) -> Vec<(f64, Stands)> {
+        let mut ends = vec![(0.0, Stands::Basic); plan.columns + self.kept.len()];
+        let (numbers, doubles) = (&self.work.numbers, &self.work.doubles);
+        let vars = numbers[sections::NB_VARS].iter().take(plan.columns);
+        let flags = &numbers[sections::FLAGS];
+        for ((&var, &price), &flag) in vars.zip(&doubles[sections::PRICES]).zip(flags) {
+            let stands = match flag {
+                1 => Stands::AtLower,
+                2 => Stands::AtUpper,
+                3 => Stands::Fixed,
+                _ => Stands::Free,
+            };
+            if let Some(end) = ends.get_mut(var) {
+                *end = (price, stands);
+            }
+        }
+        ends
+    }
+
+    /// Each row's multiplier, as minimised: minus the price of its slack, 0 for a dropped row.
+    pub fn multipliers(&self, plan: &Plan) -> Vec<f64> {
+        let mut mults = vec![0.0; plan.rows];
+        let ends = self.ends(plan);
+        for (&i, &(price, _)) in self.kept.iter().zip(ends.iter().skip(plan.columns)) {
+            // A difference, so that 0 stays 0.
+            mults[i] = 0.0 - price;
+        }
+        mults
+    }
+}
+
 /// The plan's arrays as they are lent.
 pub fn lent(plan: &Plan) -> PlanRef<'_> {
     PlanRef {
@@ -87,6 +132,8 @@ fn cut(
         "values" => return to(values, length),
         "numbers" => return to(&mut memory.numbers, length),
         "doubles" => return to(&mut memory.doubles, length),
+        "factor_numbers" | "fnum" => return to(&mut memory.factor_numbers, length),
+        "factor_coeffs" | "fval" => return to(&mut memory.factor_coeffs, length),
         "kept" | "basic" => (true, rows),
         "bval" => (false, rows),
         "nonbasic" | "flags" => (true, columns),

@@ -1,15 +1,10 @@
 //! CPLEX-LP text: objective, rows, bounds, whole columns.
 
-use std::collections::HashMap;
+use std::borrow::Cow;
+use std::collections::{HashMap, HashSet};
 
 use super::plan::{bound, shown, Draft, DraftColumn, DraftRow, Fault, Number, END};
-
-/// A word, number or sign with its line.
-#[derive(Clone, Debug)]
-struct Token<'a> {
-    line: usize,
-    text: &'a str,
-}
+use super::source::Progress;
 
 #[derive(Clone, Copy, Debug, PartialEq)]
 enum Section {
@@ -18,17 +13,20 @@ enum Section {
     Bounds,
     Whole,
     Binary,
+    /// One that isn't read.
+    Left(&'static str),
     End,
 }
 
 pub fn read(text: &str) -> Result<Draft, Fault> {
-    let tokens = tokens(text);
     let mut reader = Reader {
-        tokens: &tokens,
-        at: 0,
+        at: Place::at(text, 0, 1),
+        last: 0,
+        text,
+        progress: Progress::new(),
         draft: Draft::default(),
         columns: HashMap::new(),
-        rows: HashMap::new(),
+        rows: HashSet::new(),
     };
     let first = reader.section();
     let Some(Section::Objective(maximise)) = first else {
@@ -43,6 +41,10 @@ pub fn read(text: &str) -> Result<Draft, Fault> {
             Some(Section::Bounds) => reader.some(Reader::bounds)?,
             Some(Section::Whole) => reader.some(|r| r.whole(false))?,
             Some(Section::Binary) => reader.some(|r| r.whole(true))?,
+            Some(Section::Left(name)) => {
+                let what = format!("section {name} isn't read: it is no part of a linear program");
+                return Err(Fault::new(reader.line(), what));
+            }
             Some(Section::Objective(_)) | None => {
                 return Err(reader.expected("Subject To, Bounds, Generals, Binaries or End"))
             }
@@ -50,29 +52,51 @@ pub fn read(text: &str) -> Result<Draft, Fault> {
     }
 }
 
-/// A `\` starts a comment. A number's sign is a token of its own, an exponent's is not.
-fn tokens(text: &str) -> Vec<Token<'_>> {
-    let mut tokens = Vec::new();
-    for (i, line) in text.lines().enumerate() {
-        let mut rest = line.split('\\').next().unwrap_or("").trim_start();
-        while let Some(first) = rest.chars().next() {
-            let length = if is_sign(first) {
-                let comparing = |c: char| matches!(c, '<' | '>' | '=');
-                match rest[1..].chars().next() {
-                    Some(c) if comparing(first) && comparing(c) => 2,
-                    _ => 1,
-                }
-            } else {
-                length_of_word(rest)
+///// Where the reader stands: at a token, or behind the last one. Tokens aren't kept, since a long file has
+/// many.
+#[derive(Clone, Copy, Debug)]
+struct Place {
+    from: usize,
+    length: usize,
+    line: usize,
+}
+
+impl Place {
+    /// The first token from here on. A `\` starts a comment. A number's sign is a token of its own, an
+    /// exponent's is not.
+    fn at(text: &str, mut from: usize, mut line: usize) -> Place {
+        loop {
+            let rest = &text[from..];
+            let Some(first) = rest.chars().next() else {
+                let length = 0;
+                return Place { from, length, line };
             };
-            tokens.push(Token {
-                line: i + 1,
-                text: &rest[..length],
-            });
-            rest = rest[length..].trim_start();
+            if first == '\\' {
+                from += rest.find('\n').unwrap_or(rest.len());
+            } else if first.is_whitespace() {
+                from += first.len_utf8();
+                line += usize::from(first == '\n');
+            } else {
+                let length = length_of_token(rest, first);
+                return Place { from, length, line };
+            }
         }
     }
-    tokens
+
+    fn next(self, text: &str) -> Place {
+        Place::at(text, self.from + self.length, self.line)
+    }
+}
+
+fn length_of_token(rest: &str, first: char) -> usize {
+    if !is_sign(first) {
+        return length_of_word(rest);
+    }
+    let comparing = |c: char| matches!(c, '<' | '>' | '=');
+    match rest[1..].chars().next() {
+        Some(c) if comparing(first) && comparing(c) => 2,
+        _ => 1,
+    }
 }
 
 fn is_sign(c: char) -> bool {
@@ -82,7 +106,7 @@ fn is_sign(c: char) -> bool {
 fn length_of_word(text: &str) -> usize {
     let number = text.starts_with(|c: char| c.is_ascii_digit() || c == '.');
     if !number {
-        let end = text.find(|c: char| c.is_whitespace() || is_sign(c));
+        let end = text.find(|c: char| c.is_whitespace() || is_sign(c) || c == '\\');
         return end.unwrap_or(text.len());
     }
     // 3x is a number and a name; 3e2 is a number.
@@ -106,25 +130,48 @@ fn length_of_word(text: &str) -> usize {
 }
 
 struct Reader<'a> {
-    tokens: &'a [Token<'a>],
-    at: usize,
+    text: &'a str,
+    at: Place,
+    /// The line of the token before.
+    last: usize,
+    progress: Progress,
     draft: Draft,
-    columns: HashMap<String, usize>,
-    rows: HashMap<String, usize>,
+    columns: HashMap<&'a str, usize>,
+    rows: HashSet<Cow<'a, str>>,
 }
 
 impl<'a> Reader<'a> {
-    fn peek(&self, ahead: usize) -> &'a str {
-        self.tokens.get(self.at + ahead).map_or("", |t| t.text)
+    fn text_at(&self, place: Place) -> &'a str {
+        &self.text[place.from..place.from + place.length]
     }
 
+    /// The token here, empty at the end.
+    fn peek(&self) -> &'a str {
+        self.text_at(self.at)
+    }
+
+    fn peek_next(&self) -> &'a str {
+        self.text_at(self.at.next(self.text))
+    }
+
+    fn advance(&mut self, tokens: usize) {
+        for _ in 0..tokens {
+            self.last = self.at.line;
+            self.at = self.at.next(self.text);
+        }
+        self.progress.line(self.at.line);
+    }
+
+    /// At the end of the file, that of the last token.
     fn line(&self) -> usize {
-        let last = self.tokens.last().map_or(0, |t| t.line);
-        self.tokens.get(self.at).map_or(last, |t| t.line)
+        match self.peek() {
+            "" => self.last,
+            _ => self.at.line,
+        }
     }
 
     fn expected(&self, wanted: &str) -> Fault {
-        let found = match self.peek(0) {
+        let found = match self.peek() {
             "" => END,
             text => text,
         };
@@ -132,18 +179,21 @@ impl<'a> Reader<'a> {
     }
 
     fn take(&mut self, text: &str) -> bool {
-        let taken = self.peek(0).eq_ignore_ascii_case(text);
-        self.at += usize::from(taken);
+        let taken = self.peek().eq_ignore_ascii_case(text);
+        self.advance(usize::from(taken));
         taken
     }
 
     /// The section whose heading stands here, and how many tokens the heading has.
     fn heading(&self) -> Option<(Section, usize)> {
-        let word = self.peek(0).to_ascii_lowercase();
-        let next = self.peek(1).to_ascii_lowercase();
+        let word = self.peek().to_ascii_lowercase();
+        let next = self.peek_next().to_ascii_lowercase();
         // A row or column of that name, not a heading.
         if next == ":" {
             return None;
+        }
+        if let Some(left) = self.left_out(&word, &next) {
+            return Some(left);
         }
         Some(match word.as_str() {
             "maximize" | "maximise" | "maximum" | "max" => (Section::Objective(true), 1),
@@ -159,16 +209,36 @@ impl<'a> Reader<'a> {
         })
     }
 
+    /// The heading of a section that isn't read. It begins its line; elsewhere it is a name.
+    fn left_out(&self, word: &str, next: &str) -> Option<(Section, usize)> {
+        let third = || {
+            let third = self.at.next(self.text).next(self.text);
+            self.text_at(third).to_ascii_lowercase()
+        };
+        let (name, length) = match (word, next) {
+            ("semi", "-") if third() == "continuous" => ("Semi-Continuous", 3),
+            ("semis", _) => ("Semi-Continuous", 1),
+            ("sos" | "sos1" | "sos2", _) => ("SOS", 1),
+            ("lazy", "constraints") => ("Lazy Constraints", 2),
+            ("user", "cuts") => ("User Cuts", 2),
+            ("pwlobj", _) => ("PWLObj", 1),
+            ("multi", "-") if third().starts_with("objective") => ("Multi-Objectives", 3),
+            ("general", "constraints") => ("General Constraints", 2),
+            _ => return None,
+        };
+        (self.last != self.at.line).then_some((Section::Left(name), length))
+    }
+
     fn section(&mut self) -> Option<Section> {
         let (section, length) = self.heading()?;
-        self.at += length;
+        self.advance(length);
         Some(section)
     }
 
     /// Reads pieces until the next heading.
     fn some(&mut self, one: impl Fn(&mut Self) -> Result<(), Fault>) -> Result<(), Fault> {
         while self.heading().is_none() {
-            if self.at == self.tokens.len() {
+            if self.peek().is_empty() {
                 return Err(self.expected("End"));
             }
             one(self)?;
@@ -177,9 +247,9 @@ impl<'a> Reader<'a> {
     }
 
     fn label(&mut self) -> Option<&'a str> {
-        let name = self.peek(0);
-        (self.peek(1) == ":").then(|| {
-            self.at += 2;
+        let name = self.peek();
+        (self.peek_next() == ":").then(|| {
+            self.advance(2);
             name
         })
     }
@@ -199,7 +269,7 @@ impl<'a> Reader<'a> {
     }
 
     fn number(&mut self) -> Option<f64> {
-        let word = self.peek(0);
+        let word = self.peek();
         let value = if word.starts_with(|c: char| c.is_ascii_digit() || c == '.') {
             word.parse().ok()?
         } else if ["inf", "infinity"].contains(&word.to_ascii_lowercase().as_str()) {
@@ -207,7 +277,7 @@ impl<'a> Reader<'a> {
         } else {
             return None;
         };
-        self.at += 1;
+        self.advance(1);
         Some(value)
     }
 
@@ -224,21 +294,21 @@ impl<'a> Reader<'a> {
 
     /// Names begin with a letter or one of CPLEX's marks.
     fn name(&mut self) -> Option<&'a str> {
-        let word = self.peek(0);
+        let word = self.peek();
         let first = word.chars().next()?;
         if is_sign(first) || first.is_ascii_digit() || first == '.' || self.heading().is_some() {
             return None;
         }
-        self.at += 1;
+        self.advance(1);
         Some(word)
     }
 
-    fn column(&mut self, name: &str) -> usize {
+    fn column(&mut self, name: &'a str) -> usize {
         if let Some(&place) = self.columns.get(name) {
             return place;
         }
         let place = self.draft.columns.len();
-        self.columns.insert(name.to_string(), place);
+        self.columns.insert(name, place);
         self.draft.columns.push(DraftColumn::new(name));
         place
     }
@@ -249,7 +319,7 @@ impl<'a> Reader<'a> {
         let mut terms: Vec<(usize, Number)> = Vec::new();
         let mut alone = 0.0;
         loop {
-            if self.peek(0) == "[" {
+            if self.peek() == "[" {
                 return Err(Fault::new(
                     self.line(),
                     "a quadratic term is no part of a linear program",
@@ -281,7 +351,7 @@ impl<'a> Reader<'a> {
     }
 
     fn objective(&mut self) -> Result<(), Fault> {
-        self.label();
+        self.draft.objective_name = self.label().unwrap_or("obj").to_string();
         let (terms, alone) = self.sum()?;
         for (column, cost) in terms {
             self.draft.columns[column].cost = cost;
@@ -291,21 +361,21 @@ impl<'a> Reader<'a> {
     }
 
     fn comparison(&mut self) -> Option<char> {
-        let sign = match self.peek(0) {
+        let sign = match self.peek() {
             "<" | "<=" | "=<" => '<',
             ">" | ">=" | "=>" => '>',
             "=" | "==" => '=',
             _ => return None,
         };
-        self.at += 1;
+        self.advance(1);
         Some(sign)
     }
 
     fn row(&mut self) -> Result<(), Fault> {
         let line = self.line();
-        let label = self.label().map(str::to_string);
-        let name = label.unwrap_or_else(|| format!("R{}", self.draft.rows.len() + 1));
-        if self.rows.insert(name.clone(), 0).is_some() {
+        let label = self.label().map(Cow::Borrowed);
+        let name = label.unwrap_or_else(|| format!("R{}", self.draft.rows.len() + 1).into());
+        if !self.rows.insert(name.clone()) {
             return Err(Fault::new(
                 line,
                 format!("row `{}` stands twice", shown(&name)),
@@ -319,8 +389,9 @@ impl<'a> Reader<'a> {
             (Some(number), Some(sign)) => limit(turned(sign), number, &mut low, &mut high),
             _ => self.at = start,
         }
-        let two = self.at > start;
-        let (entries, alone) = self.sum()?;
+        let two = self.at.from > start.from;
+        let (mut entries, alone) = self.sum()?;
+        entries.shrink_to_fit();
         match self.comparison() {
             Some(sign) => {
                 let right = self.signed_number();
@@ -331,7 +402,7 @@ impl<'a> Reader<'a> {
             None => return Err(self.expected("<=, = or >=")),
         }
         self.draft.rows.push(DraftRow {
-            name,
+            name: name.into_owned(),
             low: Number::new(low.line, low.value - alone),
             high: Number::new(high.line, high.value - alone),
             entries,
@@ -393,9 +464,12 @@ impl<'a> Reader<'a> {
 }
 
 impl DraftColumn {
+    /// An upper bound leaves the lower one at 0, whatever its sign, as GLPK and Clp read it.
     fn limit(&mut self, sign: char, number: Number) {
         if sign != '<' {
             self.lower = Some(number);
+        } else {
+            self.lower.get_or_insert(Number::new(0, 0.0));
         }
         if sign != '>' {
             self.upper = Some(number);

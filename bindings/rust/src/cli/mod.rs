@@ -1,18 +1,23 @@
-//! The command-line program. Everything goes through [`run`], which neither prints nor panics.
+//! The command-line program. Everything goes through [`run`], which doesn't panic, and prints nothing but
+//! how far a long file is read.
 
 pub mod args;
 pub mod audit;
 pub mod desk;
 pub mod engine;
+pub mod html;
 pub mod kept;
 pub mod lp;
+pub mod moved;
 pub mod mps;
 pub mod night;
 pub mod plan;
 pub mod report;
 pub mod show;
+pub mod sol;
 pub mod source;
 pub mod text;
+pub mod units;
 pub mod why;
 
 use std::ffi::{OsStr, OsString};
@@ -21,6 +26,7 @@ use std::io;
 use tevalumi::raw::Status;
 
 use args::{Command, Request};
+use engine::Solved;
 use plan::{shown, Plan};
 
 /// The exit status for a wrong command line or file.
@@ -36,52 +42,69 @@ pub struct Outcome {
 
 /// The files that the program reads and keeps.
 pub trait Files {
-    /// A file's content; `-` is standard input.
-    fn read(&self, file: &OsStr) -> io::Result<Vec<u8>>;
+    /// A file's content; `-` is standard input. One of more bytes than `most` is too large.
+    fn read(&self, file: &OsStr, most: usize) -> io::Result<Vec<u8>>;
+    /// What gzip has packed, of at most so many bytes.
+    fn unpack(&self, packed: &[u8], most: usize) -> io::Result<Vec<u8>>;
     /// Puts a file in place whole, or leaves what was there.
     fn keep(&self, file: &OsStr, bytes: &[u8]) -> io::Result<()>;
 }
 
 /// What is done with each plan of a file.
 #[derive(Clone, Copy, Debug, PartialEq)]
-enum Task {
+pub enum Task {
     Solve,
     Audit,
     Why,
     Keep,
+    Night,
 }
 
 pub fn run(args: &[OsString], files: &dyn Files) -> Outcome {
-    let (request, task) = match args::parse(args) {
+    let (task, request) = match args::parse(args) {
         Ok(Command::Help(text)) => return said(text.to_string()),
         Ok(Command::Version) => return said(format!("tevalumi {}\n", env!("CARGO_PKG_VERSION"))),
-        Ok(Command::Night(options)) => {
-            return match night::tell(&options) {
-                Ok(story) => said(story),
-                Err(what) => wrong(format!("a bundled plan isn't solved: {what}")),
-            }
-        }
-        Ok(Command::Solve(request)) => (request, Task::Solve),
-        Ok(Command::Audit(request)) => (request, Task::Audit),
-        Ok(Command::Why(request)) => (request, Task::Why),
-        Ok(Command::Keep(request)) => (request, Task::Keep),
+        Ok(Command::Bundled(request)) => return bundled(&request, files),
+        Ok(Command::Plans(task, request)) => (task, request),
         Ok(Command::Desk(act, request)) => return desk::run(&request, act, files),
         Err(usage) => return wrong(format!("{usage}\nTry `tevalumi --help`.")),
     };
     let file = shown(&request.file.to_string_lossy());
-    let bytes = match files.read(&request.file) {
-        Ok(bytes) => bytes,
-        Err(error) => return wrong(format!("{file}: can't be read: {error}")),
-    };
-    let format = request.format.told_by_name(&request.file);
-    match source::read(&bytes, format, request.relax) {
-        Ok(plans) if task == Task::Keep && plans.len() != 1 => wrong(format!(
-            "{file}: expected one plan to keep, found {}",
-            plans.len()
-        )),
-        Ok(plans) => answer(&file, plans, &request, task, files),
-        Err(fault) => wrong(source::told(&file, fault)),
+    let written = [&request.out, &request.html, &request.sol];
+    let one = written.iter().any(|file| !file.is_empty()) || task == Task::Night;
+    match source::load(&request, files) {
+        Ok((bytes, format)) => match source::read(&bytes, format, request.relax) {
+            Ok(plans) if one && plans.len() != 1 => {
+                wrong(format!("{file}: expected one plan, found {}", plans.len()))
+            }
+            Ok(plans) => answer(&file, plans, &request, task, files),
+            Err(fault) => wrong(source::told(&file, fault)),
+        },
+        Err(what) => wrong(format!("{file}: {what}")),
     }
+}
+
+/// The night that comes with the program.
+fn bundled(request: &Request, files: &dyn Files) -> Outcome {
+    let (story, page) = match night::tell(request) {
+        Ok(told) => told,
+        Err(what) => return wrong(format!("a bundled plan isn't solved: {what}")),
+    };
+    let page = (!request.html.is_empty()).then(|| page.finish());
+    match put(&request.html, page, files) {
+        Ok(()) => said(story),
+        Err(outcome) => outcome,
+    }
+}
+
+/// Puts a page or a list in its file, where one is asked for.
+fn put(file: &OsStr, text: Option<String>, files: &dyn Files) -> Result<(), Outcome> {
+    let Some(text) = text.filter(|_| !file.is_empty()) else {
+        return Ok(());
+    };
+    let name = shown(&file.to_string_lossy());
+    let kept = files.keep(file, text.as_bytes());
+    kept.map_err(|error| wrong(format!("{name}: can't be written: {error}")))
 }
 
 fn said(out: String) -> Outcome {
@@ -117,8 +140,9 @@ fn answer(
     let mut all = Outcome::default();
     for mut plan in plans {
         request.settle(&mut plan);
-        let one = one(&plan, request, task, files)
-            .unwrap_or_else(|what| wrong(not_whole(file, &plan, &what)));
+        let one = match one(file, &plan, request, task, files) {
+            Ok(one) | Err(one) => one,
+        };
         if !(request.json || all.out.is_empty() || one.out.is_empty()) {
             all.out.push('\n');
         }
@@ -132,71 +156,141 @@ fn answer(
     all
 }
 
-/// The error is a sentence that names the first number that doesn't fit the sheet.
-fn one(plan: &Plan, request: &Request, task: Task, files: &dyn Files) -> Result<Outcome, String> {
+/// A solved plan with what it is to be told with.
+struct Case<'a> {
+    file: &'a str,
+    plan: &'a Plan,
+    solved: Solved,
+    request: &'a Request,
+}
+
+/// What is told of a plan: the text or the JSON, the exit status, and the page where one is asked for.
+struct Told {
+    out: String,
+    exit: u8,
+    page: Option<html::Page>,
+}
+
+fn one(
+    file: &str,
+    plan: &Plan,
+    request: &Request,
+    task: Task,
+    files: &dyn Files,
+) -> Result<Outcome, Outcome> {
     let solved = engine::solve(plan);
     let status = solved.answer.status;
-    let exit = report::exit(status);
-    let name = request.file.to_string_lossy();
-    let json = |more: &str| report::as_json(&name, plan, &solved, request.bits, more);
+    let case = Case {
+        file,
+        plan,
+        solved,
+        request,
+    };
     // 1 to 4 say that there are no rows and bounds to look at.
     let looks = !matches!(status.number(), 1..=4);
-
-    let (out, exit) = match task {
-        Task::Audit if status == Status::Optimal => {
-            let sheet = audit::open(plan, &solved)?;
-            let out = match request.json {
-                true => json(&audit::as_json(plan, &sheet)),
-                false => {
-                    report::head(plan, &solved, false)
-                        + &audit::tables(plan, &sheet)
-                        + &format!("\n{}\n", audit::verdict(plan, &sheet))
-                }
-            };
-            (out, exit)
-        }
-        Task::Keep if status == Status::Optimal => {
-            let sheet = audit::open(plan, &solved)?;
-            let file = shown(&request.out.to_string_lossy());
-            let bytes = sheet.to_bytes();
-            if let Err(error) = files.keep(&request.out, &bytes) {
-                return Ok(wrong(format!("{file}: can't be written: {error}")));
-            }
-            let out = match request.json {
-                true => json(&kept::as_json(&file, bytes.len())),
-                false => report::head(plan, &solved, false) + &kept::line(&file, bytes.len()),
-            };
-            (out, exit)
-        }
-        Task::Why if looks => {
-            let looked = why::look(plan)?;
-            let out = match request.json {
-                true => json(&looked.as_json()),
-                false => report::title(plan) + &looked.text(plan),
-            };
-            (out, looked.exit())
-        }
-        Task::Solve | Task::Audit | Task::Why | Task::Keep => {
-            // An audit says why there is no plan, where that is shown.
-            let why = match task == Task::Audit && looks {
-                true => why::look(plan).ok().filter(|looked| looked.exit() == 0),
-                false => None,
-            };
-            let out = match (request.json, why) {
-                (true, None) => json(""),
-                (true, Some(why)) => json(&why.as_json()),
-                (false, None) => {
-                    report::head(plan, &solved, request.bits)
-                        + &report::values(plan, &solved, request.bits)
-                }
-                (false, Some(why)) => report::head(plan, &solved, false) + &why.text(plan),
-            };
-            (out, exit)
-        }
+    let told = match task {
+        Task::Night => case.night()?,
+        Task::Audit if status == Status::Optimal => case.audit()?,
+        Task::Keep if status == Status::Optimal => case.keep(files)?,
+        Task::Why if looks => case.why()?,
+        // An audit says why there is no plan, where that is shown.
+        Task::Audit if looks => case.unsolved(),
+        Task::Solve | Task::Audit | Task::Why | Task::Keep => case.solve(files)?,
     };
+    put(&request.html, told.page.map(html::Page::finish), files)?;
     Ok(Outcome {
-        out,
+        out: told.out,
         err: String::new(),
-        exit,
+        exit: told.exit,
     })
+}
+
+impl Case<'_> {
+    /// The text, or one JSON object with more behind the run's own fields.
+    fn told(&self, text: String, more: &str, exit: u8) -> Told {
+        let name = self.request.file.to_string_lossy();
+        let out = match self.request.json {
+            true => report::as_json(&name, self.plan, &self.solved, self.request.bits, more),
+            false => text,
+        };
+        Told {
+            out,
+            exit,
+            page: None,
+        }
+    }
+
+    fn with_page(&self, told: Told, page: impl FnOnce() -> html::Page) -> Told {
+        let page = (!self.request.html.is_empty()).then(page);
+        Told { page, ..told }
+    }
+
+    fn exit(&self) -> u8 {
+        report::exit(self.solved.answer.status)
+    }
+
+    /// A sentence that names the first number that doesn't fit the sheet.
+    fn not_whole(&self, what: String) -> Outcome {
+        wrong(not_whole(self.file, self.plan, &what))
+    }
+
+    fn solve(&self, files: &dyn Files) -> Result<Told, Outcome> {
+        let (plan, bits) = (self.plan, self.request.bits);
+        let optimal = self.solved.answer.status == Status::Optimal;
+        let list = optimal.then(|| sol::printed(plan, &self.solved));
+        put(&self.request.sol, list, files)?;
+        let text =
+            report::head(plan, &self.solved, bits) + &report::values(plan, &self.solved, bits);
+        let told = self.told(text, "", self.exit());
+        Ok(self.with_page(told, || report::page(plan, &self.solved)))
+    }
+
+    fn audit(&self) -> Result<Told, Outcome> {
+        let plan = self.plan;
+        let sheet = audit::open(plan, &self.solved).map_err(|what| self.not_whole(what))?;
+        let text = report::head(plan, &self.solved, false)
+            + &audit::tables(plan, &sheet)
+            + &format!("\n{}\n", audit::verdict(plan, &sheet));
+        let told = self.told(text, &audit::as_json(plan, &sheet), audit::exit(&sheet));
+        Ok(self.with_page(told, || audit::page(plan, &sheet)))
+    }
+
+    fn unsolved(&self) -> Told {
+        let looked = why::look(self.plan).ok();
+        let head = report::head(self.plan, &self.solved, false);
+        match looked.filter(|looked| looked.exit() == 0) {
+            Some(why) => {
+                let told = self.told(head + &why.text(self.plan), &why.as_json(), self.exit());
+                self.with_page(told, || why.page(self.plan))
+            }
+            None => {
+                let told = self.told(head, "", self.exit());
+                self.with_page(told, || report::page(self.plan, &self.solved))
+            }
+        }
+    }
+
+    fn keep(&self, files: &dyn Files) -> Result<Told, Outcome> {
+        let sheet = audit::open(self.plan, &self.solved).map_err(|what| self.not_whole(what))?;
+        let file = shown(&self.request.out.to_string_lossy());
+        let bytes = sheet.to_bytes();
+        let kept = files.keep(&self.request.out, &bytes);
+        kept.map_err(|error| wrong(format!("{file}: can't be written: {error}")))?;
+        let text = report::head(self.plan, &self.solved, false) + &kept::line(&file, bytes.len());
+        Ok(self.told(text, &kept::as_json(&file, bytes.len()), self.exit()))
+    }
+
+    fn why(&self) -> Result<Told, Outcome> {
+        let looked = why::look(self.plan).map_err(|what| self.not_whole(what))?;
+        let text = report::title(self.plan) + &looked.text(self.plan);
+        let told = self.told(text, &looked.as_json(), looked.exit());
+        Ok(self.with_page(told, || looked.page(self.plan)))
+    }
+
+    fn night(&self) -> Result<Told, Outcome> {
+        let night = units::Night::new(self.plan, &self.solved, self.request);
+        let night = night.map_err(|what| wrong(format!("{}: {what}", self.file)))?;
+        let told = self.told(night.text(self.request), &night.as_json(), night.exit());
+        Ok(self.with_page(told, || night.page()))
+    }
 }

@@ -7,6 +7,7 @@
 use std::collections::HashMap;
 
 use super::plan::{bound, counted, shown, Draft, DraftColumn, DraftRow, Fault, Number, END};
+use super::source::Progress;
 
 #[derive(Clone, Copy, Debug, PartialEq)]
 pub enum Layout {
@@ -26,9 +27,11 @@ pub fn read_either(text: &str) -> Result<Draft, Fault> {
 
 pub fn read(text: &str, layout: Layout) -> Result<Draft, Fault> {
     let mut reader = Reader::new(layout);
+    let mut progress = Progress::new();
     let mut last = 0;
     for (i, line) in text.lines().enumerate() {
         last = i + 1;
+        progress.line(last);
         if reader.line(last, line.trim_end())? {
             return reader.finish();
         }
@@ -91,6 +94,9 @@ struct Reader {
     /// The line of the marker that opened a stretch of whole columns.
     whole: Option<usize>,
     by_glpk: bool,
+    /// A comment says so, as GLPK's do; and whether the file itself has a direction.
+    said_maximum: bool,
+    has_sense: bool,
     rhs_set: Set,
     range_set: Set,
     bound_set: Set,
@@ -109,6 +115,8 @@ impl Reader {
             objective_name: None,
             whole: None,
             by_glpk: false,
+            said_maximum: false,
+            has_sense: false,
             rhs_set: Set::default(),
             range_set: Set::default(),
             bound_set: Set::default(),
@@ -119,6 +127,7 @@ impl Reader {
     fn line(&mut self, at: usize, line: &str) -> Result<bool, Fault> {
         if line.starts_with('*') {
             self.by_glpk |= line.starts_with("* Format:") && line.ends_with("MPS");
+            self.said_maximum |= line.to_ascii_lowercase().contains("maxim");
             return Ok(false);
         }
         if line.is_empty() {
@@ -211,6 +220,7 @@ impl Reader {
     }
 
     fn sense(&mut self, at: usize, word: &str) -> Result<(), Fault> {
+        self.has_sense = true;
         self.draft.maximise = match word.to_ascii_uppercase().as_str() {
             "MAX" | "MAXIMIZE" | "MAXIMISE" => true,
             "MIN" | "MINIMIZE" | "MINIMISE" => false,
@@ -439,6 +449,7 @@ impl Reader {
         let mut left_out = 0;
         for (i, row) in self.rows.into_iter().enumerate() {
             if self.objective == Some(i) {
+                self.draft.objective_name = row.name;
                 for (j, cost) in row.entries {
                     self.draft.columns[j].cost = cost;
                 }
@@ -463,6 +474,11 @@ impl Reader {
         if self.draft.constant != 0.0 && self.by_glpk {
             notes.push(
                 "glpsol wrote this file: the objective's right side is its constant.".to_string(),
+            );
+        }
+        if self.said_maximum && !self.has_sense {
+            notes.push(
+                "A comment says that the objective is a maximum, but the file has no OBJSENSE and is minimised: --max may be meant.".to_string(),
             );
         }
         let others = self.rhs_set.others + self.range_set.others + self.bound_set.others;

@@ -3,9 +3,11 @@
 use tevalumi::raw::Status;
 use tevalumi::sheet::{Sheet, Verdict};
 
-use super::args::Night;
+use super::args::Request;
 use super::engine::{self, Solved};
+use super::html::{Bar, Page};
 use super::plan::Plan;
+use super::show::wrapped;
 use super::source::{self, Format};
 use super::{audit, report};
 
@@ -34,7 +36,7 @@ struct Share {
 }
 
 /// The error is for a library that doesn't solve the bundled plans.
-pub fn tell(options: &Night) -> Result<String, String> {
+pub fn tell(options: &Request) -> Result<(String, Page), String> {
     let (before, after) = (solved(AS_PRICED)?, solved(ALARMS_FIRST)?);
     let (left, right) = (units(&before), units(&after));
     let mut out = story(&left);
@@ -47,7 +49,47 @@ pub fn tell(options: &Night) -> Result<String, String> {
             out += &format!("\n{}\n", audit::verdict(&told.plan, &told.sheet));
         }
     }
-    Ok(out)
+    let page = page(&[(TITLES[0], &before, &left), (TITLES[1], &after, &right)]);
+    Ok((out, page))
+}
+
+const TITLES: [&str; 2] = ["That night's prices", "Alarms priced first"];
+
+/// The same as a page: for each plan its sentence, and who gets what.
+fn page(nights: &[(&str, &Told, &[Unit])]) -> Page {
+    let sentence = |(title, _, units): &(&str, &Told, &[Unit])| sent(title, units);
+    let sentences: Vec<String> = nights.iter().map(sentence).collect();
+    let mut page = Page::new("The frost night", &sentences.join(" "));
+    for (title, told, units) in nights {
+        page.text(&format!(
+            "{title}: {}",
+            audit::verdict(&told.plan, &told.sheet)
+        ));
+        audit::put_gap(&mut page, &told.plan, &told.sheet);
+        let bar =
+            |name: &str, share: Share| Bar::of(name, share.got as f64, Some(share.wanted as f64));
+        let alarms = units
+            .iter()
+            .filter_map(|unit| Some(bar(&unit.name, unit.alarm?)));
+        page.bars(&format!("{title}: alarms, ms"), &alarms.collect::<Vec<_>>());
+        let soil = units.iter().map(|unit| bar(&unit.name, unit.soil));
+        page.bars(
+            &format!("{title}: soil reports, ms"),
+            &soil.collect::<Vec<_>>(),
+        );
+    }
+    page
+}
+
+/// `Alarms priced first: 25 of 25 alarms are sent whole, 0 lose milliseconds.`
+fn sent(title: &str, units: &[Unit]) -> String {
+    let alarms: Vec<Share> = units.iter().filter_map(|unit| unit.alarm).collect();
+    let sent = alarms.iter().filter(|a| a.got >= a.wanted).count();
+    let lose = alarms.len() - sent;
+    format!(
+        "{title}: {sent} of {} alarms are sent whole, {lose} lose milliseconds.",
+        alarms.len()
+    )
 }
 
 fn solved(text: &str) -> Result<Told, String> {
@@ -169,21 +211,13 @@ fn part(share: Option<Share>, alarm: bool, ascii: bool) -> String {
 
 fn verdicts(before: &Told, after: &Told, left: &[Unit], right: &[Unit]) -> String {
     let mut out = String::new();
-    for (title, told, units) in [
-        ("That night's prices", before, left),
-        ("Alarms priced first", after, right),
-    ] {
-        let alarms: Vec<Share> = units.iter().filter_map(|unit| unit.alarm).collect();
-        let sent = alarms.iter().filter(|a| a.got >= a.wanted).count();
+    for (title, told, units) in [(TITLES[0], before, left), (TITLES[1], after, right)] {
+        let verdict = audit::verdict(&told.plan, &told.sheet);
         out += &format!(
-            "\n{title}: {sent} of {} alarms are sent whole, {} lose milliseconds.\n",
-            alarms.len(),
-            alarms.len() - sent
-        );
-        out += &format!(
-            "Optimal after {} steps. The audit sheet, in whole numbers, says:\n  {}\n",
+            "\n{}\nOptimal after {} steps. The audit sheet, in whole numbers, says:\n{}",
+            sent(title, units),
             told.solved.answer.steps,
-            audit::verdict(&told.plan, &told.sheet)
+            wrapped(&verdict, 80, "  ")
         );
     }
     // What the plan with its alarms would have cost: a plan of that night too, only its prices differ.

@@ -2,15 +2,16 @@
 
 use std::collections::BTreeMap;
 
+use tevalumi::Problem;
+
 /// The comparisons in 01's numbers.
 pub const LE: u8 = 0;
 pub const EQ: u8 = 1;
 pub const GE: u8 = 2;
 
-/// The budget and tolerance where neither the file nor the command line says one: 01's largest
-/// budget, and the double nearest 1e-8.
-pub const BUDGET: usize = 10_000;
-pub const TOLERANCE: f64 = 1e-8;
+/// The budget and tolerance where neither the file nor the command line says one: the crate's.
+pub const BUDGET: usize = Problem::DEFAULT_BUDGET;
+pub const TOLERANCE: f64 = Problem::DEFAULT_TOLERANCE;
 
 /// Found where a file ends too early.
 pub const END: &str = "the end of the file";
@@ -42,12 +43,16 @@ impl Fault {
 /// A piece of a file as it may stand in a message or a table: no control characters, not endless.
 pub fn shown(text: &str) -> String {
     const MOST: usize = 60;
+    match text.char_indices().nth(MOST) {
+        Some((end, _)) => shown_whole(&text[..end]) + "...",
+        None => shown_whole(text),
+    }
+}
+
+/// As [`shown`], however long.
+pub fn shown_whole(text: &str) -> String {
     let mut out = String::new();
-    for (i, c) in text.chars().enumerate() {
-        if i == MOST {
-            out.push_str("...");
-            break;
-        }
+    for c in text.chars() {
         if c.is_control() {
             out.extend(c.escape_default());
         } else {
@@ -85,6 +90,7 @@ pub struct Lines {
 #[derive(Clone, Debug, Default)]
 pub struct Plan {
     pub name: String,
+    pub objective_name: String,
     /// The costs are those of the file negated; every objective shown is negated back.
     pub maximise: bool,
     /// What the file adds to the objective. The library never sees it.
@@ -126,6 +132,14 @@ impl Plan {
         }
     }
 
+    /// A number of the minimised costs as the file means it. A difference, so that 0 stays 0.
+    pub fn signed(&self, of_the_library: f64) -> f64 {
+        match self.maximise {
+            true => 0.0 - of_the_library,
+            false => of_the_library,
+        }
+    }
+
     /// The objective as the file means it.
     pub fn objective(&self, of_the_library: f64) -> f64 {
         let signed = if self.maximise {
@@ -160,6 +174,7 @@ impl Plan {
 #[derive(Debug, Default)]
 pub struct Draft {
     pub name: String,
+    pub objective_name: String,
     pub maximise: bool,
     pub constant: f64,
     pub columns: Vec<DraftColumn>,
@@ -245,6 +260,7 @@ impl Draft {
         }
         let mut plan = Plan {
             name: self.name,
+            objective_name: self.objective_name,
             maximise: false,
             constant: self.constant,
             columns: self.columns.len(),
@@ -264,6 +280,10 @@ impl Draft {
             plan.lines.uppers.push(upper.line);
             plan.column_names.push(column.name);
         }
+        let entries = self.rows.iter().map(|row| row.entries.len()).sum();
+        plan.cols.reserve(entries);
+        plan.coeffs.reserve(entries);
+        plan.lines.coeffs.reserve(entries);
         let mut parted = 0;
         for row in self.rows {
             parted += usize::from(plan.push(row));

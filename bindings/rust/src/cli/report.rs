@@ -2,11 +2,12 @@
 
 use tevalumi::raw::{limits, Place, Status};
 
-use super::engine::Solved;
+use super::engine::{Solved, Stands};
+use super::html::{Bar, Page};
 use super::plan::{counted, Plan, EQ, GE, LE};
 use super::show::{bits, json, number, quoted, Side, Table};
 
-/// The exit status: 0 Optimal, 1 for refusals 1 to 7, 3 for 20 to 24.
+/// The exit status: 0 Optimal, 1 for refusals 1 to 7, 3 for 20 to 25.
 pub fn exit(status: Status) -> u8 {
     match status {
         Status::Optimal => 0,
@@ -17,8 +18,16 @@ pub fn exit(status: Status) -> u8 {
 
 /// The plan's name and sizes, and what the reader left out.
 pub fn title(plan: &Plan) -> String {
-    let mut out = format!(
-        "plan       {}: {}, {}, {}, {}\n",
+    let mut out = format!("plan       {}\n", sizes(plan));
+    for note in &plan.notes {
+        out += &format!("note       {note}\n");
+    }
+    out
+}
+
+fn sizes(plan: &Plan) -> String {
+    format!(
+        "{}: {}, {}, {}, {}",
         if plan.name.is_empty() {
             "(no name)".to_string()
         } else {
@@ -32,11 +41,7 @@ pub fn title(plan: &Plan) -> String {
         } else {
             "minimise"
         },
-    );
-    for note in &plan.notes {
-        out += &format!("note       {note}\n");
-    }
-    out
+    )
 }
 
 /// The plan, the status in a sentence, and where there is one the objective.
@@ -62,46 +67,202 @@ pub fn head(plan: &Plan, solved: &Solved, with_bits: bool) -> String {
     out + &format!("\nsteps      {}\n", answer.steps)
 }
 
-/// Values by name, then what each row has left over.
+/// Columns and rows by name, with what people look for beside each.
 pub fn values(plan: &Plan, solved: &Solved, with_bits: bool) -> String {
     if solved.answer.status != Status::Optimal {
         return String::new();
     }
-    let (columns, slacks) = solved.values.split_at(plan.columns);
+    let (columns, rows) = (column_lines(plan, solved), row_lines(plan, solved));
     let mut out = String::new();
-    let named = columns.iter().enumerate();
-    let named = named.map(|(j, &value)| (plan.column_name(j), value));
-    out += &table("column", "value", named.collect(), with_bits);
-    let named = solved.kept.iter().zip(slacks);
-    let named = named.map(|(&i, &slack)| (plan.row_name(i), slack));
-    out + &table("row", "slack", named.collect(), with_bits)
+    if !columns.is_empty() {
+        out += &format!("\n{}", column_table(&columns, with_bits));
+    }
+    if !rows.is_empty() {
+        out += &format!("\n{}", row_table(&rows, with_bits));
+    }
+    out
 }
 
-fn table(name: &str, what: &str, lines: Vec<(String, f64)>, with_bits: bool) -> String {
-    if lines.is_empty() {
-        return String::new();
+/// The page of a solve.
+pub fn page(plan: &Plan, solved: &Solved) -> Page {
+    let answer = &solved.answer;
+    let mut page = Page::new(&format!("Plan {}", plan.name), &sentence(plan, solved));
+    let mut facts = vec![
+        ("plan", sizes(plan)),
+        ("status", answer.status.number().to_string()),
+    ];
+    if !answer.status.is_refusal() {
+        facts.push(("objective", number(plan.objective(answer.objective))));
+        facts.push(("steps", answer.steps.to_string()));
     }
-    let mut heads = vec![(name, Side::Left), (what, Side::Right)];
+    page.facts(&facts);
+    for note in &plan.notes {
+        page.text(note);
+    }
+    if answer.status == Status::Optimal {
+        let (columns, rows) = (column_lines(plan, solved), row_lines(plan, solved));
+        let part = |line: &ColumnLine| line.upper.is_finite().then_some(line.upper);
+        let bars = columns
+            .iter()
+            .map(|line| Bar::of(&line.name, line.value, part(line)));
+        page.bars(
+            "Values, of the upper bound where there is one",
+            &bars.collect::<Vec<_>>(),
+        );
+        page.table("Columns", &column_table(&columns, false));
+        page.table("Rows", &row_table(&rows, false));
+    }
+    page
+}
+
+/// A column of a solved plan, its numbers as the file means them.
+pub struct ColumnLine {
+    pub name: String,
+    /// As the file has it, however long.
+    pub full: String,
+    pub value: f64,
+    pub lower: f64,
+    pub upper: f64,
+    pub cost: f64,
+    pub price: f64,
+    pub stands: Stands,
+}
+
+/// A row of a solved plan. A row without entries was dropped; its slack counts as basic.
+pub struct RowLine {
+    pub name: String,
+    pub full: String,
+    pub activity: f64,
+    pub op: u8,
+    pub right: f64,
+    pub slack: f64,
+    pub multiplier: f64,
+    /// Where the row's sum stands: at its upper limit where the slack is at 0 on "at most".
+    pub stands: Stands,
+}
+
+pub fn column_lines(plan: &Plan, solved: &Solved) -> Vec<ColumnLine> {
+    let ends = solved.ends(plan);
+    let line = |j: usize| ColumnLine {
+        name: plan.column_name(j),
+        full: plan
+            .column_names
+            .get(j)
+            .cloned()
+            .unwrap_or_else(|| plan.column_name(j)),
+        value: solved.values[j],
+        lower: plan.lowers[j],
+        upper: plan.uppers[j],
+        cost: plan.signed(plan.costs[j]),
+        price: plan.signed(ends[j].0),
+        stands: ends[j].1,
+    };
+    (0..plan.columns).map(line).collect()
+}
+
+pub fn row_lines(plan: &Plan, solved: &Solved) -> Vec<RowLine> {
+    let (ends, mults) = (solved.ends(plan), solved.multipliers(plan));
+    let line = |i: usize| {
+        let (cols, coeffs) = plan.row(i).unwrap_or_default();
+        let terms = cols.iter().zip(coeffs);
+        let place = solved.kept.binary_search(&i).ok().map(|k| plan.columns + k);
+        let stands = place.map_or(Stands::Basic, |place| ends[place].1);
+        RowLine {
+            name: plan.row_name(i),
+            full: plan
+                .row_names
+                .get(i)
+                .cloned()
+                .unwrap_or_else(|| plan.row_name(i)),
+            activity: terms.fold(0.0, |sum, (&j, &a)| sum + a * solved.values[j]),
+            op: plan.ops[i],
+            right: plan.rhs[i],
+            slack: place.map_or(plan.rhs[i], |place| solved.values[place]),
+            multiplier: plan.signed(mults[i]),
+            stands: match (stands, plan.ops[i]) {
+                (Stands::Basic, _) => Stands::Basic,
+                (_, LE) => Stands::AtUpper,
+                (_, GE) => Stands::AtLower,
+                _ => Stands::Fixed,
+            },
+        }
+    };
+    (0..plan.rows).map(line).collect()
+}
+
+fn stands(stands: Stands) -> &'static str {
+    match stands {
+        Stands::Basic => "basic",
+        Stands::AtLower => "at lower",
+        Stands::AtUpper => "at upper",
+        Stands::Fixed => "fixed",
+        Stands::Free => "free",
+    }
+}
+
+fn bound(bound: f64) -> String {
+    match bound.is_finite() {
+        true => number(bound),
+        false => "none".to_string(),
+    }
+}
+
+pub fn column_table(lines: &[ColumnLine], with_bits: bool) -> Table {
+    let right = |head| (head, Side::Right);
+    let mut heads = vec![("column", Side::Left), right("value")];
     if with_bits {
         heads.push(("bits", Side::Left));
     }
+    heads.extend(["lower", "upper", "cost", "price"].map(right));
+    heads.push(("stands", Side::Left));
     let mut table = Table::new(&heads);
-    for (name, value) in lines {
-        let mut cells = vec![name, number(value)];
+    for line in lines {
+        let mut cells = vec![line.name.clone(), number(line.value)];
         if with_bits {
-            cells.push(bits(value));
+            cells.push(bits(line.value));
         }
+        cells.extend([bound(line.lower), bound(line.upper)]);
+        cells.extend([number(line.cost), number(line.price)]);
+        cells.push(stands(line.stands).to_string());
         table.row(cells);
     }
-    format!("\n{table}")
+    table
 }
+
+pub fn row_table(lines: &[RowLine], with_bits: bool) -> Table {
+    let right = |head| (head, Side::Right);
+    let mut heads = vec![("row", Side::Left), right("activity"), ("", Side::Left)];
+    heads.extend(["right side", "slack"].map(right));
+    if with_bits {
+        heads.push(("bits", Side::Left));
+    }
+    heads.extend([right("multiplier"), ("stands", Side::Left)]);
+    let mut table = Table::new(&heads);
+    for line in lines {
+        let mut cells = vec![
+            line.name.clone(),
+            number(line.activity),
+            sign(line.op).to_string(),
+        ];
+        cells.extend([number(line.right), number(line.slack)]);
+        if with_bits {
+            cells.push(bits(line.slack));
+        }
+        cells.extend([number(line.multiplier), stands(line.stands).to_string()]);
+        table.row(cells);
+    }
+    table
+}
+
+/// Of the JSON's fields: one is added to it when a field changes its meaning or goes.
+pub const JSON_VERSION: u32 = 2;
 
 /// One object on one line.
 pub fn as_json(file: &str, plan: &Plan, solved: &Solved, with_bits: bool, more: &str) -> String {
     let answer = &solved.answer;
     let objective = plan.objective(answer.objective);
     let mut out = format!(
-        "{{\"file\":{},\"plan\":{},\"sense\":\"{}\",\"status\":{},\"name\":\"{:?}\",\"sentence\":{}",
+        "{{\"version\":{JSON_VERSION},\"file\":{},\"plan\":{},\"sense\":\"{}\",\"status\":{},\"name\":\"{:?}\",\"sentence\":{}",
         quoted(file),
         quoted(&plan.name),
         if plan.maximise { "maximise" } else { "minimise" },
@@ -110,6 +271,7 @@ pub fn as_json(file: &str, plan: &Plan, solved: &Solved, with_bits: bool, more: 
         quoted(&sentence(plan, solved)),
     );
     let notes: Vec<String> = plan.notes.iter().map(|note| quoted(note)).collect();
+    out += &format!(",\"place\":{}", json_place(plan, solved));
     out += &format!(",\"notes\":[{}]", notes.join(","));
     if !answer.status.is_refusal() {
         out += &format!(
@@ -128,45 +290,89 @@ pub fn as_json(file: &str, plan: &Plan, solved: &Solved, with_bits: bool, more: 
         }
     }
     if answer.status == Status::Optimal {
-        let (columns, slacks) = solved.values.split_at(plan.columns);
-        let named = columns.iter().enumerate();
-        let named = named.map(|(j, &value)| (plan.column_names.get(j), plan.column_name(j), value));
-        out += &json_list("columns", "value", named.collect(), with_bits);
-        let named = solved.kept.iter().zip(slacks);
-        let named = named.map(|(&i, &slack)| (plan.row_names.get(i), plan.row_name(i), slack));
-        out += &json_list("rows", "slack", named.collect(), with_bits);
+        out += &json_columns(&column_lines(plan, solved), with_bits);
+        out += &json_rows(&row_lines(plan, solved), with_bits);
     }
     out + more + "}\n"
 }
 
-/// Names stand unshortened in JSON, where the file has them.
-type Named<'a> = (Option<&'a String>, String, f64);
-
-fn json_list(list: &str, what: &str, items: Vec<Named<'_>>, with_bits: bool) -> String {
-    let items = items.into_iter().map(|(full, name, value)| {
-        let name = quoted(full.unwrap_or(&name));
-        let bits = match with_bits {
-            true => format!(",\"bits\":\"{}\"", bits(value)),
-            false => String::new(),
-        };
-        format!("{{\"name\":{name},\"{what}\":{}{bits}}}", json(value))
+/// Names stand unshortened in JSON, where the file has them; an absent bound is null.
+fn json_columns(lines: &[ColumnLine], with_bits: bool) -> String {
+    let lines = lines.iter().map(|line| {
+        format!(
+            "{{\"name\":{},\"value\":{}{},\"lower\":{},\"upper\":{},\"cost\":{},\"price\":{},\"stands\":\"{}\"}}",
+            quoted(&line.full),
+            json(line.value),
+            json_bits(line.value, with_bits),
+            json(line.lower),
+            json(line.upper),
+            json(line.cost),
+            json(line.price),
+            stands(line.stands)
+        )
     });
-    let items: Vec<String> = items.collect();
-    format!(",\"{list}\":[{}]", items.join(","))
+    format!(",\"columns\":[{}]", lines.collect::<Vec<_>>().join(","))
+}
+
+fn json_rows(lines: &[RowLine], with_bits: bool) -> String {
+    let lines = lines.iter().map(|line| {
+        format!(
+            "{{\"name\":{},\"slack\":{}{},\"activity\":{},\"op\":\"{}\",\"right\":{},\"multiplier\":{},\"stands\":\"{}\"}}",
+            quoted(&line.full),
+            json(line.slack),
+            json_bits(line.slack, with_bits),
+            json(line.activity),
+            sign(line.op),
+            json(line.right),
+            json(line.multiplier),
+            stands(line.stands)
+        )
+    });
+    format!(",\"rows\":[{}]", lines.collect::<Vec<_>>().join(","))
+}
+
+fn json_bits(value: f64, with_bits: bool) -> String {
+    match with_bits {
+        true => format!(",\"bits\":\"{}\"", bits(value)),
+        false => String::new(),
+    }
+}
+
+/// Where a status arose, by number and by name; null where it has no place.
+fn json_place(plan: &Plan, solved: &Solved) -> String {
+    let column = |j: usize| format!("\"column\":{j},\"name\":{}", quoted(&plan.column_name(j)));
+    let row = |i: usize| format!("\"row\":{i},\"name\":{}", quoted(&plan.row_name(i)));
+    let kept = |k: usize| row(solved.kept.get(k).copied().unwrap_or(k));
+    let (kind, rest) = match solved.answer.place {
+        Place::Nowhere => return "null".to_string(),
+        Place::Entry { row: i, within } => ("entry", format!("{},\"within\":{within}", row(i))),
+        Place::Column(j) => ("column", column(j)),
+        Place::Row(i) => ("row", row(i)),
+        Place::Value(v) if v < plan.columns => ("column", column(v)),
+        Place::Value(v) => ("slack", kept(v - plan.columns)),
+        Place::KeptRow(k) => ("row", kept(k)),
+    };
+    format!("{{\"kind\":\"{kind}\",{rest}}}")
 }
 
 /// A plain sentence, with the place by name.
 pub fn sentence(plan: &Plan, solved: &Solved) -> String {
     let (status, place) = (solved.answer.status, solved.answer.place);
     let (better, endless) = match plan.maximise {
-        true => ("better", "the objective rises without end"),
-        false => ("cheaper", "the cost falls without end"),
+        true => ("better", "the objective is taken to rise without end"),
+        false => ("cheaper", "the cost is taken to fall without end"),
     };
     match (status, place) {
-        (Status::Optimal, _) => format!(
-            "Optimal: no column would make the plan {better}, and the final check accepts it{}.",
-            largest(solved)
-        ),
+        (Status::Optimal, _) => match under_eps(plan, solved) {
+            None => format!(
+                "Optimal: no column would make the plan {better}, and the final check accepts it{}.",
+                largest(solved)
+            ),
+            Some(counts) => format!(
+                "Optimal but for prices under {EPS:e} in size: {counts}; no other would make the plan {better}, and the final check accepts it{}.",
+                largest(solved)
+            ),
+        },
         (Status::BadSize, _) => format!("refused: {}.", too_large(plan)),
         (Status::BadNumber, _) => format!("refused: {}.", bad_number(plan)),
         (Status::BadEntry, Place::Entry { row, within }) => format!(
@@ -192,9 +398,15 @@ pub fn sentence(plan: &Plan, solved: &Solved) -> String {
             "refused: a start value, the start's cost or a norm isn't finite."
                 .to_string()
         }
-        (Status::Unbounded, _) => format!("Unbounded: {endless}."),
+        (Status::Unbounded, _) => format!(
+            "Unbounded: a column would make the plan {better}, and no bound and no row whose coefficient there is at least {EPS:e} in size stops it, so {endless}."
+        ),
         (Status::NoRoom, _) => {
             "NoRoom: the store of exchanges is full, and the next one doesn't fit.".to_string()
+        }
+        (Status::Singular, _) => {
+            "Singular: the basis after the next exchange can't be factored: every remaining entry of some column is under 1e-8."
+                .to_string()
         }
         (Status::NotFinite, _) => {
             "NotFinite: a number of the next step isn't finite.".to_string()
@@ -224,6 +436,36 @@ pub fn sentence(plan: &Plan, solved: &Solved) -> String {
     }
 }
 
+/// A price or a coefficient that is smaller counts as 0 in a run: 01's EPS.
+pub const EPS: f64 = 1e-8;
+
+/// The columns and rows that could make the plan cheaper, but at a price that counts as 0.
+fn under_eps(plan: &Plan, solved: &Solved) -> Option<String> {
+    let ends = solved.ends(plan).into_iter().enumerate();
+    let small = ends.filter(|&(_, (price, stands))| match stands {
+        Stands::AtLower => price < 0.0,
+        Stands::AtUpper => price > 0.0,
+        Stands::Free => price != 0.0,
+        Stands::Basic | Stands::Fixed => false,
+    });
+    let mut small = small.map(|(v, (price, _))| match v.checked_sub(plan.columns) {
+        None => (format!("column {}", plan.column_name(v)), price),
+        Some(k) => (format!("row {}", kept_name(plan, solved, k)), price),
+    });
+    let (name, price) = small.next()?;
+    let first = format!(
+        "that of {name}, {}, counts as 0",
+        number(plan.signed(price))
+    );
+    Some(match small.count() {
+        0 => first,
+        more => format!(
+            "{first}, and {} too",
+            counted(more, "other does", "others do")
+        ),
+    })
+}
+
 /// How far the values are beyond a bound or off a row, where they are at all.
 fn largest(solved: &Solved) -> String {
     match solved.answer.excess {
@@ -241,12 +483,16 @@ fn cell(cells: &[f64], at: usize) -> String {
 }
 
 fn compared(plan: &Plan, left: f64, row: usize) -> String {
-    let sign = match plan.ops.get(row) {
-        Some(&LE) => "<=",
-        Some(&EQ) => "=",
-        _ => ">=",
-    };
+    let sign = sign(plan.ops.get(row).copied().unwrap_or(GE));
     format!("{} {sign} {}", number(left), cell(&plan.rhs, row))
+}
+
+fn sign(op: u8) -> &'static str {
+    match op {
+        LE => "<=",
+        EQ => "=",
+        _ => ">=",
+    }
 }
 
 fn too_large(plan: &Plan) -> String {

@@ -54,6 +54,15 @@ impl Table {
     pub fn row(&mut self, cells: Vec<String>) {
         self.rows.push(cells);
     }
+
+    /// The heads, then each row.
+    pub fn rows(&self) -> &[Vec<String>] {
+        &self.rows
+    }
+
+    pub fn sides(&self) -> &[Side] {
+        &self.sides
+    }
 }
 
 impl std::fmt::Display for Table {
@@ -75,6 +84,25 @@ impl std::fmt::Display for Table {
         }
         Ok(())
     }
+}
+
+/// Lines of at most so many characters, cut between words, each behind the indent. A longer word has a
+/// line of its own.
+pub fn wrapped(text: &str, width: usize, indent: &str) -> String {
+    let mut out = String::new();
+    let mut line = String::new();
+    for word in text.split(' ') {
+        let length = indent.len() + line.chars().count() + 1 + word.chars().count();
+        if !line.is_empty() && length > width {
+            out += &format!("{indent}{line}\n");
+            line.clear();
+        }
+        if !line.is_empty() {
+            line.push(' ');
+        }
+        line += word;
+    }
+    out + &format!("{indent}{line}\n")
 }
 
 /// A JSON string.

@@ -4,9 +4,28 @@
 use super::plan::{Fault, Plan, END};
 
 /// What a `short` line may name: a section of the state, or an array of them.
-pub const LENT: [&str; 17] = [
-    "kept", "basic", "bval", "nonbasic", "nval", "price", "norm", "flags", "where", "etarow",
-    "etaptr", "etaidx", "etaval", "counts", "obj", "numbers", "doubles",
+pub const LENT: [&str; 21] = [
+    "kept",
+    "basic",
+    "bval",
+    "nonbasic",
+    "nval",
+    "price",
+    "norm",
+    "flags",
+    "where",
+    "etarow",
+    "etaptr",
+    "etaidx",
+    "etaval",
+    "counts",
+    "obj",
+    "numbers",
+    "doubles",
+    "factor_numbers",
+    "factor_coeffs",
+    "fnum",
+    "fval",
 ];
 
 pub fn read(text: &str) -> Result<Vec<Plan>, Fault> {

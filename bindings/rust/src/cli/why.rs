@@ -6,8 +6,11 @@ use tevalumi::why::{proposal, reason, Reason};
 use tevalumi::ComparisonOp;
 
 use super::audit::{figures, Costs};
+use super::html::{Bar, Page};
 use super::plan::Plan;
 use super::show::{of_1024, quoted, Side, Table};
+
+const FLOOR: &str = "With all costs 0 every plan costs 0, and none costs less than the floor.";
 
 /// What a look for a reason gives.
 pub enum Looked {
@@ -60,14 +63,39 @@ impl Looked {
     pub fn text(&self, plan: &Plan) -> String {
         match self {
             Looked::Shown(sheet) => format!(
-                "{}{}\nfloor      {}\n\nWith all costs 0 every plan costs 0, and none costs less than the floor.\n{}\n",
+                "\n{}{}\nfloor      {}\n\n{FLOOR}\n{}\n",
                 rows(plan, sheet),
-                columns(plan, sheet),
+                columns(plan, sheet).map_or(String::new(), |table| format!("\n{table}")),
                 of_1024(sheet.floor()),
                 self.sentence()
             ),
             Looked::SomePlan | Looked::NotShown => format!("\n{}\n", self.sentence()),
         }
+    }
+
+    /// The page of a reason.
+    pub fn page(&self, plan: &Plan) -> Page {
+        let mut page = Page::new(&format!("Why {} has no plan", plan.name), &self.sentence());
+        if let Looked::Shown(sheet) = self {
+            page.text(FLOOR);
+            page.facts(&[("floor", of_1024(sheet.floor()))]);
+            // A row's part: how much of the floor its multiplier and right side make.
+            let parts = (0..sheet.rows()).map(|i| (i, sheet.multiplier(i) * sheet.right(i)));
+            let parts: Vec<(usize, i64)> = parts.filter(|&(_, part)| part != 0).collect();
+            let most = parts.iter().map(|&(_, part)| part.abs()).max().unwrap_or(1) as f64;
+            let bar = |&(i, part): &(usize, i64)| {
+                Bar::with(&plan.row_name(i), part.abs() as f64 / most, &of_1024(part))
+            };
+            page.bars(
+                "Multiplier times right side",
+                &parts.iter().map(bar).collect::<Vec<_>>(),
+            );
+            page.table("Rows that count", &rows(plan, sheet));
+            if let Some(columns) = columns(plan, sheet) {
+                page.table("Columns that count", &columns);
+            }
+        }
+        page
     }
 
     /// What a solve's JSON has beside it.
@@ -97,7 +125,7 @@ impl Looked {
 }
 
 /// The rows whose multiplier isn't 0.
-fn rows(plan: &Plan, sheet: &Sheet) -> String {
+fn rows(plan: &Plan, sheet: &Sheet) -> Table {
     let mut table = Table::new(&[
         ("row", Side::Left),
         ("", Side::Left),
@@ -117,12 +145,12 @@ fn rows(plan: &Plan, sheet: &Sheet) -> String {
             of_1024(sheet.multiplier(i)),
         ]);
     }
-    format!("\n{table}")
+    table
 }
 
 /// The columns whose price isn't 0: it is the lower bound that counts where it is above 0, else the
 /// upper one.
-fn columns(plan: &Plan, sheet: &Sheet) -> String {
+fn columns(plan: &Plan, sheet: &Sheet) -> Option<Table> {
     let mut table = Table::new(&[
         ("column", Side::Left),
         ("lower", Side::Right),
@@ -134,7 +162,7 @@ fn columns(plan: &Plan, sheet: &Sheet) -> String {
         .filter(|&j| sheet.price(j) != 0)
         .collect();
     if some.is_empty() {
-        return String::new();
+        return None;
     }
     for j in some {
         table.row(vec![
@@ -144,5 +172,5 @@ fn columns(plan: &Plan, sheet: &Sheet) -> String {
             of_1024(sheet.price(j)),
         ]);
     }
-    format!("\n{table}")
+    Some(table)
 }

@@ -32,12 +32,17 @@ fn the_night_cases() {
 fn bits() {
     let told = run(&["solve", "night.txt", "--bits"], NIGHT);
     assert!(told.out.contains("objective  -4  c010000000000000\n"));
-    assert!(told.out.contains("x0          4  4010000000000000\n"));
+    assert!(
+        told.out
+            .contains("\nx0          4  4010000000000000      0"),
+        "{}",
+        told.out
+    );
     let told = run(&["solve", "night.txt", "--bits", "--json"], NIGHT);
     assert!(told.out.contains("\"objective_bits\":\"c010000000000000\""));
     assert!(told
         .out
-        .contains("{\"name\":\"x0\",\"value\":4.0,\"bits\":\"4010000000000000\"}"));
+        .contains("{\"name\":\"x0\",\"value\":4.0,\"bits\":\"4010000000000000\",\"lower\":0.0,\"upper\":null,"));
 }
 
 /// x ends 2^-30 above its bound 1: with that tolerance it is accepted, with the double below it isn't.
@@ -71,6 +76,76 @@ fn the_largest_excess() {
     let lines: Vec<&str> = told.out.lines().collect();
     assert!(lines[0].contains("accepts it.\"") && lines[0].contains("\"excess\":0.0"));
     assert!(!lines[1].contains("excess"));
+}
+
+/// A price or a coefficient under 1e-8 counts as 0, and the sentence says so wherever that decides.
+#[test]
+fn where_eps_decides() {
+    // 9 cheaper is at hand: x could be 1e9, but for its price.
+    let price = mps(" L r\n", " x c -9e-9 r 1\n", " RHS r 1e9\n", "");
+    let told = run(&["solve", "t.mps"], &price);
+    assert!(
+        told.out.contains("status     0, Optimal but for prices under 1e-8 in size: that of column x, -9e-9, counts as 0; no other would make the plan cheaper, and the final check accepts it.\n"),
+        "{}",
+        told.out
+    );
+    let told = run(
+        &["solve", "t.mps", "--max"],
+        &mps(" L r\n", " x c 9e-9 r 1\n", " RHS r 1e9\n", ""),
+    );
+    assert!(
+        told.out
+            .contains("that of column x, 9e-9, counts as 0; no other would make the plan better,"),
+        "{}",
+        told.out
+    );
+    // As a bound, x begins there, and nothing is left to say.
+    let bound = mps(
+        " L r\n",
+        " x c -9e-9 r 1\n",
+        " RHS r 1e10\n",
+        " UP B x 1e9\n",
+    );
+    let told = run(&["solve", "t.mps"], &bound);
+    assert!(
+        told.out
+            .contains("status     0, Optimal: no column would make the plan cheaper,"),
+        "{}",
+        told.out
+    );
+    assert!(told.out.contains("\nobjective  -9\n"), "{}", told.out);
+
+    // x could be 1.1e8 at most, but for the row's coefficient.
+    let coefficient = mps(" L r\n", " x c -1 r 9e-9\n", " RHS r 1\n", "");
+    let told = run(&["solve", "t.mps"], &coefficient);
+    assert!(
+        told.out.contains("status     20, Unbounded: a column would make the plan cheaper, and no bound and no row whose coefficient there is at least 1e-8 in size stops it, so the cost is taken to fall without end.\n"),
+        "{}",
+        told.out
+    );
+    assert_eq!(told.exit, 3);
+
+    // A free column of cost 0 has nothing to gain, in a row or in none.
+    for row in ["r", "s"] {
+        let columns = format!(" x c -1 r 1\n f {row} 1\n");
+        let free = mps(" L r\n L s\n", &columns, " RHS r 4 s 4\n", " FR B f\n");
+        let told = run(&["solve", "t.mps"], &free);
+        match row {
+            "r" => assert!(
+                told.out.contains("20, Unbounded: a column would"),
+                "{}",
+                told.out
+            ),
+            _ => {
+                assert!(
+                    told.out.contains("0, Optimal: no column would make"),
+                    "{}",
+                    told.out
+                );
+                assert!(told.out.contains("\nobjective  -4\n"), "{}", told.out);
+            }
+        }
+    }
 }
 
 /// Every refusal that a file can reach, with its place by name.
@@ -239,7 +314,7 @@ fn maximise_by_negation() {
     );
     assert!(told
         .out
-        .ends_with("\nNo plan, whole or fractional, is worth more than this one.\n"));
+        .ends_with("\nThis whole plan, which is worth 30 without the constant 5, is the best one: no plan, whole or fractional, is worth more.\n"));
     let told = run(&["solve", "t.mps"], &file);
     assert!(told.out.contains("\nobjective  5\n"), "{}", told.out);
 }
@@ -260,7 +335,7 @@ fn a_gap() {
         .contains("\ncost       -24\nfloor      -27.0\ngap        3.0\n"));
     assert!(told
         .out
-        .ends_with("\nNo plan, whole or fractional, is cheaper than this one by more than 3.0.\n"));
+        .ends_with("\nThis whole plan, which costs -24, is the cheapest one to within 3.0: no plan, whole or fractional, is cheaper by more than 3.0.\n"));
     let told = run(&["audit", "t.mps", "--json"], &file);
     assert!(
         told.out.contains("\"verdict\":\"gap\",\"gap_1024\":3072,"),
@@ -269,41 +344,61 @@ fn a_gap() {
     );
 }
 
-/// Thirds: the multiplier is rounded too, and the verdict bears it.
+/// Thirds: -341/1024 of the row isn't enough for a column with no upper bound, -342/1024 is.
 #[test]
 fn a_gap_of_thirds() {
     let file = mps(" L r\n", " x c -1 r 3\n", " RHS r 10\n", "");
     let told = run(&["audit", "t.mps"], &file);
-    // The floor needs a bound, because -341/1024 is not quite -1/3.
-    assert!(told.out.contains("The whole amounts are a plan, but the sheet has no floor (1 price needs a bound that is absent), so it doesn't say by how much another could be cheaper."), "{}", told.out);
-    assert!(told.out.contains("\nfloor      none\n"));
-    let file = mps(
-        " L r\n",
-        " x c -1 r 3\n",
-        " RHS r 10\n",
-        " UP B x 9\n LO B x 0\n",
+    assert!(
+        told.out
+            .contains("\ncost       -3\nfloor      -3.33984375\ngap        0.33984375\n"),
+        "{}",
+        told.out
     );
-    let told = run(&["audit", "t.mps"], &file);
-    assert_eq!(told.exit, 1, "{}", told.out);
+    assert_eq!(told.exit, 0);
+    // A column with no bound at all needs a price of exactly 0, and no whole number of 1/1024 is a third.
+    let free = mps(" L r\n", " x c -1 r 3\n", " RHS r 10\n", " FR B x\n");
+    let told = run(&["audit", "t.mps"], &free);
+    assert!(told.out.ends_with("\nThis whole plan, which costs -3, keeps every row and bound, but the sheet has no floor (1 price needs a bound that is absent), so it doesn't say by how much another could be cheaper.\n"), "{}", told.out);
+    assert!(told.out.contains("\nfloor      none\n"));
+    assert_eq!(told.exit, 4);
+    let told = run(&["audit", "t.mps", "--json"], &free);
+    assert!(
+        told.out
+            .contains("\"verdict\":\"no floor\",\"gap_1024\":null,"),
+        "{}",
+        told.out
+    );
+    assert_eq!(told.exit, 4);
 }
 
-/// Ties to even may break a row; the sheet says so and nothing prettier.
+/// Ties to even would break the row; the next amount doesn't.
 #[test]
-fn not_a_plan() {
+fn the_nearest_amount_breaks_a_row() {
     let file = mps(" L r\n", " x c -6 r 2\n", " RHS r 11\n", "");
     let told = run(&["audit", "t.mps"], &file);
     assert!(
         told.out
-            .contains("r          12  <=          11        -3.0  broken\n"),
+            .contains("r          10  <=          11        -3.0\n"),
         "{}",
         told.out
     );
-    assert!(told.out.ends_with("\nThe whole amounts aren't a plan (1 row is broken), so the sheet says nothing about other plans.\n"));
-    assert_eq!(told.exit, 0);
-    let told = run(&["audit", "t.mps", "--json"], &file);
-    assert!(told
-        .out
-        .contains("\"verdict\":\"not a plan\",\"gap_1024\":null,"));
+    assert!(told.out.contains("\ngap        3.0\n"), "{}", told.out);
+    // The same upside down: at least 11 of what takes 2.
+    let file = mps(
+        " G r\n",
+        " x c 6 r 2\n",
+        " RHS r 11\n",
+        " MI B x\n UP B x 40\n",
+    );
+    let told = run(&["audit", "t.mps"], &file);
+    assert!(
+        told.out
+            .contains("r          12  >=          11         3.0\n"),
+        "{}",
+        told.out
+    );
+    assert!(told.out.contains("\ngap        3.0\n"), "{}", told.out);
 }
 
 /// The first number that isn't whole or is over its limit is named, and no sheet is shown.

@@ -84,7 +84,11 @@ fn some_files(first: u64, files: u64, step: u64) -> (u64, u64) {
         for _ in 0..=rng.below(2) {
             damage(&mut file, &mut rng);
         }
-        let words: &[&str] = match rng.below(5) {
+        let words: &[&str] = match rng.below(7) {
+            5 => &[
+                "solve", "damaged", "--relax", "--json", "--html", "p", "--sol", "s",
+            ],
+            6 => &["audit", "damaged", "--relax", "--json", "--html", "p"],
             0 => &["audit", "damaged", "--relax"],
             1 => &["solve", "damaged", "--relax", "--json", "--bits"],
             2 => &["audit", "damaged", "--relax", "--json", "--max"],
@@ -94,14 +98,14 @@ fn some_files(first: u64, files: u64, step: u64) -> (u64, u64) {
         let told = run(words, &file);
         check(seed, &told, words.contains(&"--json"));
         read += u64::from(told.exit != 2);
-        solved += u64::from(told.exit == 0 && words[0] != "why");
+        solved += u64::from([0, 4].contains(&told.exit) && words[0] != "why");
     }
     (read, solved)
 }
 
 fn check(seed: u64, told: &crate::cli::Outcome, json: bool) {
     match told.exit {
-        0 | 1 | 3 => assert!(
+        0 | 1 | 3 | 4 => assert!(
             told.err.is_empty() && told.out.contains("status"),
             "seed {seed}: {told:?}"
         ),

@@ -13,9 +13,13 @@ use crate::Rng;
 struct Disk(RefCell<BTreeMap<OsString, Vec<u8>>>);
 
 impl Files for Disk {
-    fn read(&self, file: &OsStr) -> io::Result<Vec<u8>> {
+    fn read(&self, file: &OsStr, _: usize) -> io::Result<Vec<u8>> {
         let missing = || io::Error::from(io::ErrorKind::NotFound);
         self.0.borrow().get(file).cloned().ok_or_else(missing)
+    }
+
+    fn unpack(&self, _: &[u8], _: usize) -> io::Result<Vec<u8>> {
+        Err(io::Error::from(io::ErrorKind::NotFound))
     }
 
     fn keep(&self, file: &OsStr, bytes: &[u8]) -> io::Result<()> {
@@ -47,7 +51,7 @@ impl Disk {
     }
 
     fn file(&self, name: &str) -> Vec<u8> {
-        self.read(OsStr::new(name)).expect("the file is there")
+        self.read(OsStr::new(name), 0).expect("the file is there")
     }
 }
 
@@ -59,13 +63,51 @@ fn sheet(text: &str) -> &str {
 #[test]
 fn a_number_is_changed() {
     let disk = Disk::new();
-    let text = disk.says("what-if plan.mps --set amount:south=1");
-    assert!(text.contains("\nedit       amount of south from 0 to 1\n"));
-    assert!(text
-        .ends_with("\nNo plan, whole or fractional, is cheaper than this one by more than 1.0.\n"));
+    let text = disk.says("what-if plan.mps --set amount:south=0");
+    let wanted = "
+edit       amount of south from 1 to 0
+moved      activity of air from 9 to 8
+moved      cost from -26 to -24
+verdict    gap 3.0, before gap 1.0
+
+";
+    assert!(text.contains(wanted), "{text}");
+    assert!(text.ends_with(
+        "\nThis whole plan, which costs -24, is the cheapest one to within 3.0: no plan, whole or fractional, is cheaper by more than 3.0.\n"
+    ));
     // With no change it is what audit shows.
     let (is, was) = (disk.says("what-if plan.mps"), disk.says("audit plan.mps"));
     assert_eq!(sheet(&is), sheet(&was));
+}
+
+/// Each change has its own verdicts and its own moved cells, in words and as JSON.
+#[test]
+fn what_each_change_moves() {
+    let disk = Disk::new();
+    let text =
+        disk.says("what-if plan.mps --set amount:north=5 --set mult:air=-2 --set cost:south=0");
+    let wanted = "
+edit       amount of north from 4 to 5
+moved      activity of air from 9 to 11
+moved      cost from -26 to -32
+moved      broken rows from 0 to 1
+verdict    not a plan, before gap 1.0
+edit       multiplier of air from -3.0 to -2.0
+moved      price of north from 0.0 to -2.0
+moved      price of south from 1.0 to 0.0
+moved      floor from -27.0 to -18.0
+moved      absent bounds from 0 to 1
+verdict    not a plan, before not a plan
+edit       cost of south from -2 to 0
+moved      price of south from 0.0 to 2.0
+moved      cost from -32 to -30
+verdict    not a plan, before not a plan
+
+";
+    assert!(text.contains(wanted), "{text}");
+    let json = disk.says("what-if plan.mps --json --set amount:south=0");
+    let wanted = ",\"changes\":[{\"edit\":\"amount of south from 1 to 0\",\"before\":{\"verdict\":\"gap\",\"gap_1024\":1024},\"after\":{\"verdict\":\"gap\",\"gap_1024\":3072},\"moved\":[{\"cell\":\"activity\",\"of\":\"air\",\"from\":9,\"to\":8},{\"cell\":\"cost\",\"of\":null,\"from\":-26,\"to\":-24}]}],\"sheet\":{";
+    assert!(json.contains(wanted), "{json}");
 }
 
 #[test]
@@ -95,9 +137,9 @@ fn every_number_by_its_name() {
         let text = disk.says("undo plan.mps j");
         let (from, to) = words.split_once(" from ").expect("it says from");
         let (old, new) = to.split_once(" to ").expect("and to");
-        let back =
-            format!("\nundone     {from} from {new} back to {old}\njournal    j: 0 entries\n");
+        let back = format!("\nundone     {from} from {new} back to {old}\n");
         assert!(text.contains(&back), "{text}");
+        assert!(text.contains("\njournal    j: 0 entries\n"), "{text}");
         assert_eq!(sheet(&text), sheet(&disk.says("what-if plan.mps")));
     }
 }
@@ -185,7 +227,7 @@ fn what_is_refused_changes_no_file() {
         assert_eq!((told.exit, told.out.as_str()), (exit, ""), "{set}");
         assert!(told.err.contains(said), "{}", told.err);
         assert_eq!(disk.file("j"), journal);
-        assert!(disk.read(OsStr::new("p")).is_err());
+        assert!(disk.read(OsStr::new("p"), 0).is_err());
     }
 }
 
@@ -232,7 +274,7 @@ fn not_solved() {
     let told = disk.run("what-if plan.mps --budget 0 --set amount:north=1 --journal j");
     assert_eq!(told.exit, 3);
     assert!(told.out.contains("status     21, Spent"), "{}", told.out);
-    assert!(disk.read(OsStr::new("j")).is_err());
+    assert!(disk.read(OsStr::new("j"), 0).is_err());
 }
 
 /// Nothing crashes on any journal.

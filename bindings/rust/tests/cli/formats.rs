@@ -165,7 +165,7 @@ fn lp_pieces() {
         (plan.ops.clone(), plan.rhs.clone()),
         (vec![GE, EQ, GE], vec![-4.0, 2.0, -1.0])
     );
-    assert_eq!(plan.lowers, [-INF, 0.0, -INF]);
+    assert_eq!(plan.lowers, [0.0, 0.0, -INF]);
     assert_eq!(plan.uppers, [-3.0, 1.0, 2.0]);
     assert_eq!(plan.row_names, ["R1", "c2", "R3"]);
 }

@@ -17,8 +17,12 @@ struct Memory<'a> {
 }
 
 impl Files for Memory<'_> {
-    fn read(&self, _: &OsStr) -> io::Result<Vec<u8>> {
+    fn read(&self, _: &OsStr, _: usize) -> io::Result<Vec<u8>> {
         Ok(self.text.to_vec())
+    }
+
+    fn unpack(&self, _: &[u8], _: usize) -> io::Result<Vec<u8>> {
+        Err(io::Error::from(io::ErrorKind::NotFound))
     }
 
     fn keep(&self, file: &OsStr, bytes: &[u8]) -> io::Result<()> {
@@ -222,5 +226,35 @@ fn the_program_puts_the_file_in_place() {
         .output()
         .expect("the program runs");
     assert_eq!(output.status.code(), Some(2));
+    std::fs::remove_dir_all(&folder).expect("removed");
+}
+
+/// A device or a link stays what it is; the file behind a link is the one that is written.
+#[test]
+fn only_plain_files_are_put_in_place() {
+    let folder = std::env::temp_dir().join(format!("tevalumi-links-{}", std::process::id()));
+    std::fs::create_dir_all(&folder).expect("a folder");
+    let plan = concat!(env!("CARGO_MANIFEST_DIR"), "/plans/two-tunnels.mps");
+    let keep = |file: &str| {
+        let out = folder.join(file);
+        let output = program().args(["keep", plan, "-o"]).arg(&out).output();
+        let link = std::fs::symlink_metadata(&out).is_ok_and(|found| found.is_symlink());
+        (output.expect("the program runs").status.code(), link)
+    };
+    let link =
+        |to: &str, from: &str| std::os::unix::fs::symlink(to, folder.join(from)).expect("a link");
+    link("/dev/full", "device");
+    assert_eq!(keep("device"), (Some(2), true));
+    link("nowhere", "dangling");
+    assert_eq!(keep("dangling"), (Some(2), true));
+    assert_eq!(keep("."), (Some(2), false));
+    assert_eq!(keep("plain"), (Some(0), false));
+    link("plain", "link");
+    std::fs::write(folder.join("plain"), "old").expect("written");
+    assert_eq!(keep("link"), (Some(0), true));
+    assert_eq!(
+        std::fs::read(folder.join("plain")).expect("there").len(),
+        6144
+    );
     std::fs::remove_dir_all(&folder).expect("removed");
 }

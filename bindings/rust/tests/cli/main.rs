@@ -7,13 +7,20 @@
 mod cli;
 
 mod answers;
+mod audits;
 mod damage;
 mod desk;
 mod formats;
 mod kept;
+mod pages;
 mod peers;
 mod program;
+mod reading;
 mod tour;
+mod units;
+
+#[global_allocator]
+static MEMORY: reading::memory::Counting = reading::memory::Counting;
 
 /// What the program says to these words, with `text` as its only file.
 fn run(words: &[&str], text: &[u8]) -> cli::Outcome {

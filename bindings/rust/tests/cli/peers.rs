@@ -131,7 +131,7 @@ fn generated(seed: u64) -> String {
 }
 
 /// Whether a program is there. With `TEVALUMI_PEERS=1` it has to be.
-fn there(program: &str) -> bool {
+pub fn there(program: &str) -> bool {
     // An emulator may answer that it has started a program that isn't there, so what is printed tells.
     let printed = Command::new(program).arg("--version").output();
     let found = printed.is_ok_and(|printed| !printed.stdout.is_empty());
@@ -143,13 +143,13 @@ fn there(program: &str) -> bool {
     found
 }
 
-fn folder(name: &str) -> PathBuf {
+pub fn folder(name: &str) -> PathBuf {
     let folder = std::env::temp_dir().join(format!("tevalumi-{name}-{}", std::process::id()));
     fs::create_dir_all(&folder).expect("a folder");
     folder
 }
 
-fn output(program: &str, folder: &Path, words: &[&str]) -> String {
+pub fn output(program: &str, folder: &Path, words: &[&str]) -> String {
     let mut command = Command::new(program);
     let output = command.args(words).current_dir(folder).output();
     String::from_utf8_lossy(&output.expect("it runs").stdout).into_owned()
@@ -162,7 +162,7 @@ fn glpsol() {
         return;
     }
     let folder = folder("glpsol");
-    let (mut optima, mut endless, mut as_lp) = (0, 0, 0);
+    let (mut optima, mut endless, mut as_lp, mut refused) = (0, 0, 0, 0);
     for seed in 0..60 {
         fs::write(folder.join("in.mps"), generated(seed)).expect("written");
         let sense = if seed % 3 == 0 { "--max" } else { "--min" };
@@ -193,6 +193,7 @@ fn glpsol() {
             let (status, ours) = ours(&[sense], &written);
             // Refused: the slack start of a maximised plan, or of a range as a column, isn't feasible.
             if status == 7 && (sense == "--max" || file == "out.lp") {
+                refused += 1;
                 continue;
             }
             // glpsol leaves the constant out of LP files.
@@ -217,7 +218,12 @@ fn glpsol() {
             }
         }
     }
+    // What was wrong would have failed above.
     println!("glpsol: {optima} optima from MPS, {as_lp} from LP, {endless} endless");
+    println!(
+        "glpsol's files: {} solved, {refused} refused with 7, 0 wrong",
+        180 - refused
+    );
     assert!(optima >= 20 && as_lp >= 5 && endless >= 1);
     fs::remove_dir_all(&folder).expect("removed");
 }
@@ -266,6 +272,83 @@ fn clp() {
         optima += 1;
     }
     println!("clp: {optima} optima");
+    println!("clp's files: {} solved, 0 refused, 0 wrong", 2 * optima);
     assert!(optima >= 20);
+    fs::remove_dir_all(&folder).expect("removed");
+}
+
+/// What stands in the file that `--sol` writes.
+fn sol(words: &[&str], text: &[u8]) -> String {
+    let words = [&["solve", "peer", "--sol", "peer.sol"][..], words].concat();
+    let (told, files) = crate::kept::run(&words, text);
+    assert_eq!(told.exit, 0, "{}{}", told.out, told.err);
+    let (name, bytes) = files.into_iter().next().expect("a list");
+    assert_eq!(name, "peer.sol");
+    String::from_utf8(bytes).expect("text")
+}
+
+/// Byte for byte as glpsol 5.0 writes it, with a range, a fixed column and an equality.
+#[test]
+fn recorded_list() {
+    let ours = sol(&[], include_bytes!("data/peers/glpsol-free.mps"));
+    // glpsol says 1e+30 of Clp's upper bound, which means none here.
+    let theirs = include_str!("data/peers/glpsol-free.sol");
+    assert_eq!(ours, theirs.replace("1e+30", "     "));
+}
+
+/// The sample files through `glpsol -o`: the same rows and columns stand at the same places, and where a
+/// vertex or a price is another one of the same optimum, the objective is the same all the same.
+#[test]
+fn lists_of_glpsol() {
+    if !there("glpsol") {
+        return;
+    }
+    let folder = folder("lists");
+    let (mut same, mut lists) = (0, 0);
+    let plans = Path::new(env!("CARGO_MANIFEST_DIR")).join("plans");
+    let samples = [
+        "two-tunnels.mps",
+        "night-as-priced.mps",
+        "night-alarms-first.mps",
+    ];
+    let samples = samples.map(|name| fs::read_to_string(plans.join(name)).expect("a plan"));
+    for text in samples.into_iter().chain((0..30).map(generated)) {
+        fs::write(folder.join("in.mps"), &text).expect("written");
+        output(
+            "glpsol",
+            &folder,
+            &["--freemps", "in.mps", "--nopresol", "-o", "out.sol"],
+        );
+        let theirs = fs::read_to_string(folder.join("out.sol")).expect("a list");
+        if !theirs.contains("Status:     OPTIMAL") {
+            continue;
+        }
+        let turned = text.replace(" R cost ", " R cost -").replace("--", "");
+        let ours = sol(&[], turned.as_bytes());
+        lists += 1;
+        let (ours, theirs): (Vec<&str>, Vec<&str>) =
+            (ours.lines().collect(), theirs.lines().collect());
+        // The head, with the objective; the names of every line.
+        assert_eq!(ours[..6], theirs[..6]);
+        assert_eq!(ours.len(), theirs.len());
+        let end = ours
+            .iter()
+            .position(|line| line.starts_with("Karush"))
+            .expect("its end");
+        for (our, their) in ours[..end].iter().zip(&theirs) {
+            let first = |line: &str| line.chars().take(20).collect::<String>();
+            assert_eq!(first(our), first(their));
+        }
+        same += usize::from(ours[..end] == theirs[..end]);
+        assert!(
+            ours[end..]
+                .iter()
+                .filter(|line| line.contains("High quality"))
+                .count()
+                == 4
+        );
+    }
+    println!("glpsol -o: {same} of {lists} lists are the same, the others are other vertices of the optimum");
+    assert!(lists >= 15 && same * 2 >= lists);
     fs::remove_dir_all(&folder).expect("removed");
 }

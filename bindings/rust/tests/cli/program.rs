@@ -71,7 +71,7 @@ fn a_file() {
     let name = file.to_str().expect("a plain name");
     let output = start(&["audit", name], "");
     assert_eq!(output.status.code(), Some(0), "{}", err(&output));
-    assert!(out(&output).ends_with("\nNo plan, whole or fractional, is cheaper than this one.\n"));
+    assert!(out(&output).ends_with("\nThis whole plan, which costs -12, is the cheapest one: no plan, whole or fractional, is cheaper.\n"));
     std::fs::remove_file(&file).expect("removed");
 }
 
@@ -103,6 +103,19 @@ fn exit_statuses() {
         (&["--version"], "", 0),
         (&["night"], "", 0),
         (&["night", "--bogus"], "", 2),
+        (&["night", "--short"], "", 2),
+        (&["night", "-"], N2, 2),
+        (
+            &["night", "-", "--groups", "x"],
+            &N2.replace("x0", "x.0").replace("x1", "x.1"),
+            0,
+        ),
+        (
+            &["audit", "-"],
+            &N2.replace("-3 air 1", "-1 air 3")
+                .replace("UP BND x1 2", "UP BND x1 2\n FR BND x0"),
+            4,
+        ),
     ] {
         let output = start(words, input);
         assert_eq!(output.status.code(), Some(status), "{words:?}");
@@ -151,6 +164,28 @@ fn closed_output() {
     assert_eq!(err(&output), "");
 }
 
+/// What can't be written isn't taken for written.
+#[test]
+fn a_full_disk() {
+    for words in [&["night"][..], &["--help"], &["solve", "-"]] {
+        let mut child = program()
+            .args(words)
+            .stdin(Stdio::piped())
+            .stdout(std::fs::File::create("/dev/full").expect("it can be opened"))
+            .stderr(Stdio::piped())
+            .spawn()
+            .expect("the program starts");
+        let _ = child.stdin.take().expect("piped").write_all(N2.as_bytes());
+        let output = child.wait_with_output().expect("the program ends");
+        assert_eq!(output.status.code(), Some(2), "{words:?}");
+        let said = err(&output);
+        assert!(
+            said.starts_with("tevalumi: standard output: can't be written: "),
+            "{said}"
+        );
+    }
+}
+
 #[test]
 fn the_night() {
     let text = out(&start(&["night"], ""));
@@ -159,9 +194,9 @@ fn the_night() {
         "{text}"
     );
     assert!(text.contains("25 of 25 alarms are sent whole, 0 lose milliseconds."));
-    assert!(text.contains("\n  No plan, whole or fractional, is cheaper than this one.\n"));
+    assert!(text.contains("\n  This whole plan, which costs -562070, is the cheapest one: no plan, whole or\n  fractional, is cheaper.\n"));
     assert!(text.contains(
-        "\n  No plan, whole or fractional, is cheaper than this one by more than 4.0.\n"
+        "\n  This whole plan, which costs -2334246, is the cheapest one to within 4.0: no\n  plan, whole or fractional, is cheaper by more than 4.0.\n"
     ));
     assert!(text.contains("dearer than the one on the left\nby 86819."));
     assert!(text.lines().all(|line| line.chars().count() <= 80));

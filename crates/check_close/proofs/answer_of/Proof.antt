@@ -6,7 +6,7 @@ use Rattle.rules.specs.Parts.{stateOf}
 use Rattle.state.specs.Packed.{packed}
 use Rattle.check_final.specs.Lent.{checkedOf}
 use Rattle.check_final.proofs.Front.{checked-values}
-use Rattle.check_close.proofs.Laws.{values-whole, ends-finished, ends-spent, ends-unbounded, ends-full, ends-broken}
+use Rattle.check_close.proofs.Laws.{values-whole, ends-finished, ends-spent, ends-unbounded, ends-broken, ends-singular}
 use Rattle.check_close.proofs.answer_of.Statement.{statement}
 use Rattle.check_close.proofs.answer_of.Tie as tie
 
@@ -98,14 +98,18 @@ returns-3 c =
 returns-4 : tie.Need-returns-4
 returns-4 c =
     let s : tie.Start = search in
-    let v : tie.After-values-into = search in
-    (ends-full (P s) (S s) (c .enum-told4 .given .1), values-whole (s .args .n) (s .args .kept .now) (S s .ws) _ (v .values-into .ensures))
+    let v : tie.After-values-into = search in (
+      ends-broken (P s) (S s) (c .enum-told4 .given .1),
+      values-whole (s .args .n) (s .args .kept .now) (S s .ws) _ (v .values-into .ensures),
+    )
 
 returns-5 : tie.Need-returns-5
 returns-5 c =
     let s : tie.Start = search in
-    let v : tie.After-values-into = search in
-    (ends-broken (P s) (S s) (c .enum-told5 .given .1), values-whole (s .args .n) (s .args .kept .now) (S s .ws) _ (v .values-into .ensures))
+    let v : tie.After-values-into = search in (
+      ends-singular (P s) (S s) (c .enum-told5 .given .1),
+      values-whole (s .args .n) (s .args .kept .now) (S s .ws) _ (v .values-into .ensures),
+    )
 
 pub answer-of-spec : {M : Type 1} → statement M
 answer-of-spec =

@@ -43,8 +43,15 @@ N1 c = putMid keptAt maxRows (start (told (valued c)) .args .numbers .now) (c .w
 n1 : (c : tie.After-write-kept) → length (N1 c) ≡ length (start (told (valued c)) .args .numbers .now)
 n1 c = same-len-mid keptAt maxRows (start (told (valued c)) .args .numbers .now) (c .write-kept .last .1 .0) (c .write-kept .kept .1 .0)
 
-n2 : (c : tie.After-write-counts) → length (putMid countsAt countCells (N1 (listed c)) (c .write-counts .last .1 .1 .1 .1 .1 .0)) ≡ length (start (told (valued (listed c))) .args .numbers .now)
-n2 c = same-len-mid countsAt countCells (N1 (listed c)) (c .write-counts .last .1 .1 .1 .1 .1 .0) (c .write-counts .kept .1 .1 .1 .1 .1 .0) ∙ n1 (listed c)
+abbrev cells : tie.After-write-counts → List ℕ
+cells c = c .write-counts .last .1 .1 .1 .1 .1 .1 .1 .0
+
+n2 : (c : tie.After-write-counts)
+    → length (putMid countsAt countCells (N1 (listed c)) (cells c))
+    ≡ length (start (told (valued (listed c))) .args .numbers .now)
+n2 c =
+    same-len-mid countsAt countCells (N1 (listed c)) (cells c) (c .write-counts .kept .1 .1 .1 .1 .1 .1 .1 .0)
+    ∙ n1 (listed c)
 
 add-used : tie.Need-add-used
 add-used c = let s = (c .before .before .before .before .before .before .before .before .before .before .before .before) in omega (arith, s .pre .used)
@@ -119,14 +126,15 @@ returns c =
     let a = told v in
     let s = start a in
     let x = s .args in
-    closes-in (P s) (x .why) (x .at) (x .values .now) (x .numbers .now) (x .doubles .now) (s .pre) (k .write-kept .last .1 .0) (w .write-counts .last .1 .1 .1 .1 .1 .0)
+    λ F G. closes-in (P s) (x .why) (x .at) (x .values .now) (x .numbers .now) (x .doubles .now) (s .pre) F G
+    (k .write-kept .last .1 .0) (cells w)
     (a .answer-of .ensures .0)
     (b .number-of .ensures)
     (values-are (P s) (packed (x .numbers .now) (x .doubles .now)) _ (a .answer-of .ensures .1) (b .number-of .result) (x .values .now) (v .values-after .ensures))
     (k .write-kept .ensures)
     (k .write-kept .kept .1 .0)
     (w .write-counts .ensures)
-    (w .write-counts .kept .1 .1 .1 .1 .1 .0)
+    (w .write-counts .kept .1 .1 .1 .1 .1 .1 .1 .0)
 
 pub close-spec : {M : Type 1} → statement M
 close-spec =

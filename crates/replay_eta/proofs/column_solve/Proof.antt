@@ -10,8 +10,8 @@ use Rattle.replay_eta.proofs.column_solve.Tie as tie
 load-requires : tie.Need-load-requires
 load-requires c κs = let s = (c .before .before .before .before .before .before .before .before .before) in (good-blank, (s .pre .1, s .pre .2, s .pre .3))
 
-solve-requires : tie.Need-solve-requires
-solve-requires c κs =
+solve-etas-requires : tie.Need-solve-etas-requires
+solve-etas-requires c κs =
     let s = (c .before .before .before .before .before .before .before .before .before .before .before .before .before) in
     (subst (Good places) (sym (c .before .before .before .load .ensures)) (good-loaded (s .args .at .now) (s .args .xs .now) (s .args .listed) (s .pre .3) blank good-blank), s .pre .0)
 
@@ -22,4 +22,4 @@ returns : tie.Need-returns
 returns c = search needs
 
 pub column-solve-spec : {M : Type 1} → statement M
-column-solve-spec = tie.close (tie.spec load-requires solve-requires show-requires returns)
+column-solve-spec = tie.close (tie.spec load-requires solve-etas-requires show-requires returns)

@@ -10,8 +10,8 @@ use Rattle.replay_eta.proofs.row_solve.Tie as tie
 load-requires : tie.Need-load-requires
 load-requires c κs = let s = (c .before .before .before .before .before .before .before .before .before) in (good-blank, (s .pre .1, s .pre .2, s .pre .3))
 
-solve-transp-requires : tie.Need-solve-transp-requires
-solve-transp-requires c κs =
+solve-etas-transp-requires : tie.Need-solve-etas-transp-requires
+solve-etas-transp-requires c κs =
     let s = (c .before .before .before .before .before .before .before .before .before .before .before .before .before) in
     (subst (Good places) (sym (c .before .before .before .load .ensures)) (good-loaded (s .args .at .now) (s .args .xs .now) (s .args .listed) (s .pre .3) blank good-blank), s .pre .0)
 
@@ -22,4 +22,4 @@ returns : tie.Need-returns
 returns c = search needs
 
 pub row-solve-spec : {M : Type 1} → statement M
-row-solve-spec = tie.close (tie.spec load-requires solve-transp-requires show-requires returns)
+row-solve-spec = tie.close (tie.spec load-requires solve-etas-transp-requires show-requires returns)

@@ -1,17 +1,21 @@
 -- `run::optimize` meets its contract. The loop's invariant: `Going`. Assumes nothing.
 use mathlib.Core.Path.{_∙_}
-use Prim.Native.Nat.{_-_}
+use mathlib.Core.List.{List}
+use Prim.Native.Nat.{ℕ, _-_}
 use native.Mathlib.Omega.{arith}
+use lib.Ieee.{Float}
 use borrow.Author.Needs.{needs}
 use Rattle.run.proofs.Laws.{Going, numbers-kept, doubles-kept, going-start, going-chooses, going-steps, going-finished, going-column, going-spent, going-stops, going-counts, going-on}
 use Rattle.run.proofs.optimize.Statement.{statement}
 use Rattle.run.proofs.optimize.Tie as tie
 
 abbrev Inv-loop : tie.InvT-loop
-Inv-loop numbers₀ doubles₀ n lowers uppers starts cols coeffs ops kept cstarts crows ccoeffs budget tally₀ numbers doubles tally = Going n lowers uppers starts cols coeffs ops kept budget numbers₀ doubles₀ tally₀ numbers doubles tally
+Inv-loop N₀ D₀ F₀ G₀ n lowers uppers starts cols coeffs ops kept cstarts crows ccoeffs budget t₀ N D F G t =
+    Going n lowers uppers starts cols coeffs ops kept budget N₀ D₀ F₀ G₀ t₀ N D F G t
 
 abbrev μ-loop : tie.MeasureT-loop
-μ-loop numbers₀ doubles₀ n lowers uppers starts cols coeffs ops kept cstarts crows ccoeffs budget tally₀ numbers doubles tally = budget - tally .steps
+μ-loop N₀ D₀ F₀ G₀ n lowers uppers starts cols coeffs ops kept cstarts crows ccoeffs budget t₀ N D F G t =
+    budget - t .steps
 
 -- the entry, the loop's head, the choice, and the step
 abbrev entry : tie.At-loop Inv-loop μ-loop → tie.Start Inv-loop μ-loop
@@ -22,6 +26,19 @@ enters t = search
 
 abbrev head : tie.After-choice Inv-loop μ-loop → tie.At-loop Inv-loop μ-loop
 head x = search
+
+-- the arrays as the step leaves them
+abbrev M : tie.After-step Inv-loop μ-loop → List ℕ
+M t = t .step .last .0
+
+abbrev E : tie.After-step Inv-loop μ-loop → List Float
+E t = t .step .last .1 .0
+
+abbrev H : tie.After-step Inv-loop μ-loop → List ℕ
+H t = t .step .last .1 .1 .0
+
+abbrev J : tie.After-step Inv-loop μ-loop → List Float
+J t = t .step .last .1 .1 .1 .0
 
 loop-holds : tie.Need-loop-holds Inv-loop μ-loop
 loop-holds c = let s : tie.Start Inv-loop μ-loop = search in going-start (s .pre .0)
@@ -41,29 +58,43 @@ same-length c = let h : tie.At-loop Inv-loop μ-loop = search in numbers-kept (h
 same-length-2 : tie.Need-same-length-2 Inv-loop μ-loop
 same-length-2 c = let h : tie.At-loop Inv-loop μ-loop = search in doubles-kept (h .loop .inv)
 
+same-length-3 : tie.Need-same-length-3 Inv-loop μ-loop
+same-length-3 c = let h : tie.At-loop Inv-loop μ-loop = search in h .loop .inv .factor-numbers-kept
+
+same-length-4 : tie.Need-same-length-4 Inv-loop μ-loop
+same-length-4 c = let h : tie.At-loop Inv-loop μ-loop = search in h .loop .inv .factor-coeffs-kept
+
 returns : tie.Need-returns Inv-loop μ-loop
 returns c =
     let a : tie.After-choose Inv-loop μ-loop = search in
     let h : tie.At-loop Inv-loop μ-loop = search in
     going-finished (h .loop .inv) _ (a .choose .ensures) (c .enum-told .given .1)
 
-same-length-3 : tie.Need-same-length-3 Inv-loop μ-loop
-same-length-3 c = let h : tie.At-loop Inv-loop μ-loop = search in numbers-kept (h .loop .inv)
+same-length-5 : tie.Need-same-length-5 Inv-loop μ-loop
+same-length-5 c = let h : tie.At-loop Inv-loop μ-loop = search in numbers-kept (h .loop .inv)
 
-same-length-4 : tie.Need-same-length-4 Inv-loop μ-loop
-same-length-4 c = let h : tie.At-loop Inv-loop μ-loop = search in doubles-kept (h .loop .inv)
+same-length-6 : tie.Need-same-length-6 Inv-loop μ-loop
+same-length-6 c = let h : tie.At-loop Inv-loop μ-loop = search in doubles-kept (h .loop .inv)
+
+same-length-7 : tie.Need-same-length-7 Inv-loop μ-loop
+same-length-7 c = let h : tie.At-loop Inv-loop μ-loop = search in h .loop .inv .factor-numbers-kept
+
+same-length-8 : tie.Need-same-length-8 Inv-loop μ-loop
+same-length-8 c = let h : tie.At-loop Inv-loop μ-loop = search in h .loop .inv .factor-coeffs-kept
 
 returns-2 : tie.Need-returns-2 Inv-loop μ-loop
 returns-2 c =
     let x : tie.After-choice Inv-loop μ-loop = search in
-    going-spent (head x .loop .inv) _ (x .before .before .choose .ensures) _ (x .choice .given .1) (omega (arith, c .if1 .taken))
+    going-spent (head x .loop .inv) _ (x .before .before .choose .ensures) _ (x .choice .given .1)
+    (omega (arith, c .if1 .taken))
 
 step-requires : tie.Need-step-requires Inv-loop μ-loop
 step-requires c κs =
     let b : tie.Else1 Inv-loop μ-loop = search in
     let x : tie.After-choice Inv-loop μ-loop = search in
     let s = entry (head x) in
-    (going-steps (head x .loop .inv) (omega (arith, b .if1 .left)) (s .pre .1 .2), (s .pre .1 .0, s .pre .1 .1, going-column (head x .loop .inv) _ (x .before .before .choose .ensures) _ (x .choice .given .1)))
+    let col = going-column (head x .loop .inv) _ (x .before .before .choose .ensures) _ (x .choice .given .1) in
+    (going-steps (head x .loop .inv) (omega (arith, b .if1 .left)) (s .pre .1 .2), (s .pre .1 .0, s .pre .1 .1, col))
 
 enum-known-went : tie.Need-enum-known-went Inv-loop μ-loop
 enum-known-went c = search needs
@@ -74,7 +105,12 @@ loop-less c =
     let t : tie.After-step Inv-loop μ-loop = search in
     let b : tie.Else1 Inv-loop μ-loop = search in
     let x = enters t in
-    omega (arith, b .if1 .left, going-counts (head x .loop .inv) _ (x .before .before .choose .ensures) _ (x .choice .given .1) (b .if1 .left) _ (t .step .last .0) (t .step .last .1 .0) (t .step .ensures) _ (w .went .given .1))
+    omega (
+      arith,
+      b .if1 .left,
+      going-counts (head x .loop .inv) _ (x .before .before .choose .ensures) _ (x .choice .given .1) (b .if1 .left) _
+          (M t) (E t) (H t) (J t) (t .step .ensures) _ (w .went .given .1),
+    )
 
 loop-again : tie.Need-loop-again Inv-loop μ-loop
 loop-again c =
@@ -82,16 +118,32 @@ loop-again c =
     let t : tie.After-step Inv-loop μ-loop = search in
     let b : tie.Else1 Inv-loop μ-loop = search in
     let x = enters t in
-    going-on (head x .loop .inv) _ (x .before .before .choose .ensures) _ (x .choice .given .1) (b .if1 .left) _ (t .step .last .0) (t .step .last .1 .0) (t .step .ensures) _ (w .went .given .1) (t .step .kept .0) (t .step .kept .1 .0)
+    going-on (head x .loop .inv) _ (x .before .before .choose .ensures) _ (x .choice .given .1) (b .if1 .left) _
+    (M t) (E t) (H t) (J t) (t .step .ensures) _ (w .went .given .1)
+    (t .step .kept .0) (t .step .kept .1 .0) (t .step .kept .1 .1 .0) (t .step .kept .1 .1 .1 .0)
 
 enum-known-went-2 : tie.Need-enum-known-went-2 Inv-loop μ-loop
 enum-known-went-2 c = search needs
 
-same-length-5 : tie.Need-same-length-5 Inv-loop μ-loop
-same-length-5 c = let t : tie.After-step Inv-loop μ-loop = search in t .step .kept .0 ∙ numbers-kept (head (enters t) .loop .inv)
+same-length-9 : tie.Need-same-length-9 Inv-loop μ-loop
+same-length-9 c =
+    let t : tie.After-step Inv-loop μ-loop = search in
+    t .step .kept .0 ∙ numbers-kept (head (enters t) .loop .inv)
 
-same-length-6 : tie.Need-same-length-6 Inv-loop μ-loop
-same-length-6 c = let t : tie.After-step Inv-loop μ-loop = search in t .step .kept .1 .0 ∙ doubles-kept (head (enters t) .loop .inv)
+same-length-10 : tie.Need-same-length-10 Inv-loop μ-loop
+same-length-10 c =
+    let t : tie.After-step Inv-loop μ-loop = search in
+    t .step .kept .1 .0 ∙ doubles-kept (head (enters t) .loop .inv)
+
+same-length-11 : tie.Need-same-length-11 Inv-loop μ-loop
+same-length-11 c =
+    let t : tie.After-step Inv-loop μ-loop = search in
+    t .step .kept .1 .1 .0 ∙ head (enters t) .loop .inv .factor-numbers-kept
+
+same-length-12 : tie.Need-same-length-12 Inv-loop μ-loop
+same-length-12 c =
+    let t : tie.After-step Inv-loop μ-loop = search in
+    t .step .kept .1 .1 .1 .0 ∙ head (enters t) .loop .inv .factor-coeffs-kept
 
 returns-3 : tie.Need-returns-3 Inv-loop μ-loop
 returns-3 c =
@@ -99,7 +151,8 @@ returns-3 c =
     let t : tie.After-step Inv-loop μ-loop = search in
     let b : tie.Else1 Inv-loop μ-loop = search in
     let x = enters t in
-    going-stops (head x .loop .inv) _ (x .before .before .choose .ensures) _ (x .choice .given .1) (b .if1 .left) _ (t .step .last .0) (t .step .last .1 .0) (t .step .ensures) _ (w .went2 .given .1)
+    going-stops (head x .loop .inv) _ (x .before .before .choose .ensures) _ (x .choice .given .1) (b .if1 .left) _
+    (M t) (E t) (H t) (J t) (t .step .ensures) _ (w .went2 .given .1)
 
 pub optimize-spec : {M : Type 1} → statement M
 optimize-spec =
@@ -113,15 +166,21 @@ optimize-spec =
     enum-told
     same-length
     same-length-2
-    returns
     same-length-3
     same-length-4
+    returns
+    same-length-5
+    same-length-6
+    same-length-7
+    same-length-8
     returns-2
     step-requires
     enum-known-went
     loop-less
     loop-again
     enum-known-went-2
-    same-length-5
-    same-length-6
+    same-length-9
+    same-length-10
+    same-length-11
+    same-length-12
     returns-3)

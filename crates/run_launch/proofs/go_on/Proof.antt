@@ -34,6 +34,14 @@ same-length-2 : tie.Need-same-length-2
 same-length-2 c = let r : tie.After-optimize = search in
     r .optimize .kept .1 .0
 
+same-length-3 : tie.Need-same-length-3
+same-length-3 c = let r : tie.After-optimize = search in
+    r .optimize .kept .1 .1 .0
+
+same-length-4 : tie.Need-same-length-4
+same-length-4 c = let r : tie.After-optimize = search in
+    r .optimize .kept .1 .1 .1 .0
+
 returns : tie.Need-returns
 returns c = let r : tie.After-optimize = search in
     r .optimize .ensures
@@ -49,4 +57,6 @@ go-on-spec =
     optimize-requires
     same-length
     same-length-2
+    same-length-3
+    same-length-4
     returns)

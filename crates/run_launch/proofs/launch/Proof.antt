@@ -1,11 +1,12 @@
 -- `run_launch::launch` meets its contract: the first state, then none or the run. Assumes nothing.
 use mathlib.Core.Path.{_≡_, sym, ap, _∙_}
+use mathlib.Core.Bool.{false}
 use mathlib.Core.List.{List}
 use Prim.Native.Nat.{ℕ}
 use lib.Ieee.{Float}
 use Rattle.rules.specs.Plan.{Problem, Workspace}
-use Rattle.rules.specs.Parts.{stateOf}
-use Rattle.state.specs.Packed.{packed, stateAt, Sized}
+use Rattle.rules.specs.Parts.{factoredOf, stateWith}
+use Rattle.state.specs.Packed.{packed, stateIn, Sized}
 use Rattle.state.specs.declared.Tally.{Tally}
 use Rattle.start.specs.Reckoned.{Numbers, numbers}
 use Rattle.start_values.proofs.Parts.{dual-part}
@@ -23,6 +24,13 @@ u s = let a = s .args in numbers (a .xs .now) (a .slacks .now) (a .norms .now) (
 abbrev w : tie.Start → Workspace
 w s = packed (s .args .numbers .now) (s .args .doubles .now)
 
+-- the factor's arrays, which are as they were
+abbrev F : tie.Start → List ℕ
+F s = s .args .factor-numbers .now
+
+abbrev G : tie.Start → List Float
+G s = s .args .factor-coeffs .now
+
 -- the way back
 abbrev start : tie.After-write-start → tie.Start
 start c = search
@@ -38,15 +46,19 @@ abbrev E : tie.After-write-start → List Float
 E c = c .write-start .last .1 .1 .1 .1 .1 .1 .1 .1 .1 .0
 
 abbrev at : tie.After-write-start → Tally
-at c = record { «eta_count» = 0; objective = start c .args .objective; steps = 0 }
+at c =
+    record { «eta_count» = 0; objective = start c .args .objective; steps = 0; factored = false; factorings = 0 }
 
 sized : (c : tie.After-write-start) → Sized (M c) (E c)
 sized c =
     let z = start c .pre .sized in
     record { numbers-long = c .write-start .kept .1 .1 .1 .1 .1 .1 .1 .1 .0 ∙ z .numbers-long; doubles-long = c .write-start .kept .1 .1 .1 .1 .1 .1 .1 .1 .1 .0 ∙ z .doubles-long }
 
-first : (c : tie.After-write-start) → stateAt (M c) (E c) (at c) ≡ firstState (P (start c)) (u (start c)) (w (start c))
-first c = ap (λ (x : Workspace). stateOf x 0 (start c .args .objective) 0) (c .write-start .ensures)
+first : (c : tie.After-write-start)
+    → let s = start c in stateIn (M c) (E c) (F s) (G s) (at c) ≡ firstState (P s) (u s) (w s) (F s) (G s)
+first c =
+    let s = start c in
+    ap (λ (x : Workspace). stateWith x 0 (s .args .objective) 0 (factoredOf false 0 (F s) (G s))) (c .write-start .ensures)
 
 write-start-requires : tie.Need-write-start-requires
 write-start-requires c κs =
@@ -75,7 +87,8 @@ returns c =
     let x = wrote d in
     let s = start x in
     let at-then1 : tie.Then1 = search in
-    ends-at-once (P s) (s .args .budget) (u s) (w s) (M x) (E x) (at x) (first x) (dual-part (P s .plan) ∙ sym (d .dual-feasible .ensures) ∙ at-then1 .if1 .taken)
+    ends-at-once (P s) (s .args .budget) (u s) (w s) (M x) (E x) (F s) (G s) (at x) (first x)
+    (dual-part (P s .plan) ∙ sym (d .dual-feasible .ensures) ∙ at-then1 .if1 .taken)
 
 go-on-requires : tie.Need-go-on-requires
 go-on-requires c κs =
@@ -95,6 +108,16 @@ same-length-4 c =
     let at-write-start : tie.After-write-start = search in
     at-go-on .go-on .kept .1 .0 ∙ at-write-start .write-start .kept .1 .1 .1 .1 .1 .1 .1 .1 .1 .0
 
+same-length-5 : tie.Need-same-length-5
+same-length-5 c =
+    let at-go-on : tie.After-go-on = search in
+    at-go-on .go-on .kept .1 .1 .0
+
+same-length-6 : tie.Need-same-length-6
+same-length-6 c =
+    let at-go-on : tie.After-go-on = search in
+    at-go-on .go-on .kept .1 .1 .1 .0
+
 returns-2 : tie.Need-returns-2
 returns-2 c =
     let g : tie.After-go-on = search in
@@ -102,7 +125,8 @@ returns-2 c =
     let x = wrote d in
     let s = start x in
     let at-else1 : tie.Else1 = search in
-    ends-after (P s) (s .args .budget) (u s) (w s) (M x) (E x) (at x) (first x) (dual-part (P s .plan) ∙ sym (d .dual-feasible .ensures) ∙ at-else1 .if1 .left) _ (g .go-on .ensures)
+    ends-after (P s) (s .args .budget) (u s) (w s) (M x) (E x) (F s) (G s) (at x) (first x)
+    (dual-part (P s .plan) ∙ sym (d .dual-feasible .ensures) ∙ at-else1 .if1 .left) _ (g .go-on .ensures)
 
 pub launch-spec : {M : Type 1} → statement M
 launch-spec =
@@ -116,4 +140,6 @@ launch-spec =
     go-on-requires
     same-length-3
     same-length-4
+    same-length-5
+    same-length-6
     returns-2)

@@ -15,7 +15,9 @@ returns : tie.Need-returns
 returns c =
     let s : tie.Start = search in
     let a = s .args in
-    sym (long-is (planOf (a .columns) (a .rows) 0 0 f0 [] [] [] [] [] [] [] []) (a .values .now) (a .numbers .now) (a .doubles .now) (s .pre .0) (s .pre .1))
+    sym
+    (long-is (planOf (a .columns) (a .rows) 0 0 f0 [] [] [] [] [] [] [] []) (a .values .now) (a .numbers .now)
+    (a .doubles .now) (a .factor-numbers .now) (a .factor-coeffs .now) (s .pre .0) (s .pre .1))
 
 pub memory-long-spec : {M : Type 1} → statement M
 memory-long-spec = tie.close (tie.spec add-result returns)

@@ -16,7 +16,9 @@ abbrev p : tie.Start → Plan
 p s = let a = s .args in planOf (a .columns) (a .rows) (a .entries) (a .budget) (a .tolerance) (a .costs .now) (a .lowers .now) (a .uppers .now) (a .starts .now) (a .cols .now) (a .coeffs .now) (a .ops .now) (a .rhs .now)
 
 abbrev m : tie.Start → Memory
-m s = let a = s .args in memoryIn (a .values .now) (a .numbers .now) (a .doubles .now)
+m s =
+    let a = s .args in
+    memoryIn (a .values .now) (a .numbers .now) (a .doubles .now) (a .factor-numbers .now) (a .factor-coeffs .now)
 
 -- what has passed on the way
 abbrev at : tie.Else1 → tie.Start

@@ -24,7 +24,7 @@ abbrev p : tie.Start → Plan
 p s = planOf (s .args .columns) (s .args .rows) 0 0 f0 [] [] [] (s .args .starts .now) [] [] [] []
 
 abbrev m : tie.Start → Memory
-m s = memoryIn [] (s .args .numbers .now) []
+m s = memoryIn [] (s .args .numbers .now) [] [] []
 
 -- what the rows' test says
 abbrev start : tie.After-rows-fine → tie.Start

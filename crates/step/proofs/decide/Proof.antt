@@ -10,11 +10,12 @@ use Rattle.sparse.specs.Scattered.{Sv, sv}
 use Rattle.rules.specs.Plan.{Problem, State}
 use Rattle.rules.specs.Parts.{rowed}
 use Rattle.rules.specs.Basis.{colCoeffs}
+use Rattle.rules.specs.Pivot.{flipFinite, newObjective}
 use Rattle.rules.specs.declared.Ratio.the-variants.{Pivot, Unbounded, NotFinite}
 use Rattle.basis_columns.specs.Columns.{ByColumns}
 use Rattle.basis_columns.proofs.Callers.{columns-part}
-use Rattle.state.specs.Packed.{stateAt}
-use Rattle.step_exchange.specs.Left.{stepped}
+use Rattle.state.specs.Packed.{stateIn}
+use Rattle.step_refactor.specs.Left.{stepped}
 use Rattle.step.specs.Found.{byRatio, byPivot}
 use Rattle.step.proofs.Laws.{column-asks, listed-asks, ratio-asks, column-listing, found-bad, found-ratio, found-flip, found-unsound}
 use Rattle.step.proofs.decide.Statement.{statement}
@@ -22,7 +23,7 @@ use Rattle.step.proofs.decide.Tie as tie
 
 -- the state at entry, and the problem with the rows that the columns are of
 abbrev S : tie.Start → State
-S s = stateAt (s .args .numbers .now) (s .args .doubles .now) (s .args .at)
+S s = stateIn (s .args .numbers .now) (s .args .doubles .now) (s .args .factor-numbers .now) (s .args .factor-coeffs .now) (s .args .at)
 
 abbrev Q : tie.Start → List ℕ → List ℕ → List Float → Problem
 Q s starts cols coeffs = stepped (s .args .n) (s .args .lowers .now) (s .args .uppers .now) starts cols coeffs (s .args .ops .now) (s .args .kept .now)
@@ -39,10 +40,10 @@ vec b = let l = b .column .last in sv (l .0) (l .1 .0) (l .1 .1 .0) (b .column .
 
 is-column : (b : tie.After-column) (starts cols : List ℕ) (coeffs : List Float) → Turned (entry b) starts cols coeffs
     → vec b ≡ colCoeffs (Q (entry b) starts cols coeffs) (S (entry b)) (S (entry b) .ws .nbVars # entry b .args .e .col)
-is-column b starts cols coeffs m = b .column .ensures (Q (entry b) starts cols coeffs) refl (columns-part (Q (entry b) starts cols coeffs) m)
+is-column b starts cols coeffs m = b .column .ensures (Q (entry b) starts cols coeffs) refl refl (columns-part (Q (entry b) starts cols coeffs) m)
 
-column-asked : (b : tie.After-column) → vec b ≡ colCoeffs (Q (entry b) (entry b .pre .1 .starts) (entry b .pre .1 .cols) (entry b .pre .1 .coeffs)) (S (entry b)) (S (entry b) .ws .nbVars # entry b .args .e .col)
-column-asked b = let a = entry b .pre .1 in is-column b (a .starts) (a .cols) (a .coeffs) (a .by-columns)
+column-asked : (b : tie.After-column) → vec b ≡ colCoeffs (Q (entry b) (entry b .pre .1 .0 .starts) (entry b .pre .1 .0 .cols) (entry b .pre .1 .0 .coeffs)) (S (entry b)) (S (entry b) .ws .nbVars # entry b .args .e .col)
+column-asked b = let a = entry b .pre .1 .0 in is-column b (a .starts) (a .cols) (a .coeffs) (a .by-columns)
 
 -- and from place to place
 abbrev column-at : tie.Else1 → tie.After-column
@@ -61,10 +62,10 @@ abbrev exchange-at : tie.After-pivot2 → tie.After-found
 exchange-at p = search
 
 column-requires : tie.Need-column-requires
-column-requires c κs = let s : tie.Start = search in let a = s .pre .1 in let q = column-asks (a .ready) (s .args .e) (a .inside) (a .by-columns) (a .starts-long) in ((a .ready .sized, s .pre .0, q .0), (q .1, q .2))
+column-requires c κs = let s : tie.Start = search in let a = s .pre .1 .0 in let q = column-asks (a .ready) (s .args .e) (s .pre .1 .1) (a .by-columns) (a .starts-long) in ((a .ready .sized, s .pre .0, q .0), (q .1, q .2))
 
 listed-finite-requires : tie.Need-listed-finite-requires
-listed-finite-requires c κs = let b : tie.After-column = search in let a = entry b .pre .1 in listed-asks (a .ready) (entry b .args .e) (a .inside) (column-asked b)
+listed-finite-requires c κs = let b : tie.After-column = search in let a = entry b .pre .1 .0 in listed-asks (a .ready) (entry b .args .e) (entry b .pre .1 .1) (column-asked b)
 
 returns : tie.Need-returns
 returns c st co cf m =
@@ -73,7 +74,7 @@ returns c st co cf m =
     found-bad (Q s st co cf) (S s) (s .args .e) (vec b) (is-column b st co cf m) (sym (c .before .listed-finite .ensures _) ∙ not-true _ (c .if1 .taken))
 
 ratio-requires : tie.Need-ratio-requires
-ratio-requires c κs = let b : tie.After-column = search in let a = entry b .pre .1 in (a .ready .sized, ratio-asks (a .ready) (entry b .args .e) (a .inside) (column-asked b))
+ratio-requires c κs = let b : tie.After-column = search in let a = entry b .pre .1 .0 in (a .ready .sized, ratio-asks (a .ready) (entry b .args .e) (entry b .pre .1 .1) (column-asked b))
 
 enum-told : tie.Need-enum-told
 enum-told c = search needs
@@ -108,9 +109,10 @@ enum-known-pivot : tie.Need-enum-known-pivot
 enum-known-pivot c = search needs
 
 flip-finite-requires : tie.Need-flip-finite-requires
-flip-finite-requires c κs = let b : tie.After-column = search in let a = entry b .pre .1 in (a .ready .sized .doubles-long, column-listing (a .ready) (entry b .args .e) (a .inside) (column-asked b))
+flip-finite-requires c κs = let b : tie.After-column = search in let a = entry b .pre .1 .0 in (a .ready .sized .doubles-long, column-listing (a .ready) (entry b .args .e) (entry b .pre .1 .1) (column-asked b))
 
 returns-4 : tie.Need-returns-4
+unfolding flipFinite newObjective
 returns-4 c st co cf m =
     let p : tie.After-pivot = search in
     let f = flip-at p in
@@ -121,6 +123,7 @@ returns-4 c st co cf m =
     found-unsound (Q s st co cf) (S s) (s .args .e) (vec b) (is-column b st co cf m) (sym (x .before .listed-finite .ensures _) ∙ not-false _ (x .if1 .left)) _ _ (sym (f .found .given .1 ∙ ap Pivot (p .pivot .given .1)) ∙ r .ratio .ensures _) (sym (c .before .flip-finite .ensures (Q s st co cf) (s .args .numbers .now) _) ∙ not-true _ (c .if2 .taken))
 
 returns-5 : tie.Need-returns-5
+unfolding flipFinite newObjective
 returns-5 c st co cf m =
     let p : tie.After-pivot = search in
     let f = flip-at p in

@@ -1,14 +1,15 @@
 -- `step_exchange::decide` meets its contract: each call's answer is the definition's, and each test. Assumes nothing.
-use borrow.Author.Needs.{needs}
-use mathlib.Core.Path.{sym, _∙_}
+use mathlib.Core.Path.{_≡_}
 use mathlib.Core.Bool.{Bool}
 use mathlib.Core.List.{List, []}
 use borrow.Author.Tests.{not-true, not-false}
 use Rattle.sparse.specs.Scattered.{Sv, sv}
 use Rattle.rules.specs.Plan.{Problem, State}
 use Rattle.rules.specs.Parts.{rowed}
-use Rattle.state.specs.Packed.{stateAt}
-use Rattle.step_exchange.proofs.Laws.{row-asks, listed-asks, helper-asks, column-listing, row-listing, helper-listing, decided-full, decided-bad, decided-goes}
+use Rattle.rules.specs.Basis.{rowCoeffsOf, touchAt}
+use Rattle.rules.specs.Pivot.{numbersFinite, newObjective}
+use Rattle.state.specs.Packed.{stateIn}
+use Rattle.step_exchange.proofs.Laws.{row-asks, listed-asks, helper-asks, column-listing, touch-asks, touched-is, row-listing, helper-listing, decided-bad, decided-goes}
 use Rattle.step_exchange.proofs.decide.Statement.{statement}
 use Rattle.step_exchange.proofs.decide.Tie as tie
 
@@ -17,64 +18,69 @@ abbrev R : tie.Start → Problem
 R s = rowed (s .args .n) (s .args .starts .now) (s .args .cols .now) (s .args .coeffs .now) (s .args .kept .now)
 
 abbrev S : tie.Start → State
-S s = stateAt (s .args .numbers .now) (s .args .doubles .now) (s .args .at)
+S s = stateIn (s .args .numbers .now) (s .args .doubles .now) (s .args .factor-numbers .now) (s .args .factor-coeffs .now) (s .args .at)
 
 abbrev col : tie.Start → List Bool → Sv
 col s m = sv (s .args .values .now) m (s .args .list .now) (s .args .count)
 
--- the way back from the row
-abbrev room : tie.After-row → tie.Else1
-room a = search
+-- the way back from the touched row
+abbrev row-at : tie.After-touch → tie.After-row
+row-at a = search
 
-abbrev entry : tie.Else1 → tie.Start
-entry f = search
+abbrev entry : tie.After-row → tie.Start
+entry a = search
 
-eta-fits-requires : tie.Need-eta-fits-requires
-eta-fits-requires c κs = search needs
+-- the row as it was solved, and with the entering place touched
+abbrev touchedRow : tie.After-touch → Sv
+touchedRow t = sv (row-at t .row .last .0) (t .touch .last .0) (t .touch .last .1 .0) (t .touch .result)
 
-returns : tie.Need-returns
-returns c m =
-    let s : tie.Start = search in
-    decided-full (R s) (S s) (s .args .e) (col s m) (s .args .x) (sym (c .before .eta-fits .ensures (s .args .doubles .now)) ∙ not-true _ (c .if1 .taken))
+row-is : (t : tie.After-touch) → touchedRow t ≡ touchAt (rowCoeffsOf (R (entry (row-at t))) (S (entry (row-at t))) (entry (row-at t) .args .x .row)) (entry (row-at t) .args .e .col)
+row-is t = touched-is _ _ _ _ _ (row-at t .row .ensures) (t .touch .ensures)
 
 row-requires : tie.Need-row-requires
 row-requires c κs = let s : tie.Start = search in let rd = s .pre .1 .0 .ready in let q = row-asks rd (s .args .x .row) (s .pre .1 .3) in ((rd .sized, s .pre .0 .0, q .0), q .1)
+
+touch-requires : tie.Need-touch-requires
+touch-requires c κs =
+    let a : tie.After-row = search in
+    let s = entry a in
+    touch-asks (s .pre .1 .0 .ready) (s .args .x .row) (s .args .e .col) (s .pre .1 .4) _ (a .row .ensures)
 
 helper-requires : tie.Need-helper-requires
 helper-requires c κs = let s : tie.Start = search in let rd = s .pre .1 .0 .ready in let l = listed-asks rd (s .pre .1 .1) in ((rd .sized, s .pre .0 .1, l .0, l .1), helper-asks rd (s .pre .1 .1))
 
 numbers-finite-requires : tie.Need-numbers-finite-requires
-numbers-finite-requires c κs = let s : tie.Start = search in
-    let a : tie.After-row = search in
+numbers-finite-requires c κs =
+    let t : tie.After-touch = search in
     let b : tie.After-helper = search in
+    let s = entry (row-at t) in
     let rd = s .pre .1 .0 .ready in
     let w = helper-listing rd (s .pre .1 .1) [] _ (b .helper .ensures []) in
-    ((rd .sized .doubles-long, column-listing rd (s .pre .1 .1), row-listing rd (s .args .x .row) _ (a .row .ensures)), (s .pre .1 .2, w .0, w .1))
+    ((rd .sized .doubles-long, column-listing rd (s .pre .1 .1), row-listing rd (s .args .x .row) (s .args .e .col) (s .pre .1 .4) _ (row-is t)), (s .pre .1 .2, w .0, w .1))
+
+returns : tie.Need-returns
+unfolding numbersFinite newObjective
+returns c m =
+    let b : tie.After-helper = search in
+    let t : tie.After-touch = search in
+    let s = entry (row-at t) in
+    decided-bad (R s) (S s) (s .args .e) (col s m) (s .args .x) _ _ (row-is t) (b .helper .ensures m) _ (c .before .numbers-finite .ensures (R s) (s .args .numbers .now) m _ _) (not-true _ (c .if1 .taken))
 
 returns-2 : tie.Need-returns-2
+unfolding numbersFinite newObjective
 returns-2 c m =
     let b : tie.After-helper = search in
-    let a : tie.After-row = search in
-    let f = room a in
-    let s = entry f in
-    decided-bad (R s) (S s) (s .args .e) (col s m) (s .args .x) (sym (f .before .eta-fits .ensures (s .args .doubles .now)) ∙ not-false _ (f .if1 .left)) _ _ (a .row .ensures) (b .helper .ensures m) _ (c .before .numbers-finite .ensures (R s) (s .args .numbers .now) m _ _) (not-true _ (c .if2 .taken))
-
-returns-3 : tie.Need-returns-3
-returns-3 c m =
-    let b : tie.After-helper = search in
-    let a : tie.After-row = search in
-    let f = room a in
-    let s = entry f in
-    decided-goes (R s) (S s) (s .args .e) (col s m) (s .args .x) (sym (f .before .eta-fits .ensures (s .args .doubles .now)) ∙ not-false _ (f .if1 .left)) _ _ (a .row .ensures) (b .helper .ensures m) _ (c .before .numbers-finite .ensures (R s) (s .args .numbers .now) m _ _) (not-false _ (c .if2 .left))
+    let t : tie.After-touch = search in
+    let s = entry (row-at t) in
+    decided-goes (R s) (S s) (s .args .e) (col s m) (s .args .x) _ _ (row-is t) (b .helper .ensures m) _ (c .before .numbers-finite .ensures (R s) (s .args .numbers .now) m _ _) (not-false _ (c .if1 .left))
 
 pub decide-spec : {M : Type 1} → statement M
 decide-spec =
     tie.close
     (tie.spec
-    eta-fits-requires
-    returns
     row-requires
+    touch-requires
     helper-requires
     numbers-finite-requires
-    returns-2
-    returns-3)
+    returns
+    returns-2)

@@ -1,12 +1,15 @@
--- `step_reads::column` meets its contract: the solve reads the eta store alone, and the variable stands in its section. Assumes nothing.
+-- `step_reads::column` meets its contract: the solve reads the eta store and the factor alone, and the variable stands
+-- in its section. Assumes nothing.
 use borrow.Author.Needs.{needs}
 use mathlib.Core.Path.{_≡_, ap, sym, subst, _∙_}
 use Prim.Native.Nat.{ℕ, _+_}
 use Rattle.doubles.specs.Limits.{maxColumns}
 use Rattle.doubles.specs.Lists.{_#_}
 use Rattle.rules.specs.Basis.{colCoeffs}
-use Rattle.basis_solves.specs.Lent.{ColumnLent}
-use Rattle.state.specs.Packed.{packed, stateAt, nbVarsAt}
+use Rattle.rules.specs.Invariant.{Vector}
+use Rattle.basis_columns.specs.Loading.{columnOn, ColumnLent}
+use Rattle.basis_solves.proofs.Laws.{untimed}
+use Rattle.state.specs.Packed.{packed, stateIn, nbVarsAt}
 use Rattle.state.proofs.Sections.{section-at}
 use Rattle.step_reads.proofs.column.Statement.{statement}
 use Rattle.step_reads.proofs.column.Tie as tie
@@ -61,14 +64,26 @@ part-col-coeffs-end-4 : tie.Need-part-col-coeffs-end-4
 part-col-coeffs-end-4 c = search needs
 
 col-coeffs-requires : tie.Need-col-coeffs-requires
-col-coeffs-requires c κs = let s : tie.Start = search in ((s .pre .0 .1, subst (ColumnLent _ _ _ _) (var-is s) (s .pre .1 .0)), s .pre .1 .1)
+col-coeffs-requires c κs =
+    let s : tie.Start = search in
+    let a = s .args in
+    let p = s .pre .1 in (
+      (s .pre .0 .1, subst (ColumnLent _ _ _ _) (var-is s) (p .0 .0)),
+      (
+        subst (λ (v : ℕ). Vector (a .m) (columnOn (a .cstarts .now) (a .crows .now) (a .ccoeffs .now) (a .n) v))
+            (var-is s) (p .0 .1),
+        p .1 .0,
+        untimed (p .1 .1),
+      ),
+    )
 
 returns : tie.Need-returns
 unfolding colCoeffs
-returns c P q b =
+returns c P q r b =
     let s : tie.Start = search in
     let a = s .args in
-    c .col-coeffs .ensures P q b ∙ ap (colCoeffs P (stateAt (a .numbers .now) (a .doubles .now) (a .at))) (sym (var-is s))
+    let t = stateIn (a .numbers .now) (a .doubles .now) (a .factor-numbers .now) (a .factor-coeffs .now) (a .at) in
+    c .col-coeffs .ensures P (a .at .factorings) q r b ∙ ap (colCoeffs P t) (sym (var-is s))
 
 pub column-spec : {M : Type 1} → statement M
 column-spec =

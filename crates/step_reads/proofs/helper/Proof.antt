@@ -1,6 +1,8 @@
--- `step_reads::helper` meets its contract: the solve reads the maps and the eta store alone. Assumes nothing.
+-- `step_reads::helper` meets its contract: the solve reads the maps, the eta store and the factor alone. Assumes
+-- nothing.
 use borrow.Author.Needs.{needs}
 use Rattle.rules.specs.Basis.{helperOf}
+use Rattle.basis_solves.proofs.Laws.{row-untimed}
 use Rattle.step_reads.proofs.helper.Statement.{statement}
 use Rattle.step_reads.proofs.helper.Tie as tie
 
@@ -50,11 +52,13 @@ part-helper-end-5 : tie.Need-part-helper-end-5
 part-helper-end-5 c = search needs
 
 helper-requires : tie.Need-helper-requires
-helper-requires c κs = search needs
+helper-requires c κs =
+    let s : tie.Start = search in
+    ((s .pre .0 .1, s .pre .0 .2, s .pre .0 .3), row-untimed (s .pre .1))
 
 returns : tie.Need-returns
 unfolding helperOf
-returns c m = c .helper .ensures m
+returns c m = let s : tie.Start = search in c .helper .ensures (s .args .at .factorings) m
 
 pub helper-spec : {M : Type 1} → statement M
 helper-spec =

@@ -1,6 +1,7 @@
--- `step_reads::row` meets its contract: the solve reads the maps and the eta store alone. Assumes nothing.
+-- `step_reads::row` meets its contract: the solve reads the maps, the eta store and the factor alone. Assumes nothing.
 use borrow.Author.Needs.{needs}
 use Rattle.rules.specs.Basis.{rowCoeffsOf}
+use Rattle.basis_solves.proofs.Laws.{row-untimed}
 use Rattle.step_reads.proofs.row.Statement.{statement}
 use Rattle.step_reads.proofs.row.Tie as tie
 
@@ -50,11 +51,13 @@ part-row-coeffs-end-5 : tie.Need-part-row-coeffs-end-5
 part-row-coeffs-end-5 c = search needs
 
 row-coeffs-requires : tie.Need-row-coeffs-requires
-row-coeffs-requires c κs = search needs
+row-coeffs-requires c κs =
+    let s : tie.Start = search in
+    ((s .pre .0 .1, s .pre .0 .2), row-untimed (s .pre .1))
 
 returns : tie.Need-returns
 unfolding rowCoeffsOf
-returns c = c .row-coeffs .ensures
+returns c = let s : tie.Start = search in c .row-coeffs .ensures (s .args .at .factorings)
 
 pub row-spec : {M : Type 1} → statement M
 row-spec =

@@ -15,8 +15,9 @@ use Rattle.whole_multipliers.proofs.first_multiplier.Tie as tie
 
 abbrev Inv-loop : tie.InvT-loop
 Inv-loop columns rows starts ops numbers doubles i₀ i =
-    (i ≤ rows) × Seek (λ k. not (isWhole (multiplierAt (rowsOf columns rows starts ops) (memoryIn [] numbers doubles) k))) rows
-    (firstMultiplier (rowsOf columns rows starts ops) (memoryIn [] numbers doubles)) i
+    (i ≤ rows)
+    × Seek (λ k. not (isWhole (multiplierAt (rowsOf columns rows starts ops) (memoryIn [] numbers doubles [] []) k))) rows
+    (firstMultiplier (rowsOf columns rows starts ops) (memoryIn [] numbers doubles [] [])) i
 
 abbrev μ-loop : tie.MeasureT-loop
 μ-loop columns rows starts ops numbers doubles i₀ i = rows - i
@@ -36,7 +37,7 @@ module _ (w : tie.After-is-whole Inv-loop μ-loop) where
   mine =
       let a = start .args in
       multiplierAt (rowsOf (a .columns) (a .rows) (a .starts .now) (a .ops .now))
-      (memoryIn [] (a .numbers .now) (a .doubles .now)) (head .before .loop .i)
+      (memoryIn [] (a .numbers .now) (a .doubles .now) [] []) (head .before .loop .i)
 
   tested : isWhole mine ≡ w .is-whole .result
   tested = sym (w .is-whole .ensures ∙ ap isWhole (asked .row-multiplier .ensures))

@@ -16,7 +16,7 @@ use Rattle.whole_multipliers.proofs.write_multipliers.Tie as tie
 abbrev Inv-loop : tie.InvT-loop
 Inv-loop columns rows starts ops numbers doubles mults₀ i₀ mults i =
     (i ≤ rows) × Filled
-    (λ k. numberOf (multiplierAt (rowsOf columns rows starts ops) (memoryIn [] numbers doubles) k)) mults₀ i mults
+    (λ k. numberOf (multiplierAt (rowsOf columns rows starts ops) (memoryIn [] numbers doubles [] []) k)) mults₀ i mults
 
 abbrev μ-loop : tie.MeasureT-loop
 μ-loop columns rows starts ops numbers doubles mults₀ i₀ mults i = rows - i

@@ -26,7 +26,9 @@ fine : (e : tie.Else1) → lentFine (l (start e)) ≡ true
 fine e = sym (e .before .lent-fine .ensures) ∙ turned itself .0 (e .if1 .left)
 
 maps : (s : tie.Start)
-    → mapsFine (l s .plan) (memory (l s)) ≡ mapsFine (rowsOf (s .args .columns) (s .args .rows) (s .args .starts .now) []) (memoryIn [] (s .args .numbers .now) [])
+    → mapsFine (l s .plan) (memory (l s))
+    ≡ mapsFine (rowsOf (s .args .columns) (s .args .rows) (s .args .starts .now) [])
+    (memoryIn [] (s .args .numbers .now) [] [] [])
 maps s =
     same-maps (s .args .columns) (s .args .rows) (s .args .starts .now) (s .args .ops .now) (s .args .values .now)
     (s .args .numbers .now) (s .args .doubles .now)

@@ -1,5 +1,6 @@
 -- `whole_propose::first_not_whole`: amounts, then multipliers. Assumes nothing.
 use mathlib.Core.Path.{sym, _∙_}
+use mathlib.Core.List.{[]}
 use Rattle.rules.specs.Plan.{Plan, Memory}
 use Rattle.state.specs.Memory.{memoryIn}
 use Rattle.whole_multipliers.specs.Rows.{rowsOf}
@@ -12,7 +13,7 @@ abbrev p : tie.Start → Plan
 p s = rowsOf (s .args .columns) (s .args .rows) (s .args .starts .now) (s .args .ops .now)
 
 abbrev m : tie.Start → Memory
-m s = memoryIn (s .args .values .now) (s .args .numbers .now) (s .args .doubles .now)
+m s = memoryIn (s .args .values .now) (s .args .numbers .now) (s .args .doubles .now) [] []
 
 first-amount-requires : tie.Need-first-amount-requires
 first-amount-requires c κs = search needs

@@ -1,0 +1,214 @@
+//! The pages of `--html`: each is read tag by tag, and drawn by Chromium where that is there.
+
+use std::fs;
+use std::path::Path;
+use std::process::Command;
+
+use crate::kept;
+
+const TUNNELS: &[u8] = include_bytes!("../../plans/two-tunnels.mps");
+const LITTLE: &[u8] = include_bytes!("../../plans/too-little-air.mps");
+const NIGHT: &[u8] = include_bytes!("../../plans/night-as-priced.mps");
+
+/// The page that a command writes.
+fn page(words: &[&str], text: &[u8]) -> String {
+    let words = [words, &["--html", "page.html"]].concat();
+    let (told, files) = kept::run(&words, text);
+    assert_ne!(told.exit, 2, "{}", told.err);
+    let (name, bytes) = files.into_iter().next().expect("a page");
+    assert_eq!(name, "page.html");
+    String::from_utf8(bytes).expect("text")
+}
+
+/// Every page that the tests have, with a piece of what its first heading says.
+fn pages() -> Vec<(String, &'static str)> {
+    vec![
+        (
+            page(&["solve", "p.mps"], TUNNELS),
+            "Optimal: no column would make the plan cheaper",
+        ),
+        (
+            page(&["solve", "p.mps", "--budget", "0"], TUNNELS),
+            "Spent: 0 steps were taken",
+        ),
+        (
+            page(&["audit", "p.mps"], TUNNELS),
+            "This whole plan, which costs -26, is the cheapest one to within 1.0",
+        ),
+        (
+            page(&["audit", "p.mps"], LITTLE),
+            "No plan exists, whole or fractional.",
+        ),
+        (
+            page(&["why", "p.mps"], LITTLE),
+            "No plan exists, whole or fractional.",
+        ),
+        (
+            page(&["why", "p.mps"], TUNNELS),
+            "Some amounts, whole or fractional, keep every row",
+        ),
+        (
+            page(&["night", "p.mps"], NIGHT),
+            "alarm: 3 of 25 whole, 22 cut",
+        ),
+        (
+            page(&["night"], b""),
+            "25 of 25 alarms are sent whole, 0 lose milliseconds.",
+        ),
+    ]
+}
+
+/// The text between the tags, where every tag that is opened is closed in turn. A page has no script,
+/// and nothing in it names another file.
+fn text_of(page: &str) -> String {
+    let mut open: Vec<&str> = Vec::new();
+    let mut text = String::new();
+    let body = page.strip_prefix("<!DOCTYPE html>\n").expect("a page");
+    let mut rest = body;
+    while let Some((before, after)) = rest.split_once('<') {
+        text += before;
+        let (tag, behind) = after.split_once('>').expect("a tag ends");
+        assert!(!tag.contains('<'), "{tag}");
+        let name = tag
+            .trim_start_matches('/')
+            .split([' ', '/'])
+            .next()
+            .unwrap_or("");
+        assert!(TAGS.contains(&name), "{name}");
+        for part in tag.split(' ').skip(1).filter(|part| part.contains("=\"")) {
+            let attribute = part.split('=').next().unwrap_or("");
+            assert!(ATTRIBUTES.contains(&attribute), "{attribute}");
+        }
+        if tag.starts_with('/') {
+            assert_eq!(open.pop(), Some(name));
+        } else if !tag.ends_with('/') {
+            open.push(name);
+        }
+        rest = behind;
+    }
+    assert!(open.is_empty(), "{open:?}");
+    text + rest
+}
+
+/// None that runs or loads anything.
+const TAGS: [&str; 20] = [
+    "html", "head", "meta", "title", "style", "body", "h1", "h2", "p", "div", "table", "tr", "th",
+    "td", "svg", "rect", "text", "dl", "dt", "dd",
+];
+const ATTRIBUTES: [&str; 11] = [
+    "lang", "charset", "name", "content", "class", "viewBox", "role", "x", "y", "width", "height",
+];
+
+fn heading(page: &str) -> &str {
+    let (_, rest) = page.split_once("<h1>").expect("a heading");
+    rest.split_once("</h1>").expect("its end").0
+}
+
+#[test]
+fn whole_pages_with_the_sentence_first() {
+    for (page, wanted) in pages() {
+        let body = page.split_once("<body>\n").expect("a body").1;
+        assert!(
+            body.starts_with("<h1>") && heading(&page).contains(wanted),
+            "{page}"
+        );
+        text_of(&page);
+        assert!(page
+            .contains("<meta name=\"viewport\" content=\"width=device-width, initial-scale=1\"/>"));
+        for outside in ["http", "url(", "@import", "javascript", "onload"] {
+            assert!(!page.contains(outside), "{outside}");
+        }
+    }
+}
+
+/// The numbers of the page are those of the text.
+#[test]
+fn the_sheet_on_the_page() {
+    let audit = page(&["audit", "p.mps"], TUNNELS);
+    for cell in [
+        "<td>air</td>",
+        "<td class=\"right\">-3.0</td>",
+        "<td>north</td>",
+        "<dt>gap</dt><dd>1.0</dd>",
+    ] {
+        assert!(audit.contains(cell), "{cell} in {audit}");
+    }
+    assert!(
+        audit.contains("The gap is 1.0, 3.846 % of the cost."),
+        "{audit}"
+    );
+    let night = page(&["night", "p.mps"], NIGHT);
+    // A bar for each alarm and each soil report, cut ones in their own colour.
+    assert_eq!(night.matches("class=\"back\"").count(), 25 + 40);
+    assert!(night.matches("class=\"cut\"").count() >= 22);
+}
+
+#[test]
+fn names_are_harmless() {
+    let text = String::from_utf8_lossy(TUNNELS).replace("north", "<script>&\"\u{1b}");
+    let page = page(&["solve", "p.mps"], text.as_bytes());
+    assert!(!page.contains("<script>") && !page.contains('\u{1b}'));
+    assert!(text_of(&page).contains("&lt;script&gt;&amp;&quot;"));
+}
+
+/// A page that can't be written is said so.
+#[test]
+fn a_full_disk() {
+    let (told, files) = kept::run(&["audit", "p.mps", "--html", "full"], TUNNELS);
+    assert_eq!((told.exit, told.out.as_str()), (2, ""));
+    assert!(
+        told.err.starts_with("tevalumi: full: can't be written: "),
+        "{}",
+        told.err
+    );
+    assert!(files.is_empty());
+}
+
+/// Where Debian's Chromium is there it draws each page at a phone's width, says of no error, and has the
+/// sentence in its tree.
+#[test]
+fn in_chromium() {
+    let program = "/usr/bin/chromium";
+    if !Path::new(program).exists() {
+        println!("chromium isn't there: no page is drawn");
+        return;
+    }
+    let folder = std::env::temp_dir().join(format!("tevalumi-pages-{}", std::process::id()));
+    fs::create_dir_all(&folder).expect("a folder");
+    let file = folder.join("page.html");
+    let shot = folder.join("shot.png");
+    let mut drawn = 0;
+    for (page, wanted) in pages() {
+        fs::write(&file, &page).expect("written");
+        let output = |words: &[String]| {
+            let mut command = Command::new(program);
+            let words = [
+                "--headless",
+                "--no-sandbox",
+                "--disable-gpu",
+                "--window-size=390,844",
+            ]
+            .map(str::to_string)
+            .iter()
+            .chain(words)
+            .cloned()
+            .collect::<Vec<_>>();
+            let output = command.args(words).arg(&file).env("HOME", &folder).output();
+            output.expect("it runs")
+        };
+        let tree = output(&[
+            "--enable-logging=stderr".to_string(),
+            "--dump-dom".to_string(),
+        ]);
+        let text = String::from_utf8_lossy(&tree.stdout);
+        assert!(text.contains(wanted), "{text}");
+        assert!(!String::from_utf8_lossy(&tree.stderr).contains("CONSOLE"));
+        let _ = fs::remove_file(&shot);
+        output(&[format!("--screenshot={}", shot.display())]);
+        let picture = fs::read(&shot).expect("a picture");
+        assert!(picture.starts_with(b"\x89PNG") && picture.len() > 2_000);
+        drawn += 1;
+    }
+    println!("chromium: {drawn} pages");
+    fs::remove_dir_all(&folder).expect("removed");
+}

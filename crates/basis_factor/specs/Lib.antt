@@ -1,0 +1,2 @@
+-- The basis that is factored.
+pub mod Basis

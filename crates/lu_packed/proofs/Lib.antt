@@ -1,0 +1,2 @@
+-- What is written one behind another.
+pub mod Laws

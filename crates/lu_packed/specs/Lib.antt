@@ -1,0 +1,2 @@
+-- Writing a factor into two lent lists.
+pub mod Written

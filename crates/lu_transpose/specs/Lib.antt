@@ -1,0 +1,3 @@
+-- What a transpose asks, and what it means.
+pub mod Read
+pub mod Means
