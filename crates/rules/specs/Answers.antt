@@ -3,7 +3,7 @@ use Prim.Native.Nat.{ℕ}
 use lib.Ieee.{Float}
 use Rattle.doubles.specs.Num.{f0}
 use Rattle.rules.specs.declared.Answer.{Answer}
-use Rattle.rules.specs.declared.Answer.the-variants.{Optimal, BadSize, BadNumber, BadEntry, CrossedBounds, FalseEmptyRow, StartNotFinite, SlackOutside, Unbounded, Spent, NotFinite, Singular, ValueRejected, RowRejected}
+use Rattle.rules.specs.declared.Answer.the-variants.{Optimal, BadSize, BadNumber, BadEntry, CrossedBounds, FalseEmptyRow, StartNotFinite, SlackOutside, Unbounded, Spent, NotFinite, Singular, Infeasible, ValueRejected, RowRejected}
 
 -- the place that an answer names
 pub data Place : Type 0 where
@@ -39,6 +39,7 @@ asRow (Unbounded o k) = row 20 o k f0 nowhere
 asRow (Spent o k) = row 21 o k f0 nowhere
 asRow (NotFinite o k) = row 23 o k f0 nowhere
 asRow (Singular o k) = row 25 o k f0 nowhere
+asRow (Infeasible o k r) = row 26 o k f0 (keptRowAt r)
 asRow (ValueRejected o k v x) = row 24 o k x (valueAt v)
 asRow (RowRejected o k r x) = row 24 o k x (keptRowAt r)
 

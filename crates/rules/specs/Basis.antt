@@ -79,8 +79,16 @@ addRow P varStates r y s =
 unfoldable pub combine : Problem → List ℕ → Sv → Sv
 combine P varStates y = run (λ k s. addRow P varStates (listed y k) (listedVal y k) s) (y .pat .count) blank
 
+-- inv_basis_row_coeffs: the row solve's result, and the row
+abbrev pub invRow : Problem → State → ℕ → Sv
+invRow P s r = rowSolve P s (putAt blank r f1)
+
 unfoldable pub rowCoeffsOf : Problem → State → ℕ → Sv
-rowCoeffsOf P s r = combine P (s .ws .varStates) (rowSolve P s (putAt blank r f1))
+rowCoeffsOf P s r = combine P (s .ws .varStates) (invRow P s r)
+
+-- 02, Ask 8: tau, the solve of the row solve's result "in its listed order"
+unfoldable pub tauOf : Problem → State → Sv → Sv
+tauOf P s y = solve (mOf P) (s .factor) (s .ws .etas) (s .etaCount) (relisted y)
 
 -- sq_norms_update_helper. "An untouched place of sq_norms_update_helper counts as 0.0"
 unfoldable pub helperOf : Problem → State → Sv → Sv

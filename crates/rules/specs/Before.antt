@@ -1,5 +1,5 @@
--- The step as it was before a basis was ever factored (01's, with room for the eta column), kept for one theorem: 02: "runs
--- that never fill the store give the same bits as before". Assumes nothing.
+-- The step as it is before a basis was ever factored (01's, with room for the eta column, and Ask 8's dual norms), kept for one
+-- theorem: 02: "runs that never fill the store give the same bits as before". Assumes nothing.
 use mathlib.Core.Path.{_≡_}
 use mathlib.Core.Bool.{_&&_}
 use Prim.Native.Nat.{ℕ, zero, suc}
@@ -11,7 +11,7 @@ use Rattle.rules.specs.Choose.{choose}
 use Rattle.rules.specs.Basis.{scattered, solveEtas, solveEtasTransp, combine}
 use Rattle.rules.specs.Ratio.{ratio}
 use Rattle.rules.specs.Pivot.{numbersFinite, etaFinite, exchanged}
-use Rattle.rules.specs.Step.{Outcome, moved, stopped, orStop, flip}
+use Rattle.rules.specs.Step.{Outcome, moved, stopped, orStop, flip, normsMoved}
 use Rattle.rules.specs.declared.Entering.{Entering}
 use Rattle.rules.specs.declared.Choice.the-variants.{Enters}
 use Rattle.rules.specs.declared.PivotInfo.{PivotInfo}
@@ -23,8 +23,14 @@ use Rattle.rules.specs.declared.Stop.the-variants.{Unbounded as Stop·Un
 abbrev pub columnBefore : Problem → State → ℕ → Sv
 columnBefore P s v = solveEtas (s .ws .etas) (s .etaCount) (scattered P v)
 
+abbrev pub invRowBefore : State → ℕ → Sv
+invRowBefore s r = solveEtasTransp (s .ws .etas) (s .etaCount) (putAt blank r f1)
+
 abbrev pub rowBefore : Problem → State → ℕ → Sv
-rowBefore P s r = combine P (s .ws .varStates) (solveEtasTransp (s .ws .etas) (s .etaCount) (putAt blank r f1))
+rowBefore P s r = combine P (s .ws .varStates) (invRowBefore s r)
+
+abbrev pub tauBefore : State → Sv → Sv
+tauBefore s y = solveEtas (s .ws .etas) (s .etaCount) (relisted y)
 
 abbrev pub helperBefore : Problem → State → Sv → Sv
 helperBefore P s c = combine P (s .ws .varStates) (solveEtasTransp (s .ws .etas) (s .etaCount) (relisted c))
@@ -35,9 +41,11 @@ pivotBefore P s e c (Flip value diff) = flip P s e c value diff
 pivotBefore P s e c (Exchange value diff row pivot leaving) =
     let r = rowBefore P s row in
     let h = helperBefore P s c in
-    orStop (listedFinite r && listedFinite h && numbersFinite P s e c r h value diff row pivot leaving) Stop·NotFinite
+    let y = invRowBefore s row in
+    normsMoved (s .ws) c row pivot y (tauBefore s y)
+    (orStop (listedFinite r && listedFinite h && numbersFinite P s e c r h value diff row pivot leaving) Stop·NotFinite
     (orStop (etaFinite c row pivot) Stop·NotFinite
-    (moved (Exchange value diff row pivot leaving) (exchanged P s e c r h value diff row pivot leaving)))
+    (moved (Exchange value diff row pivot leaving) (exchanged P s e c r h value diff row pivot leaving))))
 
 unfoldable pub stepBefore : Problem → State → Entering → Outcome
 stepBefore P s e =

@@ -15,22 +15,29 @@ use Rattle.lu_factor_rules.specs.Ends.{Wild as WildColumn, Flat, Some as SomeCo
 use Rattle.lu_factor_rules.specs.Packed.{factorNumbers, factorCoeffs}
 use Rattle.rules.specs.Plan.{Plan, Memory, Workspace, State, Problem, problemOf, nOf, mOf, rowCols, rowSum, slackMin, slackMax, varMin, varMax}
 use Rattle.rules.specs.Refusals.{zeroHolds}
-use Rattle.sparse.specs.Scattered.{Sv, listed, listedVal}
+use Rattle.sparse.specs.Scattered.{Sv, listed, listedVal, sqNorm}
 use Rattle.rules.specs.Start.{startVals, startSlack, startObjective, startNorm, dualFeasible}
 use Rattle.rules.specs.Choose.{choose}
-use Rattle.rules.specs.Basis.{colCoeffs, rowCoeffsOf, helperOf, touchAt, etaUsed, etaEntryAt, basisAfter}
+use Rattle.rules.specs.Basis.{colCoeffs, rowCoeffsOf, helperOf, invRow, tauOf, touchAt, etaUsed, etaEntryAt, basisAfter}
 use Rattle.rules.specs.Choices.{RatioGives}
-use Rattle.rules.specs.Pivot.{newObjective, movedVal, flipped, newVal, newPrice, newNorm, exchanged, refactored}
+use Rattle.rules.specs.DualRow.{chooseRow}
+use Rattle.rules.specs.DualChoices.{DualGives}
+use Rattle.rules.specs.Pivot.{stored, newObjective, movedVal, flipped, newVal, newPrice, newNorm, newDualNorm, exchanged, refactored}
+use Rattle.rules.specs.Step.{stateWithDualNorms}
 use Rattle.rules.specs.FinalCheck.{valuesOf, counted, placesOf}
 use Rattle.rules.specs.Answers.{Row as Told, row, Place, nowhere, entryAt, columnAt, rowAt, valueAt, keptRowAt, asRow}
 use Rattle.rules.specs.Solve.{Solved, endOf}
+use Rattle.rules.specs.Kinds.{Kind, dual, primal}
 use Rattle.rules.specs.declared.Entering.{Entering}
 use Rattle.rules.specs.declared.Choice.the-variants.{Enters, Nothing}
+use Rattle.rules.specs.declared.LeavingVar.{LeavingVar}
+use Rattle.rules.specs.declared.RowChoice.the-variants.{Leaves}
+use Rattle.rules.specs.declared.DualRatio.the-variants.{Exchange as Dual·Exchange, Nothing as Dual·Nothing, NotFinite as Dual·NotFinite}
 use Rattle.rules.specs.declared.PivotInfo.{PivotInfo}
 use Rattle.rules.specs.declared.PivotInfo.the-variants.{Flip, Exchange}
 use Rattle.rules.specs.declared.Ratio.the-variants.{Pivot, Unbounded as Ratio·Unbounded, NotFinite as Ratio·NotFinite}
 use Rattle.rules.specs.declared.Stop.{Stop}
-use Rattle.rules.specs.declared.Stop.the-variants.{Finished, Spent as Stop·Spent, Unbounded as Stop·Unbounded, NotFinite as Stop·NotFinite, Singular as Stop·Singular}
+use Rattle.rules.specs.declared.Stop.the-variants.{Finished, Spent as Stop·Spent, Unbounded as Stop·Unbounded, NotFinite as Stop·NotFinite, Singular as Stop·Singular, Infeasible as Stop·Infeasible}
 use Rattle.rules.specs.declared.Checked.{Checked}
 use Rattle.rules.specs.declared.Checked.the-variants.{Passed, Value, Row}
 
@@ -148,7 +155,8 @@ Gives6 P =
     ⊎ NotFinite (startObjective (P .plan) (startVals (P .plan)))
     ⊎ Some (nOf P) (λ j. NotFinite (startNorm P j))
 
--- ---- 7: "a slack starts outside its bounds, no tolerance": it isn't at least the lower, or isn't at most the upper
+-- ---- 7: "a slack starts outside its bounds, no tolerance": it isn't at least the lower, or isn't at most the upper. 02,
+-- Ask 8: "exactly when a slack is outside and the start isn't dual feasible"
 unfoldable pub Outside : Problem → ℕ → Type 0
 Outside P r =
     (le (slackMin (P .plan .ops # (P .kept # r))) (startSlack P (startVals (P .plan)) r) ≡ false)
@@ -163,7 +171,7 @@ Gives (suc (suc (suc zero))) p m = Some (p .rows) (BadRow p)
 Gives (suc (suc (suc (suc zero)))) p m = Some (p .columns) (Crossed p)
 Gives (suc (suc (suc (suc (suc zero))))) p m = Some (p .rows) (EmptyFalse p)
 Gives (suc (suc (suc (suc (suc (suc zero)))))) p m = Gives6 (problemOf p)
-Gives (suc (suc (suc (suc (suc (suc (suc zero))))))) p m = Some (mOf (problemOf p)) (Outside (problemOf p))
+Gives (suc (suc (suc (suc (suc (suc (suc zero))))))) p m = Some (mOf (problemOf p)) (Outside (problemOf p)) × (dualFeasible p ≡ false)
 Gives (suc (suc (suc (suc (suc (suc (suc (suc k)))))))) p m = ⊥
 
 -- no refusal below k is called for
@@ -263,7 +271,18 @@ module _ (P : Problem) (s : State) (e : Entering) (c : Sv) where
     abbrev exchangeRow : Sv
     exchangeRow = touchAt (rowCoeffsOf P s row) (e .col)
 
-    -- row and helper entries, as `exchange` of Step reads them, and every number that it stores but for those below
+    -- 02, Ask 8: "every exchange of either kind updates both kinds of norm, and 23 covers both"
+    abbrev exchangeTau : Sv
+    exchangeTau = tauOf P s (invRow P s row)
+
+    abbrev exchangeDualNorm : ℕ → Float
+    exchangeDualNorm = newDualNorm (s .ws) c row pivot (sqNorm (invRow P s row)) exchangeTau
+
+    unfoldable pub NormsBroken : Type 0
+    NormsBroken = EntryBroken exchangeTau ⊎ StoreBroken c exchangeDualNorm
+
+    -- row and helper entries, as `exchange` of Step reads them, and every number that it stores but for the dual norms and
+    -- those below
     unfoldable pub ExchangeBroken : Type 0
     ExchangeBroken =
         EntryBroken exchangeRow
@@ -282,6 +301,7 @@ module _ (P : Problem) (s : State) (e : Entering) (c : Sv) where
     unfoldable pub FactorBroken : (Partial → Sv → Type 0) → Type 0
     FactorBroken Such = Crowded s (c .pat .count) × SomeColumn (mOf P) (basisAfter P s (e .col) row) Such
 
+    -- the rest of the exchange
     unfoldable pub Exchanges : State → Type 0
     Exchanges t =
         ((¬ Crowded s (c .pat .count))
@@ -290,13 +310,19 @@ module _ (P : Problem) (s : State) (e : Entering) (c : Sv) where
         × ((f : Factor) × (factorize (mOf P) (basisAfter P s (e .col) row) ≡ factored f)
         × (t ≡ refactored P s e c exchangeRow (helperOf P s c) value diff row pivot leaving f)))
 
+    -- with the dual norms
+    unfoldable pub ExchangesBoth : State → Type 0
+    ExchangesBoth t =
+        (u : State) × Exchanges u × (t ≡ stateWithDualNorms (stored c exchangeDualNorm (s .ws .dualNorms)) u)
+
 module _ (P : Problem) (s : State) (e : Entering) (c : Sv) where
   -- not all of "row and helper entries and every number to be stored" are finite
   unfoldable pub StepBroken : PivotInfo → Type 0
   StepBroken (Flip value diff) = FlipBroken P s e c value diff
   StepBroken (Exchange value diff row pivot leaving) =
       let k = touchAt c row in
-      ExchangeBroken P s e k value diff row pivot leaving
+      NormsBroken P s e k value diff row pivot leaving
+      ⊎ ExchangeBroken P s e k value diff row pivot leaving
       ⊎ EtaBroken P s e k value diff row pivot leaving
       ⊎ FactorBroken P s e k value diff row pivot leaving (λ _. WildColumn)
 
@@ -305,12 +331,14 @@ module _ (P : Problem) (s : State) (e : Entering) (c : Sv) where
   StepSingular (Flip value diff) = ⊥
   StepSingular (Exchange value diff row pivot leaving) =
       let k = touchAt c row in
-      (¬ ExchangeBroken P s e k value diff row pivot leaving) × FactorBroken P s e k value diff row pivot leaving Flat
+      (¬ NormsBroken P s e k value diff row pivot leaving)
+      × (¬ ExchangeBroken P s e k value diff row pivot leaving)
+      × FactorBroken P s e k value diff row pivot leaving Flat
 
   -- what is stored
   unfoldable pub StoresTo : PivotInfo → State → Type 0
   StoresTo (Flip value diff) t = t ≡ flipped P s e c value diff
-  StoresTo (Exchange value diff row pivot leaving) t = Exchanges P s e (touchAt c row) value diff row pivot leaving t
+  StoresTo (Exchange value diff row pivot leaving) t = ExchangesBoth P s e (touchAt c row) value diff row pivot leaving t
 
   -- the ratio gives a step of which X holds
   abbrev pub Chosen : (PivotInfo → Type 0) → Type 0
@@ -323,6 +351,7 @@ module _ (P : Problem) (s : State) (e : Entering) (c : Sv) where
   StopsWith Stop·Unbounded = (¬ EntryBroken c) × RatioGives P (s .ws) e c Ratio·Unbounded
   StopsWith Stop·NotFinite = EntryBroken c ⊎ RatioGives P (s .ws) e c Ratio·NotFinite ⊎ Chosen StepBroken
   StopsWith Stop·Singular = (¬ EntryBroken c) × Chosen StepSingular
+  StopsWith (Stop·Infeasible r) = ⊥
 
   -- the step i is taken, to t: none of these stops it
   pub record MovesBy (i : PivotInfo) (t : State) : Type 0 where
@@ -341,7 +370,43 @@ Stops P s e w = StopsWith P s e (stepColumn P s e) w
 abbrev pub Moves : Problem → State → Entering → PivotInfo → State → Type 0
 Moves P s e i t = MovesBy P s e (stepColumn P s e) i t
 
--- ---- why a run ends, said of the state that was reached
+-- ---- a dual step, said of the state, the leaving row and the row's coefficients
+
+module _ (P : Problem) (s : State) (l : LeavingVar) where
+  abbrev pub dualRow : Sv
+  dualRow = rowCoeffsOf P s (l .row)
+
+  -- the exchange that a dual step makes
+  abbrev pub dualInfo : Float → Float → Float → PivotInfo
+  dualInfo value diff coeff = Exchange value diff (l .row) coeff (l .value)
+
+  -- the ratio on prices gives an exchange of which X holds
+  abbrev pub DualChosen : (Entering → PivotInfo → Type 0) → Type 0
+  DualChosen X =
+      (e : Entering) × ((value diff coeff : Float) × DualGives (s .ws) l dualRow (Dual·Exchange e value diff coeff)
+      × X e (dualInfo value diff coeff))
+
+  -- 23, 25 and 26, in their order: row; ratio on prices; 26; column solve; all new numbers; eta entries or factor
+  unfoldable pub DualStopsWith : Stop → Type 0
+  DualStopsWith Finished = ⊥
+  DualStopsWith Stop·Spent = ⊥
+  DualStopsWith Stop·Unbounded = ⊥
+  DualStopsWith Stop·NotFinite =
+      EntryBroken dualRow
+      ⊎ DualGives (s .ws) l dualRow Dual·NotFinite
+      ⊎ DualChosen (λ e i. EntryBroken (stepColumn P s e) ⊎ StepBroken P s e (stepColumn P s e) i)
+  DualStopsWith Stop·Singular =
+      (¬ EntryBroken dualRow)
+      × DualChosen (λ e i. (¬ EntryBroken (stepColumn P s e)) × StepSingular P s e (stepColumn P s e) i)
+  DualStopsWith (Stop·Infeasible r) = (¬ EntryBroken dualRow) × (r ≡ l .row) × DualGives (s .ws) l dualRow Dual·Nothing
+
+  -- the step is taken, told as i, to t: none of these stops it
+  pub record DualMoves (i : PivotInfo) (t : State) : Type 0 where
+    pub row : ¬ EntryBroken dualRow
+    pub chosen : DualChosen (λ e j. (¬ EntryBroken (stepColumn P s e)) × ((¬ StepBroken P s e (stepColumn P s e) j)
+        × ((i ≡ j) × StoresTo P s e (stepColumn P s e) j t)))
+
+-- ---- why a run ends, said of the state that was reached and the kind of step that it stood in
 abbrev pub reached : Plan → Memory → State
 reached p m = endOf (problemOf p) m .state
 
@@ -356,40 +421,48 @@ pub record Passes (p : Plan) (m : Memory) (r : Solved) : Type 0 where
   pub checked : Checks (problemOf p) (written p (r .memory)) (Passed (asRow (r .answer) .excess))
   pub sound : AllSound (problemOf p) (written p (r .memory))
 
--- a column enters, and the plan wasn't dual feasible at the start
-abbrev pub Goes : Problem → State → Entering → Type 0
-Goes P s e = (dualFeasible (P .plan) ≡ false) × (choose P (s .ws) ≡ Enters e)
-
--- a column enters, a step is left in the budget, and the step stops
+-- a column enters, a step is left in the budget, and the step stops; or a row leaves
 abbrev pub Halts : Problem → State → Stop → Type 0
-Halts P s w = (e : Entering) × Goes P s e × (s .steps < P .plan .budget) × Stops P s e w
+Halts P s w = (e : Entering) × (choose P (s .ws) ≡ Enters e) × (s .steps < P .plan .budget) × Stops P s e w
 
-unfoldable pub Ends : Problem → State → Stop → Type 0
--- "If dual feasible, Optimal is reached at once with 0 steps"; else "entering column (none: final check)"
-Ends P s Finished =
-    ((dualFeasible (P .plan) ≡ true) × (s .steps ≡ 0))
-    ⊎ ((dualFeasible (P .plan) ≡ false) × (choose P (s .ws) ≡ Nothing))
--- "budget spent and a column would enter"
-Ends P s Stop·Spent = (e : Entering) × Goes P s e × (s .steps ≡ P .plan .budget)
-Ends P s Stop·Unbounded = Halts P s Stop·Unbounded
-Ends P s Stop·NotFinite = Halts P s Stop·NotFinite
-Ends P s Stop·Singular = Halts P s Stop·Singular
+abbrev pub DualHalts : Problem → State → Stop → Type 0
+DualHalts P s w = (l : LeavingVar) × (chooseRow P (s .ws) ≡ Leaves l) × (s .steps < P .plan .budget) × DualStopsWith P s l w
 
--- ---- the table's lines for 0, 20, 21 and 23 to 25. "Answers 0 and 20 to 24 carry the objective and step count of that state";
+-- where no row leaves the dual steps turn into primal ones, so that a run ends among its dual steps by a stop alone
+unfoldable pub Ends : Problem → Kind → State → Stop → Type 0
+-- "entering column (none: final check)"
+Ends P dual s Finished = ⊥
+Ends P primal s Finished = choose P (s .ws) ≡ Nothing
+-- "budget spent and a column would enter", or a row would leave
+Ends P dual s Stop·Spent = (l : LeavingVar) × (chooseRow P (s .ws) ≡ Leaves l) × (s .steps ≡ P .plan .budget)
+Ends P primal s Stop·Spent = (e : Entering) × (choose P (s .ws) ≡ Enters e) × (s .steps ≡ P .plan .budget)
+Ends P dual s Stop·Unbounded = ⊥
+Ends P primal s Stop·Unbounded = Halts P s Stop·Unbounded
+Ends P dual s Stop·NotFinite = DualHalts P s Stop·NotFinite
+Ends P primal s Stop·NotFinite = Halts P s Stop·NotFinite
+Ends P dual s Stop·Singular = DualHalts P s Stop·Singular
+Ends P primal s Stop·Singular = Halts P s Stop·Singular
+Ends P dual s (Stop·Infeasible r) = DualHalts P s (Stop·Infeasible r)
+Ends P primal s (Stop·Infeasible r) = ⊥
+
+-- ---- the table's lines for 0, 20, 21 and 23 to 26. "Answers 0 and 20 to 24 carry the objective and step count of that state";
 -- 02: "Every caller and answer 24 carries the excess"
-pub data Line (P : Problem) (s : State) : Told → Type 0 where
+pub data Line (P : Problem) (k : Kind) (s : State) : Told → Type 0 where
   -- "Status 0 is Optimal"
-  optimal : (x : Float) → Ends P s Finished → Checks P (valuesOf P (s .ws)) (Passed x) → Line P s (row 0 (s .objective) (s .steps) x nowhere)
+  optimal : (x : Float) → Ends P k s Finished → Checks P (valuesOf P (s .ws)) (Passed x)
+      → Line P k s (row 0 (s .objective) (s .steps) x nowhere)
   -- "Unbounded"
-  unbounded : Ends P s Stop·Unbounded → Line P s (row 20 (s .objective) (s .steps) f0 nowhere)
+  unbounded : Ends P k s Stop·Unbounded → Line P k s (row 20 (s .objective) (s .steps) f0 nowhere)
   -- "budget spent and a column would enter"
-  spent : Ends P s Stop·Spent → Line P s (row 21 (s .objective) (s .steps) f0 nowhere)
+  spent : Ends P k s Stop·Spent → Line P k s (row 21 (s .objective) (s .steps) f0 nowhere)
   -- "a named number of the step isn't finite"
-  not-finite : Ends P s Stop·NotFinite → Line P s (row 23 (s .objective) (s .steps) f0 nowhere)
+  not-finite : Ends P k s Stop·NotFinite → Line P k s (row 23 (s .objective) (s .steps) f0 nowhere)
   -- 02: "no pivot of at least EPS gives the new status 25"
-  singular : Ends P s Stop·Singular → Line P s (row 25 (s .objective) (s .steps) f0 nowhere)
+  singular : Ends P k s Stop·Singular → Line P k s (row 25 (s .objective) (s .steps) f0 nowhere)
+  -- 02: "no entering column exists for the leaving row"
+  infeasible : (r : ℕ) → Ends P k s (Stop·Infeasible r) → Line P k s (row 26 (s .objective) (s .steps) f0 (keptRowAt r))
   -- "the final check rejects", with the largest excess and its place
-  value-rejected : (v : ℕ) (x : Float) → Ends P s Finished → Checks P (valuesOf P (s .ws)) (Value v x)
-      → Line P s (row 24 (s .objective) (s .steps) x (valueAt v))
-  row-rejected : (r : ℕ) (x : Float) → Ends P s Finished → Checks P (valuesOf P (s .ws)) (Row r x)
-      → Line P s (row 24 (s .objective) (s .steps) x (keptRowAt r))
+  value-rejected : (v : ℕ) (x : Float) → Ends P k s Finished → Checks P (valuesOf P (s .ws)) (Value v x)
+      → Line P k s (row 24 (s .objective) (s .steps) x (valueAt v))
+  row-rejected : (r : ℕ) (x : Float) → Ends P k s Finished → Checks P (valuesOf P (s .ws)) (Row r x)
+      → Line P k s (row 24 (s .objective) (s .steps) x (keptRowAt r))

@@ -66,6 +66,7 @@ pub record MemoryFits (p : Plan) (m : Memory) : Type 0 where
   pub nbVarVals-long : p .columns ≤ length (m .ws .nbVarVals)
   pub prices-long : p .columns ≤ length (m .ws .prices)
   pub norms-long : p .columns ≤ length (m .ws .norms)
+  pub dualNorms-long : p .rows ≤ length (m .ws .dualNorms)
   pub flags-long : p .columns ≤ length (m .ws .flags)
   pub varStates-long : p .columns + p .rows ≤ length (m .ws .varStates)
   pub leaving-long : etaColumns ≤ length (m .ws .etas .leaving)
@@ -85,6 +86,7 @@ pub record Lengths (P : Problem) (w : Workspace) : Type 0 where
   pub nbVarVals-long : nOf P ≤ length (w .nbVarVals)
   pub prices-long : nOf P ≤ length (w .prices)
   pub norms-long : nOf P ≤ length (w .norms)
+  pub dualNorms-long : mOf P ≤ length (w .dualNorms)
   pub flags-long : nOf P ≤ length (w .flags)
   pub varStates-long : nOf P + mOf P ≤ length (w .varStates)
   pub leaving-long : etaColumns ≤ length (w .etas .leaving)
@@ -152,6 +154,7 @@ pub record Numbers (P : Problem) (s : State) : Type 0 where
   pub nbVal : (c : ℕ) → c < nOf P → finite (s .ws .nbVarVals ! c) ≡ true
   pub price : (c : ℕ) → c < nOf P → finite (s .ws .prices ! c) ≡ true
   pub norm : (c : ℕ) → c < nOf P → finite (s .ws .norms ! c) ≡ true
+  pub dualNorm : (r : ℕ) → r < mOf P → finite (s .ws .dualNorms ! r) ≡ true
   pub eta : (i : ℕ) → i < etaUsed s → finite (s .ws .etas .coeffs ! i) ≡ true
   pub factor : FactorNumbers (mOf P) (s .factor)
 
@@ -190,6 +193,7 @@ pub record Tails (P : Problem) (m : Memory) (s : State) : Type 0 where
   pub nbVarVals-tail : Past (nOf P) (s .ws .nbVarVals) (m .ws .nbVarVals)
   pub prices-tail : Past (nOf P) (s .ws .prices) (m .ws .prices)
   pub norms-tail : Past (nOf P) (s .ws .norms) (m .ws .norms)
+  pub dualNorms-tail : Past (mOf P) (s .ws .dualNorms) (m .ws .dualNorms)
   pub flags-tail : Past (nOf P) (s .ws .flags) (m .ws .flags)
   pub varStates-tail : Past (nOf P + mOf P) (s .ws .varStates) (m .ws .varStates)
   pub leaving-tail : Past (columnsWritten s) (s .ws .etas .leaving) (m .ws .etas .leaving)

@@ -7,10 +7,14 @@ pub mod Choose
 pub mod Basis
 pub mod Ratio
 pub mod Choices
+pub mod DualRow
+pub mod DualRatio
+pub mod DualChoices
 pub mod Pivot
 pub mod Step
 pub mod FinalCheck
 pub mod Answers
+pub mod Kinds
 pub mod Solve
 pub mod Conditions
 pub mod Invariant

@@ -34,8 +34,8 @@ etasOf leaving starts rows coeffs = record { leaving = leaving; starts = starts;
 abbrev pub noEtas : Etas
 noEtas = etasOf [] [] [] []
 
-abbrev pub workspaceOf : List ℕ → List Float → List ℕ → List Float → List Float → List Float → List ℕ → List ℕ → Etas → Workspace
-workspaceOf basicVars basicVarVals nbVars nbVarVals prices norms flags places etas =
+abbrev pub workspaceOf : List ℕ → List Float → List ℕ → List Float → List Float → List Float → List Float → List ℕ → List ℕ → Etas → Workspace
+workspaceOf basicVars basicVarVals nbVars nbVarVals prices norms dualNorms flags places etas =
     record {
       basicVars = basicVars;
       basicVarVals = basicVarVals;
@@ -43,6 +43,7 @@ workspaceOf basicVars basicVarVals nbVars nbVarVals prices norms flags places et
       nbVarVals = nbVarVals;
       prices = prices;
       norms = norms;
+      dualNorms = dualNorms;
       flags = flags;
       varStates = places;
       etas = etas;

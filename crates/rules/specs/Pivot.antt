@@ -54,6 +54,7 @@ module _ (P : Problem) (s : State) (e : Entering) (c : Sv) (value diff : Float) 
           nbVarVals = set (w .nbVarVals) (e .col) value;
           prices = w .prices;
           norms = w .norms;
+          dualNorms = w .dualNorms;
           flags = set (w .flags) (e .col) (flagsAt P (w .nbVars # e .col) value);
           varStates = w .varStates;
           etas = w .etas;
@@ -84,6 +85,17 @@ newNorm w e c pivot row helper j =
       | false ↦ w .norms ! j ⊕ (neg f2 ⊗ r ⊗ helper .vals ! j ⊘ pivot ⊕ sq ⊗ r ⊗ r ⊘ pivotSq)
     ]
 
+-- 02, Ask 8: update_dual_sq_norms. A dual norm moves by ((-2.0 * c) * tau / pivot + (sq * c) * c / pivot_sq), where sq is the
+-- sum of squares of the row solve's result; "an untouched tau_r counting as 0.0"
+unfoldable pub newDualNorm : Workspace → Sv → ℕ → Float → Float → Sv → ℕ → Float
+newDualNorm w c row pivot sq tau r =
+    let pivotSq = pivot ⊗ pivot in
+    let a = c .vals ! r in
+    elim (eqb r row) [
+      | true ↦ sq ⊘ pivotSq
+      | false ↦ w .dualNorms ! r ⊕ (neg f2 ⊗ a ⊗ tau .vals ! r ⊘ pivot ⊕ sq ⊗ a ⊗ a ⊘ pivotSq)
+    ]
+
 unfoldable pub etaFinite : Sv → ℕ → Float → Bool
 etaFinite c row pivot = all (c .pat .count) (λ k. finite (etaEntryAt c row pivot k))
 
@@ -98,7 +110,8 @@ module _ (P : Problem) (s : State) (e : Entering) (c rowSv helper : Sv) (value d
       && storesFinite rowSv (newPrice w e pivot rowSv)
       && storesFinite rowSv (newNorm w e c pivot rowSv helper)
 
-  -- the two maps: the entering variable is basic in the row, the leaving one stands at the entering place
+  -- the two maps: the entering variable is basic in the row, the leaving one stands at the entering place. The dual norms
+  -- come behind this, in `bothNorms` of Step
   abbrev pub exchangedTo : Etas → ℕ → Factored → State
   exchangedTo etas count factor =
       let w = s .ws in
@@ -113,6 +126,7 @@ module _ (P : Problem) (s : State) (e : Entering) (c rowSv helper : Sv) (value d
           nbVarVals = set (w .nbVarVals) col leaving;
           prices = stored rowSv (newPrice w e pivot rowSv) (w .prices);
           norms = stored rowSv (newNorm w e c pivot rowSv helper) (w .norms);
+          dualNorms = w .dualNorms;
           flags = set (w .flags) col (flagsAt P leaves leaving);
           varStates = set (set (w .varStates) enters (varCell (nOf P) (Basic row))) leaves (varCell (nOf P) (NonBasic col));
           etas = etas;

@@ -36,7 +36,8 @@ pub record Etas : Type 0 where
   pub rows : List ℕ
   pub coeffs : List Float
 
--- The workspace. Row r's basic variable is `basicVars # r`, and `nbVars # c` is the non-basic variable at place c; `varStates` is the map back.
+-- The workspace. Row r's basic variable is `basicVars # r`, and `nbVars # c` is the non-basic variable at place c;
+-- `varStates` is the map back. 02, Ask 8: `dualNorms` has a norm for each row.
 pub record Workspace : Type 0 where
   pub basicVars : List ℕ
   pub basicVarVals : List Float
@@ -44,6 +45,7 @@ pub record Workspace : Type 0 where
   pub nbVarVals : List Float
   pub prices : List Float
   pub norms : List Float
+  pub dualNorms : List Float
   pub flags : List ℕ
   pub varStates : List ℕ
   pub etas : Etas

@@ -44,6 +44,7 @@ workspaceLong n m w =
     && leb n (length (w .nbVarVals))
     && leb n (length (w .prices))
     && leb n (length (w .norms))
+    && leb m (length (w .dualNorms))
     && leb n (length (w .flags))
     && leb (n + m) (length (w .varStates))
     && storeLong (w .etas)

@@ -1,5 +1,5 @@
 -- The whole: from lent arrays to the answer and what is lent afterwards. Assumes nothing.
-use mathlib.Core.Bool.{Bool, true, false}
+use mathlib.Core.Bool.{Bool, true, false, _||_}
 use mathlib.Core.List.{List, [], _∷_}
 use lib.Dec.{eqb}
 use lib.Ieee.{Float}
@@ -8,14 +8,14 @@ use Rattle.rules.specs.Plan.{Plan, Problem, Memory, State, problemOf, mO
 use Rattle.rules.specs.Refusals.{passes1, passes2, firstBadRow, firstBadIn, firstCrossed, firstFalse}
 use Rattle.rules.specs.Start.{startState, passes6, passes7, dualFeasible}
 use Rattle.rules.specs.Basis.{etaUsed}
-use Rattle.rules.specs.Step.{Ended, ended, runOf}
+use Rattle.rules.specs.Step.{Ended, runOf, bothRuns}
 use Rattle.rules.specs.FinalCheck.{valuesOf, finalCheck}
 use Rattle.rules.specs.Answers.{numberOf}
-use Rattle.rules.specs.declared.Stop.the-variants.{Finished, Spent as Stop·Spent, Unbounded as Stop·Unbounded, NotFinite as Stop·NotFinite, Singular as Stop·Singular}
+use Rattle.rules.specs.declared.Stop.the-variants.{Finished, Spent as Stop·Spent, Unbounded as Stop·Unbounded, NotFinite as Stop·NotFinite, Singular as Stop·Singular, Infeasible as Stop·Infeasible}
 use Rattle.rules.specs.declared.Checked.{Checked}
 use Rattle.rules.specs.declared.Checked.the-variants.{Passed, Value, Row}
 use Rattle.rules.specs.declared.Answer.{Answer}
-use Rattle.rules.specs.declared.Answer.the-variants.{Optimal, BadSize, BadNumber, BadEntry, CrossedBounds, FalseEmptyRow, StartNotFinite, SlackOutside, Unbounded, Spent, NotFinite, Singular, ValueRejected, RowRejected}
+use Rattle.rules.specs.declared.Answer.the-variants.{Optimal, BadSize, BadNumber, BadEntry, CrossedBounds, FalseEmptyRow, StartNotFinite, SlackOutside, Unbounded, Spent, NotFinite, Singular, Infeasible, ValueRejected, RowRejected}
 
 pub record Solved : Type 0 where
   pub answer : Answer
@@ -26,8 +26,7 @@ solved a m = record { answer = a; memory = m }
 
 -- ---- the end of a run
 
--- "after the final check", at one place for the dual feasible start and the end of a run. 02: "Every caller and answer 24
--- carries the excess"
+-- "after the final check". 02: "Every caller and answer 24 carries the excess"
 unfoldable pub checkedAnswer : State → Checked → Answer
 checkedAnswer s (Passed x) = Optimal (s .objective) (s .steps) x
 checkedAnswer s (Value v x) = ValueRejected (s .objective) (s .steps) v x
@@ -42,9 +41,10 @@ answerOf P e =
       | Stop·Unbounded ↦ Unbounded (s .objective) (s .steps)
       | Stop·NotFinite ↦ NotFinite (s .objective) (s .steps)
       | Stop·Singular ↦ Singular (s .objective) (s .steps)
+      | Stop·Infeasible r ↦ Infeasible (s .objective) (s .steps) r
     ]
 
--- "Status 0 is Optimal and writes values, slacks last. 20 to 24 leave the values array alone", and so does 25
+-- "Status 0 is Optimal and writes values, slacks last. 20 to 24 leave the values array alone", and so do 25 and 26
 unfoldable pub valuesAfter : Problem → State → Answer → List Float → List Float
 valuesAfter P s a l = elim (eqb (numberOf a) 0) [ true ↦ over (valuesOf P (s .ws)) l | false ↦ l ]
 
@@ -65,11 +65,11 @@ memoryAfter P s a m =
 unfoldable pub close : Problem → Memory → Ended → Solved
 close P m e = let a = answerOf P e in solved a (memoryAfter P (e .state) a m)
 
--- "If dual feasible, Optimal is reached at once with 0 steps (ours), after the final check"
+-- 02, Ask 8: "dual steps for starts that are dual feasible", then primal ones; else primal ones alone
 unfoldable pub endOf : Problem → Memory → Ended
 endOf P m =
     let s = startState P m in
-    elim (dualFeasible (P .plan)) [ true ↦ ended Finished s | false ↦ runOf P (P .plan .budget) s ]
+    elim (dualFeasible (P .plan)) [ true ↦ bothRuns P (P .plan .budget) s | false ↦ runOf P (P .plan .budget) s ]
 
 -- ---- "The lowest number that applies is given"; "1 to 7 are refusals: all lent memory stays"
 abbrev pub orRefuse : Bool → Answer → Memory → Solved → Solved
@@ -84,5 +84,5 @@ solvePlan p m =
     (orRefuse (eqb (firstCrossed p) (p .columns)) (CrossedBounds (firstCrossed p)) m
     (orRefuse (eqb (firstFalse p) (p .rows)) (FalseEmptyRow (firstFalse p)) m
     (orRefuse (passes6 P) StartNotFinite m
-    (orRefuse (passes7 P) SlackOutside m
+    (orRefuse (passes7 P || dualFeasible p) SlackOutside m
     (close P m (endOf P m))))))))

@@ -77,6 +77,7 @@ startWorkspace P xs w =
       nbVarVals = over (table n (λ j. xs ! j)) (w .nbVarVals);
       prices = over (table n (λ j. P .plan .costs ! j)) (w .prices);
       norms = over (table n (startNorm P)) (w .norms);
+      dualNorms = over (table m (λ r. f1)) (w .dualNorms);
       flags = over (table n (startFlags (P .plan) xs)) (w .flags);
       varStates = over (table (n + m) (λ v. v)) (w .varStates);
       etas = record { leaving = w .etas .leaving; starts = set (w .etas .starts) 0 0; rows = w .etas .rows; coeffs = w .etas .coeffs };
@@ -103,7 +104,8 @@ passes6 P =
     && finite (startObjective (P .plan) xs)
     && all (nOf P) (λ j. finite (startNorm P j))
 
--- ---- 7: "a slack starts outside its bounds, no tolerance"
+-- ---- 7: "a slack starts outside its bounds, no tolerance". 02, Ask 8: the refusal is given only where the start isn't dual
+-- feasible either
 abbrev pub inBounds : Float → Float → Float → Bool
 inBounds lo x hi = le lo x && le x hi
 

@@ -1,4 +1,5 @@
--- k steps lead from s to t, said apart from `runOf`: each step is one of the rules' own. Assumes nothing.
+-- k steps lead from s to t, said apart from `runOf` and `dualRunOf`: each step is one of the rules' own, and has its kind.
+-- Assumes nothing.
 use mathlib.Core.Path.{_≡_}
 use Prim.Native.Nat.{ℕ, zero, suc, _+_, _*_, _≤_}
 use Rattle.doubles.specs.Limits.{countCells}
@@ -6,26 +7,37 @@ use Rattle.rules.specs.Plan.{Plan, Memory, Problem, State, problemOf, nO
 use Rattle.rules.specs.Start.{startState}
 use Rattle.rules.specs.Choose.{choose}
 use Rattle.rules.specs.Basis.{etaUsed}
-use Rattle.rules.specs.Step.{step, moved}
+use Rattle.rules.specs.DualRow.{chooseRow}
+use Rattle.rules.specs.Step.{step, dualStep, moved}
+use Rattle.rules.specs.Kinds.{Kind, dual, primal, firstKind, lastKind}
 use Rattle.rules.specs.Answers.{asRow}
 use Rattle.rules.specs.Solve.{Solved}
 use Rattle.rules.specs.Invariant.{Sound, Past, Tails}
 use Rattle.rules.specs.declared.Entering.{Entering}
 use Rattle.rules.specs.declared.Choice.the-variants.{Enters}
+use Rattle.rules.specs.declared.LeavingVar.{LeavingVar}
+use Rattle.rules.specs.declared.RowChoice.the-variants.{Leaves, Nothing as Row·Nothing}
 use Rattle.rules.specs.declared.PivotInfo.{PivotInfo}
 
-pub data Steps (P : Problem) (s : State) : ℕ → State → Type 0 where
-  none : Steps P s zero s
-  one-more : {k : ℕ} {t u : State} (e : Entering) (i : PivotInfo) → Steps P s k t → choose P (t .ws) ≡ Enters e → step P t e ≡ moved i u → Steps P s (suc k) u
+-- k steps lead from s, where steps of kind b begin, to t, where steps of the second kind go on. "dual steps until no row
+-- leaves. Then … primal steps"
+pub data Steps (P : Problem) (s : State) (b : Kind) : Kind → ℕ → State → Type 0 where
+  none : Steps P s b b zero s
+  one-dual : {k : ℕ} {t u : State} (l : LeavingVar) (i : PivotInfo) → Steps P s b dual k t → chooseRow P (t .ws) ≡ Leaves l
+      → dualStep P t l ≡ moved i u → Steps P s b dual (suc k) u
+  turns : {k : ℕ} {t : State} → Steps P s b dual k t → chooseRow P (t .ws) ≡ Row·Nothing → Steps P s b primal k t
+  one-more : {k : ℕ} {t u : State} (e : Entering) (i : PivotInfo) → Steps P s b primal k t → choose P (t .ws) ≡ Enters e
+      → step P t e ≡ moved i u → Steps P s b primal (suc k) u
 
 -- t is reached from s by as many steps as it says, within the budget
-pub record Reached (P : Problem) (s t : State) (budget : ℕ) : Type 0 where
-  pub by-steps : Steps P s (t .steps) t
+pub record Reached (P : Problem) (s : State) (b c : Kind) (t : State) (budget : ℕ) : Type 0 where
+  pub by-steps : Steps P s b c (t .steps) t
   pub within : t .steps ≤ budget
 
--- from the start of a plan, within its budget
+-- from the start of a plan, within its budget: at the end the run stands among its steps of the last kind
 abbrev pub RunsTo : Plan → Memory → State → Type 0
-RunsTo p m t = Reached (problemOf p) (startState (problemOf p) m) t (p .budget)
+RunsTo p m t =
+    Reached (problemOf p) (startState (problemOf p) m) (firstKind p) (lastKind (problemOf p) m) t (p .budget)
 
 -- 01: "After k steps the store has at most k columns and k times the row count of entries". The steps that made a factor
 -- leave none

@@ -25,6 +25,33 @@ pub enum Choice {
     Nothing,
 }
 
+// 02, Ask 8: the leaving row of a dual step travels as the entering column does, with its infeasibility and score, and
+// with the value that its variable is to take.
+pub struct LeavingVar {
+    pub row: usize,
+    pub infeasibility: f64,
+    pub score: f64,
+    pub value: f64,
+}
+
+pub enum RowChoice {
+    Leaves(LeavingVar),
+    Nothing,
+}
+
+// What the ratio on prices gives: the entering column with its value, difference and pivot; no column; or a quotient
+// that isn't finite.
+pub enum DualRatio {
+    Exchange {
+        entering: Entering,
+        value: f64,
+        diff: f64,
+        pivot: f64,
+    },
+    Nothing,
+    NotFinite,
+}
+
 // 01: "The answer to a choice carries just the numbers of its own case".
 pub enum PivotInfo {
     Flip {
@@ -53,6 +80,8 @@ pub enum Stop {
     Unbounded,
     NotFinite,
     Singular,
+    // No column can enter for this row.
+    Infeasible(usize),
 }
 
 // The largest excess so far and its place: a value's number, or the number of values and then a kept row's. `at` is the
@@ -106,6 +135,11 @@ pub enum Answer {
     Singular {
         objective: f64,
         steps: usize,
+    },
+    Infeasible {
+        objective: f64,
+        steps: usize,
+        row: usize,
     },
     ValueRejected {
         objective: f64,

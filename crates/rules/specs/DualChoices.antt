@@ -1,0 +1,89 @@
+-- 02, Ask 8: what the choices of a dual step say, of its leaving row and of its entering column, apart from the loops that
+-- make them. proofs/ shows that each is made exactly then. Assumes nothing.
+use mathlib.Core.Path.{_≡_}
+use mathlib.Core.Bool.{Bool, true, false, not}
+use mathlib.Core.Logic.{_⊎_}
+use Prim.Native.Nat.{ℕ, _<_}
+use lib.Ieee.{Float, lt, le}
+use Rattle.doubles.specs.Num.{_⊕_, _⊖_, _⊗_, _⊘_, f0, eps, +inf, -inf, finite, size}
+use Rattle.doubles.specs.Lists.{_!_, _#_}
+use Rattle.doubles.specs.Words.{FirstLargest}
+use Rattle.sparse.specs.Scattered.{Sv, listed, listedVal}
+use Rattle.rules.specs.Plan.{Problem, Workspace, mOf, flagsOf}
+use Rattle.rules.specs.Choices.{sizeAt}
+use Rattle.rules.specs.DualRow.{rowMin, rowMax, outsideAt, infeasibilityAt, rowScoreAt}
+use Rattle.rules.specs.DualRatio.{leavingRises, mayMove, dualRelaxed, dualStepTo, dualPassOne, dualCandidate}
+use Rattle.rules.specs.declared.NonBasicVarState.{NonBasicVarState}
+use Rattle.rules.specs.declared.Entering.{Entering}
+use Rattle.rules.specs.declared.LeavingVar.{LeavingVar}
+use Rattle.rules.specs.declared.DualRatio.{DualRatio}
+use Rattle.rules.specs.declared.DualRatio.the-variants.{Exchange, Nothing, NotFinite}
+
+-- ---- the leaving row
+
+-- the basic value of row r is below its lower bound by more than EPS, or above its upper one
+pub data OutsideBy (P : Problem) (w : Workspace) (r : ℕ) : Type 0 where
+  below : lt (w .basicVarVals ! r) (rowMin P w r ⊖ eps) ≡ true → OutsideBy P w r
+  above : lt (rowMax P w r ⊕ eps) (w .basicVarVals ! r) ≡ true → OutsideBy P w r
+
+-- 02: "the largest squared infeasibility over dual norm, first on a tie": it passes the test, no row that passes scores
+-- more, and none before it as much; it travels with its infeasibility and score, and with the bound that it broke
+pub record IsLeaving (P : Problem) (w : Workspace) (l : LeavingVar) : Type 0 where
+  pub wins : FirstLargest (outsideAt P w) (rowScoreAt P w) (mOf P) (l .row)
+  pub scores : lt -inf (rowScoreAt P w (l .row)) ≡ true
+  pub infeasibility-is : l .infeasibility ≡ infeasibilityAt P w (l .row)
+  pub score-is : l .score ≡ infeasibilityAt P w (l .row) ⊗ infeasibilityAt P w (l .row) ⊘ w .dualNorms ! l .row
+  pub lower-is : lt (w .basicVarVals ! l .row) (rowMin P w (l .row)) ≡ true → l .value ≡ rowMin P w (l .row)
+  pub upper-is : lt (w .basicVarVals ! l .row) (rowMin P w (l .row)) ≡ false → l .value ≡ rowMax P w (l .row)
+
+-- no row that passes the test scores above -inf
+abbrev pub NoneLeaves : Problem → Workspace → Type 0
+NoneLeaves P w = (r : ℕ) → r < mOf P → outsideAt P w r ≡ true → lt -inf (rowScoreAt P w r) ≡ false
+
+-- ---- the ratio on prices
+
+-- "it rises where (coefficient > 0) differs from (leaving value > basic value)"
+abbrev pub entersUp : Bool → Float → Bool
+entersUp up a = elim (lt f0 a) [ true ↦ not up | false ↦ up ]
+
+module _ (w : Workspace) (up : Bool) (r : Sv) where
+  -- 02: it "has a row coefficient of size at least EPS and isn't already at the bound in the way of the move"
+  pub record Eligible (k : ℕ) : Type 0 where
+    pub of-size : le eps (sizeAt r k) ≡ true
+    pub free : mayMove (entersUp up (listedVal r k)) (flagsOf (w .flags # listed r k)) ≡ true
+
+  -- 26: "no entering column exists for the leaving row"
+  abbrev pub NoneEligible : Type 0
+  NoneEligible = (k : ℕ) → k < r .pat .count → ¬ Eligible k
+
+  -- "Pass one: … the smallest, from +inf"
+  pub record DualPassOne (t : Float) : Type 0 where
+    pub smallest : (k : ℕ) → k < r .pat .count → Eligible k → lt (dualRelaxed w up r k) t ≡ false
+    pub one-of : (t ≡ +inf) ⊎ ((k : ℕ) × (k < r .pat .count) × Eligible k × (t ≡ dualRelaxed w up r k))
+
+  -- "A quotient of an eligible column that isn't finite: 23"
+  pub data DualUnsound : Type 0 where
+    bad-quotient : (k : ℕ) → k < r .pat .count → Eligible k → finite (dualRelaxed w up r k) ≡ false → DualUnsound
+    bad-step : (k : ℕ) → k < r .pat .count → Eligible k → finite (dualStepTo w up r k) ≡ false → DualUnsound
+
+  pub record DualSound : Type 0 where
+    pub quotients : (k : ℕ) → k < r .pat .count → Eligible k → finite (dualRelaxed w up r k) ≡ true
+    pub steps : (k : ℕ) → k < r .pat .count → Eligible k → finite (dualStepTo w up r k) ≡ true
+
+  -- "Pass two: … <= that, strictly largest coefficient size": the k-th listed column
+  abbrev pub EntersBy : ℕ → Type 0
+  EntersBy k = FirstLargest (dualCandidate w up r (dualPassOne w up r)) (sizeAt r) (r .pat .count) k
+
+module _ (w : Workspace) (l : LeavingVar) (r : Sv) where
+  abbrev pub dualDiff : ℕ → Float
+  dualDiff k = (w .basicVarVals ! l .row ⊖ l .value) ⊘ listedVal r k
+
+  abbrev pub dualEntering : ℕ → Entering
+  dualEntering k = record { col = listed r k; price = w .prices ! listed r k; score = sizeAt r k; distance = size (dualDiff k) }
+
+  -- what the ratio gives
+  pub data DualGives : DualRatio → Type 0 where
+    not-finite : DualUnsound w (leavingRises w l) r → DualGives NotFinite
+    nothing : NoneEligible w (leavingRises w l) r → DualGives Nothing
+    exchanges : DualSound w (leavingRises w l) r → (k : ℕ) → EntersBy w (leavingRises w l) r k
+        → DualGives (Exchange (dualEntering k) (w .nbVarVals ! listed r k ⊕ dualDiff k) (dualDiff k) (listedVal r k))
