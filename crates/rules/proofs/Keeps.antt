@@ -64,6 +64,7 @@ module _ (P : Problem) (s : State) (e : Entering) (c : Sv) (value diff : Float) 
         nbVarVals-long = simp length-set (l .nbVarVals-long);
         prices-long = l .prices-long;
         norms-long = l .norms-long;
+        dualNorms-long = l .dualNorms-long;
         flags-long = simp length-set (l .flags-long);
         varStates-long = l .varStates-long;
         leaving-long = l .leaving-long;
@@ -103,6 +104,7 @@ module _ (P : Problem) (s : State) (e : Entering) (c : Sv) (value diff : Float) 
         nbVal = λ k h. set-finite (s .ws .nbVarVals) (e .col) value k (a .1) (f .nbVal k h);
         price = f .price;
         norm = f .norm;
+        dualNorm = f .dualNorm;
         eta = f .eta;
         factor = f .factor;
       }
@@ -129,6 +131,7 @@ module _ (P : Problem) (s : State) (f : Fits P s) (e : Entering) (c rowSv helper
         nbVarVals-long = simp length-set (l .nbVarVals-long);
         prices-long = simp stored-long (l .prices-long);
         norms-long = simp stored-long (l .norms-long);
+        dualNorms-long = l .dualNorms-long;
         flags-long = simp length-set (l .flags-long);
         varStates-long = simp length-set (l .varStates-long);
         leaving-long = h .leaving-long;
@@ -163,6 +166,7 @@ module _ (P : Problem) (s : State) (f : Fits P s) (e : Entering) (c rowSv helper
         nbVal = λ k h. set-finite (w .nbVarVals) (e .col) leaving k (b2 .1) (g .nbVal k h);
         price = λ k h. stored-finite rowSv (newPrice w e coeff rowSv) (w .prices) (b3 .1) k (g .price k h);
         norm = λ k h. stored-finite rowSv (newNorm w e c coeff rowSv helper) (w .norms) (b4 .1) k (g .norm k h);
+        dualNorm = g .dualNorm;
         eta = column;
         factor = numbers;
       }

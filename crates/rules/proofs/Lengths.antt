@@ -182,7 +182,8 @@ module _ (p : Plan) where
         let c = both-true _ _ (d .0) in
         let b = both-true _ _ (c .0) in
         let w = both-true _ _ (c .1) in
-        let w8 = both-true _ _ (w .0) in
+        let w9 = both-true _ _ (w .0) in
+        let w8 = both-true _ _ (w9 .0) in
         let w7 = both-true _ _ (w8 .0) in
         let w6 = both-true _ _ (w7 .0) in
         let w5 = both-true _ _ (w6 .0) in
@@ -203,8 +204,9 @@ module _ (p : Plan) where
           nbVarVals-long = leb-true _ _ (w4 .1);
           prices-long = leb-true _ _ (w5 .1);
           norms-long = leb-true _ _ (w6 .1);
-          flags-long = leb-true _ _ (w7 .1);
-          varStates-long = leb-true _ _ (w8 .1);
+          dualNorms-long = leb-true _ _ (w7 .1);
+          flags-long = leb-true _ _ (w8 .1);
+          varStates-long = leb-true _ _ (w9 .1);
           leaving-long = leb-true _ _ (h2 .0);
           starts-long = leb-true _ _ (h2 .1);
           rows-long = leb-true _ _ (h3 .1);

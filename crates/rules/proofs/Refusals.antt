@@ -1,6 +1,6 @@
 -- 01, "When the gateway says no": each of 1 to 7 is given exactly when its condition holds and none of a lower number does. Assumes nothing.
 use mathlib.Core.Path.{_≡_, refl, sym, _∙_, subst}
-use mathlib.Core.Bool.{Bool, true, false, and-assoc}
+use mathlib.Core.Bool.{Bool, true, false, _||_, and-assoc}
 use mathlib.Core.Logic.{_↔_, _⊎_, inl, inr, ⊎-elim}
 use Prim.Native.Nat.{ℕ, suc, _<_, _≤_}
 use native.Mathlib.Nat.{eq-or-lt-of-le, le-of-suc-le-suc, le-antisymm}
@@ -12,14 +12,14 @@ use Rattle.doubles.proofs.Tests.{true-by}
 use Rattle.doubles.proofs.Bounds.{number-fails, bound-fails}
 use Rattle.rules.specs.Plan.{Plan, Memory, Workspace, State, Problem, problemOf, mOf, rowCols}
 use Rattle.rules.specs.Refusals.{sizesFit, planLong, storeLong, workspaceLong, memoryLong, startsRise, passes1, passes2, badAt, hasBad, firstBadRow, firstBadIn, crossed, firstCrossed, falseRow, firstFalse}
-use Rattle.rules.specs.Start.{passes6, passes7}
+use Rattle.rules.specs.Start.{passes6, passes7, dualFeasible}
 use Rattle.rules.proofs.StartFinite.{start-finite}
 use Rattle.rules.specs.FinalCheck.{valuesOf, finalCheck}
 use Rattle.rules.specs.Step.{ended}
 use Rattle.rules.specs.Answers.{asRow, numberOf}
 use Rattle.rules.specs.Solve.{Solved, solved, orRefuse, close, endOf, checkedAnswer, answerOf, solvePlan}
 use Rattle.rules.specs.declared.Stop.{Stop}
-use Rattle.rules.specs.declared.Stop.the-variants.{Finished, Spent, Unbounded, NotFinite, Singular}
+use Rattle.rules.specs.declared.Stop.the-variants.{Finished, Spent, Unbounded, NotFinite, Singular, Infeasible}
 use Rattle.rules.specs.declared.Checked.{Checked}
 use Rattle.rules.specs.declared.Checked.the-variants.{Passed, Value, Row}
 use Rattle.rules.specs.declared.Answer.{Answer}
@@ -44,6 +44,7 @@ unfolding workspaceLong storeLong WorkspaceShort
 workspace n m w =
     simp and-assoc
     (leb-fails _ _
+    or leb-fails _ _
     or leb-fails _ _
     or leb-fails _ _
     or leb-fails _ _
@@ -109,9 +110,18 @@ six : (P : Problem) → (passes6 P ≡ false) ↔ Gives6 P
 unfolding passes6 Gives6
 six P = simp and-assoc (some-fails _ (λ j. itself) or some-fails _ (λ r. itself) or itself or some-fails _ (λ j. itself))
 
-seven : (P : Problem) → (passes7 P ≡ false) ↔ Some (mOf P) (Outside P)
+slacks : (P : Problem) → (passes7 P ≡ false) ↔ Some (mOf P) (Outside P)
 unfolding passes7 Outside
-seven P = some-fails _ (λ r. itself or itself)
+slacks P = some-fails _ (λ r. itself or itself)
+
+-- 02: "exactly when a slack is outside and the start isn't dual feasible"
+seven : (P : Problem) → (passes7 P || dualFeasible (P .plan) ≡ false) ↔ (Some (mOf P) (Outside P) × (dualFeasible (P .plan) ≡ false))
+seven P = go (passes7 P) refl (dualFeasible (P .plan)) refl
+  where
+    go : (a : Bool) → passes7 P ≡ a → (b : Bool) → dualFeasible (P .plan) ≡ b
+        → (a || b ≡ false) ↔ (Some (mOf P) (Outside P) × (b ≡ false))
+    go true q b h = (λ f. never refl f, λ x. never q (slacks P .1 (x .0)))
+    go false q b h = (λ f. (slacks P .0 q, f), λ x. x .1)
 
 first-bad : (p : Plan) → eqb (firstBadRow p) (p .rows) ≡ false → FirstBad p (firstBadRow p) (firstBadIn p (firstBadRow p))
 unfolding firstBadRow
@@ -176,6 +186,7 @@ late P Spent s = inr (omega arith)
 late P Unbounded s = inr (omega arith)
 late P Singular s = inr (omega arith)
 late P NotFinite s = inr (omega arith)
+late P (Infeasible r) s = inr (omega arith)
 
 module _ (p : Plan) (m : Memory) (k : ℕ) (low : 1 ≤ k) (high : k < 8) where
   exact : {r : Solved} → Case p m r → (numberOf (r .answer) ≡ k) ↔ (Gives k p m × NoneBelow k p m)

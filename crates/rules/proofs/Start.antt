@@ -5,8 +5,8 @@ use Prim.Native.Nat.{ℕ, _+_, _-_, _<_, _≤_}
 use native.Mathlib.Omega.{arith}
 use lib.ListN.{length, length-set}
 use lib.Seq.{getD-set-same}
-use lib.Ieee.{nan}
-use Rattle.doubles.specs.Num.{finite}
+use lib.Ieee.{nan, ofBits}
+use Rattle.doubles.specs.Num.{f1, finite}
 use Rattle.doubles.specs.Lists.{_!_, _#_}
 use Rattle.doubles.proofs.Bools.{never}
 use Rattle.doubles.proofs.Loops.{both-true, all-at}
@@ -29,6 +29,7 @@ module _ (P : Problem) (lent : Memory) (l : Lengths P (lent .ws)) where
         nbVarVals-long = over-enough _ _ _ (l .nbVarVals-long);
         prices-long = over-enough _ _ _ (l .prices-long);
         norms-long = over-enough _ _ _ (l .norms-long);
+        dualNorms-long = over-enough _ _ _ (l .dualNorms-long);
         flags-long = over-enough _ _ _ (l .flags-long);
         varStates-long = over-enough _ _ _ (l .varStates-long);
         leaving-long = l .leaving-long;
@@ -83,6 +84,10 @@ module _ (P : Problem) (lent : Memory) (l : Lengths P (lent .ws)) where
         factorings = omega arith;
       }
 
+  one-finite : finite f1 ≡ true
+  unfolding finite ofBits
+  one-finite = refl
+
   -- every stored number is finite after the start
   start-numbers : ((j : ℕ) → j < nOf P → finite (P .plan .costs ! j) ≡ true) → passes6 P ≡ true → Numbers P (startState P lent)
   unfolding startState startWorkspace passes6
@@ -99,6 +104,7 @@ module _ (P : Problem) (lent : Memory) (l : Lengths P (lent .ws)) where
         nbVal = λ j h. rw (over-at n (λ j. xs ! j) (lent .ws .nbVarVals) nan j h) (all-at (λ j. finite (xs ! j)) n (a .0) j h);
         price = λ j h. rw (over-at n (λ j. P .plan .costs ! j) (lent .ws .prices) nan j h) (costs j h);
         norm = λ j h. rw (over-at n (startNorm P) (lent .ws .norms) nan j h) (all-at (λ j. finite (startNorm P j)) n (c .1) j h);
+        dualNorm = λ r h. rw (over-at m (λ r. f1) (lent .ws .dualNorms) nan r h) one-finite;
         eta = λ i h. absurd (omega (arith, start-store .begins));
         factor = record { lower = λ q. never q refl; upper = λ q. never q refl; diag = λ q. never q refl };
       }

@@ -88,6 +88,7 @@ start-tails P m =
       nbVarVals-tail = past-over _;
       prices-tail = past-over _;
       norms-tail = past-over _;
+      dualNorms-tail = past-over _;
       flags-tail = past-over _;
       varStates-tail = past-over _;
       leaving-tail = past-refl;
@@ -115,6 +116,7 @@ module _ (P : Problem) (m : Memory) (s : State) (g : Tails P m s) (e : Entering)
         nbVarVals-tail = past-set (e .col) _ hc (g .nbVarVals-tail);
         prices-tail = g .prices-tail;
         norms-tail = g .norms-tail;
+        dualNorms-tail = g .dualNorms-tail;
         flags-tail = past-set (e .col) _ hc (g .flags-tail);
         varStates-tail = g .varStates-tail;
         leaving-tail = g .leaving-tail;
@@ -147,6 +149,7 @@ module _ (P : Problem) (m : Memory) (s : State) (g : Tails P m s) (e : Entering)
           nbVarVals-tail = past-set (e .col) _ hc (g .nbVarVals-tail);
           prices-tail = past-stored rowSv _ (u .places-below) (g .prices-tail);
           norms-tail = past-stored rowSv _ (u .places-below) (g .norms-tail);
+          dualNorms-tail = g .dualNorms-tail;
           flags-tail = past-set (e .col) _ hc (g .flags-tail);
           varStates-tail = past-set _ _ (f .maps .row row hr .var) (past-set _ _ (f .maps .place (e .col) hc .var) (g .varStates-tail));
           leaving-tail = h .leaving-past;

@@ -81,6 +81,7 @@ WorkspaceShort n m w =
     ⊎ Short (w .nbVarVals) n
     ⊎ Short (w .prices) n
     ⊎ Short (w .norms) n
+    ⊎ Short (w .dualNorms) m
     ⊎ Short (w .flags) n
     ⊎ Short (w .varStates) (n + m)
     ⊎ Short (w .etas .leaving) etaColumns
