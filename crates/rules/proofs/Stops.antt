@@ -1,24 +1,25 @@
 -- 01, "One step": when a step isn't taken: Unbounded, a number that isn't finite, or no pivot for the new basis' factor,
 -- each exactly when its condition holds; and when it is. Assumes nothing.
-use mathlib.Core.Path.{_≡_, refl, subst}
+use mathlib.Core.Path.{_≡_, refl, sym, subst}
 use mathlib.Core.Bool.{Bool, true, false, _&&_, and-assoc}
+use mathlib.Core.List.{List}
 use mathlib.Core.Logic.{_↔_, _⊎_, inl, inr, ⊎-elim, Iff·rfl, Iff·trans}
 use Prim.Native.Nat.{ℕ}
 use native.Mathlib.Omega.{arith}
 use lib.Ieee.{Float}
 use Rattle.doubles.proofs.Bools.{never, itself, leb-fails, ltb-fails, some-fails, _or_}
-use Rattle.sparse.specs.Scattered.{Sv, listedFinite}
+use Rattle.sparse.specs.Scattered.{Sv, listedFinite, sqNorm}
 use Rattle.lu_factor_rules.specs.Factor.{Outcome as Factoring, factored, notFinite, singular, Factor, factorize}
 use Rattle.lu_factor_rules.specs.Ends.{Wild, Flat, Some as SomeColumn}
 use Rattle.lu_factor_rules.proofs.Exactly.{wild-exactly, flat-exactly}
 use Rattle.rules.specs.Plan.{Problem, State, mOf}
-use Rattle.rules.specs.Basis.{etaFits, rowCoeffsOf, helperOf, touchAt, etaEntryAt, basisAfter}
+use Rattle.rules.specs.Basis.{etaFits, rowCoeffsOf, helperOf, invRow, tauOf, touchAt, etaEntryAt, basisAfter}
 use Rattle.rules.specs.Ratio.{ratio}
-use Rattle.rules.specs.Pivot.{storesFinite, flipFinite, etaFinite, numbersFinite, exchanged, refactored}
-use Rattle.rules.specs.Step.{Outcome, moved, stopped, orStop, orFactor, exchange, flip, pivot, step}
+use Rattle.rules.specs.Pivot.{stored, storesFinite, newDualNorm, flipFinite, etaFinite, numbersFinite, exchanged, refactored}
+use Rattle.rules.specs.Step.{Outcome, moved, stopped, orStop, orFactor, exchange, stateWithDualNorms, outcomeWithDualNorms, bothNorms, flip, pivot, step}
 use Rattle.rules.specs.Choices.{RatioGives}
-use Rattle.rules.specs.Conditions.{Some, NotFinite, EntryBroken, StoreBroken, Crowded, FlipBroken, ExchangeBroken, EtaBroken, FactorBroken, Exchanges, StepBroken, StepSingular}
-use Rattle.rules.specs.Conditions.{StoresTo, Chosen, StopsWith, stepColumn, Stops, Moves}
+use Rattle.rules.specs.Conditions.{Some, NotFinite, EntryBroken, StoreBroken, Crowded, FlipBroken, NormsBroken, ExchangeBroken, EtaBroken, FactorBroken, StepBroken, StepSingular}
+use Rattle.rules.specs.Conditions.{Exchanges, ExchangesBoth, StoresTo, Chosen, StopsWith, stepColumn, Stops, Moves}
 use Rattle.rules.proofs.Choices.{ratio-exactly}
 use Rattle.rules.specs.declared.Entering.{Entering}
 use Rattle.rules.specs.declared.PivotInfo.{PivotInfo}
@@ -26,7 +27,7 @@ use Rattle.rules.specs.declared.PivotInfo.the-variants.{Flip, Exchange}
 use Rattle.rules.specs.declared.Ratio.{Ratio}
 use Rattle.rules.specs.declared.Ratio.the-variants.{Pivot, Unbounded as Ratio·Unbounded, NotFinite as Ratio·NotFinite}
 use Rattle.rules.specs.declared.Stop.{Stop}
-use Rattle.rules.specs.declared.Stop.the-variants.{Finished, Spent as Stop·Spent, Unbounded as Stop·Unbounded, NotFinite as Stop·NotFinite, Singular as Stop·Singular}
+use Rattle.rules.specs.declared.Stop.the-variants.{Finished, Spent as Stop·Spent, Unbounded as Stop·Unbounded, NotFinite as Stop·NotFinite, Singular as Stop·Singular, Infeasible as Stop·Infeasible}
 
 clash : {C : Type 0} → _≡_ {A = ℕ} 0 1 → C
 clash z = absurd (omega arith)
@@ -72,6 +73,17 @@ module _ {b : Bool} {w : Stop} {o : Outcome} {G : Type 0} (e : (b ≡ false) ↔
 
 taken : {i : PivotInfo} {t : State} {w : Stop} → ¬ (moved i t ≡ stopped w)
 taken h = clash (cc)
+
+-- ---- the dual norms, put into what an exchange gives
+with-norms-stops : (l : List Float) (o : Outcome) {w : Stop} → (outcomeWithDualNorms l o ≡ stopped w) ↔ (o ≡ stopped w)
+with-norms-stops l (moved i t) = ((λ h. absurd (taken h)), (λ h. absurd (taken h)))
+with-norms-stops l (stopped v) = Iff·rfl
+
+with-norms-moves : (l : List Float) (o : Outcome) (j : PivotInfo) (t : State)
+    → (outcomeWithDualNorms l o ≡ moved j t) ↔ ((u : State) × (o ≡ moved j u) × (t ≡ stateWithDualNorms l u))
+with-norms-moves l (moved i u) j t =
+    ((λ h. let a : moved i (stateWithDualNorms l u) ≡ moved j t = h in (u, cc, cc)), (λ x. let a = x .1 in let b = x .2 in cc))
+with-norms-moves l (stopped v) j t = ((λ h. absurd (taken (sym h))), (λ x. absurd (taken (sym (x .1)))))
 
 -- ---- an exchange: its numbers, then the eta column or the factor
 module _ (P : Problem) (s : State) (e : Entering) (c : Sv) (value diff : Float) (row : ℕ) (coeff leaving : Float) where
@@ -224,49 +236,128 @@ module _ (P : Problem) (s : State) (e : Entering) (c : Sv) (value diff : Float) 
             (λ m. let a = x .1 .0 in let b = m .1 .1 in let d = m .1 .2 in cc) (x .1 .1),
       )
 
+  -- before the dual norms
+  made-broken : (exchange P s e c value diff row coeff leaving ≡ stopped Stop·NotFinite)
+      ↔ (ExchangeBroken P s e c value diff row coeff leaving
+      ⊎ (EtaBroken P s e c value diff row coeff leaving ⊎ FactorBroken P s e c value diff row coeff leaving (λ _. Wild)))
+  unfolding exchange
+  made-broken = also numbers-broken rest-broken
+
+  made-singular : (exchange P s e c value diff row coeff leaving ≡ stopped Stop·Singular)
+      ↔ ((¬ ExchangeBroken P s e c value diff row coeff leaving) × FactorBroken P s e c value diff row coeff leaving Flat)
+  unfolding exchange
+  made-singular = past numbers-broken (λ q. clash (cc)) rest-singular
+
+  made-other : {w : Stop} → ¬ (stopped Stop·NotFinite ≡ stopped w) → ¬ (stopped Stop·Singular ≡ stopped w)
+      → ¬ (exchange P s e c value diff row coeff leaving ≡ stopped w)
+  unfolding exchange
+  made-other a b = nor numbers-broken a (rest-other a b)
+
+  made-moves : (j : PivotInfo) (t : State) → (exchange P s e c value diff row coeff leaving ≡ moved j t)
+      ↔ ((¬ ExchangeBroken P s e c value diff row coeff leaving)
+      × ((¬ (EtaBroken P s e c value diff row coeff leaving ⊎ FactorBroken P s e c value diff row coeff leaving (λ _. Wild)))
+      × ((info ≡ j) × Exchanges P s e c value diff row coeff leaving t)))
+  unfolding exchange
+  made-moves j t = past numbers-broken (λ q. clash (cc)) (rest-moves j t)
+
+  -- with them: 02: "23 covers both"
+  abbrev tau : Sv
+  tau = tauOf P s (invRow P s row)
+
+  abbrev norm : ℕ → Float
+  norm = newDualNorm (s .ws) c row coeff (sqNorm (invRow P s row)) tau
+
+  pub norms-broken : (listedFinite tau && storesFinite c norm ≡ false) ↔ NormsBroken P s e c value diff row coeff leaving
+  unfolding NormsBroken
+  norms-broken = entries _ or stored-finite _ _
+
+  both-broken : (bothNorms P s e c value diff row coeff leaving ≡ stopped Stop·NotFinite)
+      ↔ (NormsBroken P s e c value diff row coeff leaving
+      ⊎ (ExchangeBroken P s e c value diff row coeff leaving
+      ⊎ (EtaBroken P s e c value diff row coeff leaving ⊎ FactorBroken P s e c value diff row coeff leaving (λ _. Wild))))
+  unfolding bothNorms
+  both-broken = also norms-broken (Iff·trans (with-norms-stops _ _) made-broken)
+
+  both-singular : (bothNorms P s e c value diff row coeff leaving ≡ stopped Stop·Singular)
+      ↔ ((¬ NormsBroken P s e c value diff row coeff leaving)
+      × (¬ ExchangeBroken P s e c value diff row coeff leaving)
+      × FactorBroken P s e c value diff row coeff leaving Flat)
+  unfolding bothNorms
+  both-singular =
+      Iff·trans (past norms-broken (λ q. clash (cc)) (Iff·trans (with-norms-stops _ _) made-singular))
+      ((λ x. (x .0, x .1 .0, x .1 .1)), (λ x. (x .0, (x .1, x .2))))
+
+  both-other : {w : Stop} → ¬ (stopped Stop·NotFinite ≡ stopped w) → ¬ (stopped Stop·Singular ≡ stopped w)
+      → ¬ (bothNorms P s e c value diff row coeff leaving ≡ stopped w)
+  unfolding bothNorms
+  both-other a b = nor norms-broken a (λ z. made-other a b (with-norms-stops _ _ .0 z))
+
+  both-moves : (j : PivotInfo) (t : State) → (bothNorms P s e c value diff row coeff leaving ≡ moved j t)
+      ↔ ((¬ (NormsBroken P s e c value diff row coeff leaving
+      ⊎ (ExchangeBroken P s e c value diff row coeff leaving
+      ⊎ (EtaBroken P s e c value diff row coeff leaving ⊎ FactorBroken P s e c value diff row coeff leaving (λ _. Wild)))))
+      × ((info ≡ j) × ExchangesBoth P s e c value diff row coeff leaving t))
+  unfolding bothNorms ExchangesBoth
+  both-moves j t = Iff·trans (past norms-broken (λ q. clash (cc)) (with-norms-moves _ _ j t)) (to, from)
+    where
+      Broken : Type 0
+      Broken = EtaBroken P s e c value diff row coeff leaving ⊎ FactorBroken P s e c value diff row coeff leaving (λ _. Wild)
+
+      Made : Type 0
+      Made = (u : State) × Exchanges P s e c value diff row coeff leaving u
+          × (t ≡ stateWithDualNorms (stored c norm (s .ws .dualNorms)) u)
+
+      to : (¬ NormsBroken P s e c value diff row coeff leaving)
+          × ((u : State) × (exchange P s e c value diff row coeff leaving ≡ moved j u)
+          × (t ≡ stateWithDualNorms (stored c norm (s .ws .dualNorms)) u))
+          → (¬ (NormsBroken P s e c value diff row coeff leaving ⊎ (ExchangeBroken P s e c value diff row coeff leaving ⊎ Broken)))
+          × ((info ≡ j) × Made)
+      to x =
+          let m = made-moves j (x .1 .0) .0 (x .1 .1) in
+          (⊎-elim (x .0) (⊎-elim (m .0) (m .1 .0)), (m .1 .1 .0, (x .1 .0, m .1 .1 .1, x .1 .2)))
+
+      from : (¬ (NormsBroken P s e c value diff row coeff leaving ⊎ (ExchangeBroken P s e c value diff row coeff leaving ⊎ Broken)))
+          × ((info ≡ j) × Made)
+          → (¬ NormsBroken P s e c value diff row coeff leaving)
+          × ((u : State) × (exchange P s e c value diff row coeff leaving ≡ moved j u)
+          × (t ≡ stateWithDualNorms (stored c norm (s .ws .dualNorms)) u))
+      from x =
+          let u = x .1 .1 .0 in
+          let m = made-moves j u .1 ((λ g. x .0 (inr (inl g))), ((λ g. x .0 (inr (inr g))), (x .1 .0, x .1 .1 .1))) in
+          ((λ g. x .0 (inl g)), (u, m, x .1 .1 .2))
+
 -- ---- the chosen step
 module _ (P : Problem) (s : State) (e : Entering) (c : Sv) where
   pub flip-broken : (value diff : Float) → (flipFinite P s e c value diff ≡ false) ↔ FlipBroken P s e c value diff
   unfolding flipFinite FlipBroken
   flip-broken value diff = simp and-assoc (itself or itself or stored-finite _ _)
 
-  pivot-broken : (i : PivotInfo) → (pivot P s e c i ≡ stopped Stop·NotFinite) ↔ StepBroken P s e c i
-  unfolding pivot flip exchange StepBroken
+  pub pivot-broken : (i : PivotInfo) → (pivot P s e c i ≡ stopped Stop·NotFinite) ↔ StepBroken P s e c i
+  unfolding pivot flip StepBroken
   pivot-broken (Flip value diff) = only (flip-broken value diff) taken
-  pivot-broken (Exchange value diff row coeff leaving) =
-      let k = touchAt c row in
-      also (numbers-broken P s e k value diff row coeff leaving) (rest-broken P s e k value diff row coeff leaving)
+  pivot-broken (Exchange value diff row coeff leaving) = both-broken P s e (touchAt c row) value diff row coeff leaving
 
-  pivot-singular : (i : PivotInfo) → (pivot P s e c i ≡ stopped Stop·Singular) ↔ StepSingular P s e c i
-  unfolding pivot flip exchange StepSingular
+  pub pivot-singular : (i : PivotInfo) → (pivot P s e c i ≡ stopped Stop·Singular) ↔ StepSingular P s e c i
+  unfolding pivot flip StepSingular
   pivot-singular (Flip value diff) = (λ z. absurd (nor (flip-broken value diff) (λ q. clash (cc)) taken z), λ h. absurd h)
-  pivot-singular (Exchange value diff row coeff leaving) =
-      let k = touchAt c row in
-      past (numbers-broken P s e k value diff row coeff leaving) (λ q. clash (cc)) (rest-singular P s e k value diff row coeff leaving)
+  pivot-singular (Exchange value diff row coeff leaving) = both-singular P s e (touchAt c row) value diff row coeff leaving
 
-  pivot-other : {w : Stop} (i : PivotInfo) → ¬ (stopped Stop·NotFinite ≡ stopped w)
+  pub pivot-other : {w : Stop} (i : PivotInfo) → ¬ (stopped Stop·NotFinite ≡ stopped w)
       → ¬ (stopped Stop·Singular ≡ stopped w) → ¬ (pivot P s e c i ≡ stopped w)
-  unfolding pivot flip exchange
+  unfolding pivot flip
   pivot-other (Flip value diff) n f = nor (flip-broken value diff) n taken
-  pivot-other (Exchange value diff row coeff leaving) n f =
-      let k = touchAt c row in
-      nor (numbers-broken P s e k value diff row coeff leaving) n (rest-other P s e k value diff row coeff leaving n f)
+  pivot-other (Exchange value diff row coeff leaving) n f = both-other P s e (touchAt c row) value diff row coeff leaving n f
 
   -- i is taken, and told as j and t
-  abbrev Taken : PivotInfo → State → PivotInfo → Type 0
+  abbrev pub Taken : PivotInfo → State → PivotInfo → Type 0
   Taken j t i = (¬ StepBroken P s e c i) × ((i ≡ j) × StoresTo P s e c i t)
 
-  pivot-moves : (j : PivotInfo) (t : State) (i : PivotInfo) → (pivot P s e c i ≡ moved j t) ↔ Taken j t i
-  unfolding pivot flip exchange StepBroken StoresTo
+  pub pivot-moves : (j : PivotInfo) (t : State) (i : PivotInfo) → (pivot P s e c i ≡ moved j t) ↔ Taken j t i
+  unfolding pivot flip StepBroken StoresTo
   pivot-moves j t (Flip value diff) =
       Iff·trans (past (flip-broken value diff) (λ q. clash (cc)) Iff·rfl)
       ((λ x. (x .0, (cc (x .1), cc (x .1)))), (λ x. (x .0, let a = x .1 .0 in let b = x .1 .1 in cc)))
-  pivot-moves j t (Exchange value diff row coeff leaving) =
-      let k = touchAt c row in
-      Iff·trans
-      (past (numbers-broken P s e k value diff row coeff leaving) (λ q. clash (cc))
-      (rest-moves P s e k value diff row coeff leaving j t))
-      ((λ x. (⊎-elim (x .0) (x .1 .0), x .1 .1)), (λ x. ((λ g. x .0 (inl g)), ((λ g. x .0 (inr g)), x .1))))
+  pivot-moves j t (Exchange value diff row coeff leaving) = both-moves P s e (touchAt c row) value diff row coeff leaving j t
 
 -- ---- after the ratio, said in the words G of what it gives
 abbrev after : (PivotInfo → Outcome) → Ratio → Outcome
@@ -336,6 +427,7 @@ module _ (P : Problem) (s : State) (e : Entering) where
   unfolding step StopsWith
   step-stops Finished = (never-ends Finished (λ q. clash (cc)) (λ q. clash (cc)) (λ q. clash (cc)), λ h. absurd h)
   step-stops Stop·Spent = (never-ends Stop·Spent (λ q. clash (cc)) (λ q. clash (cc)) (λ q. clash (cc)), λ h. absurd h)
+  step-stops (Stop·Infeasible r) = (never-ends (Stop·Infeasible r) (λ q. clash (cc)) (λ q. clash (cc)) (λ q. clash (cc)), λ h. absurd h)
   step-stops Stop·Unbounded =
       past (entries c) (λ q. clash (cc))
       (after-unbounded ratio-gives (pivot P s e c) (λ i. pivot-other P s e c i (λ q. clash (cc)) (λ q. clash (cc))))
