@@ -29,11 +29,11 @@ use Rattle.rules.specs.declared.Ratio.the-variants.{Pivot, Unbounded as 
 use Rattle.rules.specs.declared.Stop.{Stop}
 use Rattle.rules.specs.declared.Stop.the-variants.{Finished, Spent as Stop·Spent, Unbounded as Stop·Unbounded, NotFinite as Stop·NotFinite, Singular as Stop·Singular, Infeasible as Stop·Infeasible}
 
-clash : {C : Type 0} → _≡_ {A = ℕ} 0 1 → C
+pub clash : {C : Type 0} → _≡_ {A = ℕ} 0 1 → C
 clash z = absurd (omega arith)
 
 -- ---- the tests
-entries : (c : Sv) → (listedFinite c ≡ false) ↔ EntryBroken c
+pub entries : (c : Sv) → (listedFinite c ≡ false) ↔ EntryBroken c
 unfolding listedFinite
 entries c = some-fails _ (λ k. itself)
 
@@ -54,24 +54,24 @@ module _ {b : Bool} {w : Stop} {o : Outcome} {G : Type 0} (e : (b ≡ false) ↔
       go true q = (λ h. absurd (n h), λ g. never q (e .1 g))
       go false q = (λ _. e .0 q, λ _. refl)
 
-  also : {H : Type 0} → (o ≡ stopped w) ↔ H → (orStop b w o ≡ stopped w) ↔ (G ⊎ H)
+  pub also : {H : Type 0} → (o ≡ stopped w) ↔ H → (orStop b w o ≡ stopped w) ↔ (G ⊎ H)
   also {H} r = go b refl
     where
       go : (x : Bool) → b ≡ x → (orStop x w o ≡ stopped w) ↔ (G ⊎ H)
       go true q = (λ h. inr (r .0 h), ⊎-elim (λ g. never q (e .1 g)) (λ h. r .1 h))
       go false q = (λ _. inl (e .0 q), λ _. refl)
 
-  past : {y : Outcome} {H : Type 0} → ¬ (stopped w ≡ y) → (o ≡ y) ↔ H → (orStop b w o ≡ y) ↔ ((¬ G) × H)
+  pub past : {y : Outcome} {H : Type 0} → ¬ (stopped w ≡ y) → (o ≡ y) ↔ H → (orStop b w o ≡ y) ↔ ((¬ G) × H)
   past {y} {H} n r = go b refl
     where
       go : (x : Bool) → b ≡ x → (orStop x w o ≡ y) ↔ ((¬ G) × H)
       go true q = (λ h. (λ g. never q (e .1 g), r .0 h), λ h. r .1 (h .1))
       go false q = (λ h. absurd (n h), λ h. absurd (h .0 (e .0 q)))
 
-  nor : {y : Outcome} → ¬ (stopped w ≡ y) → ¬ (o ≡ y) → ¬ (orStop b w o ≡ y)
+  pub nor : {y : Outcome} → ¬ (stopped w ≡ y) → ¬ (o ≡ y) → ¬ (orStop b w o ≡ y)
   nor n r h = r (past n Iff·rfl .0 h .1)
 
-taken : {i : PivotInfo} {t : State} {w : Stop} → ¬ (moved i t ≡ stopped w)
+pub taken : {i : PivotInfo} {t : State} {w : Stop} → ¬ (moved i t ≡ stopped w)
 taken h = clash (cc)
 
 -- ---- the dual norms, put into what an exchange gives
