@@ -31,8 +31,7 @@ use Rattle.rules.proofs.Zeros.{Zero, zero-f0, zero-times, zero-less, ze
 use Rattle.rules.proofs.Maps.{split}
 use Rattle.rules.proofs.Vectors.{vector-blank, vector-putAt, rows-places, keeps-each, e0, column-rows, scattered-vector, row-solve-vector, row-vector}
 use Rattle.rules.proofs.Store.{starts-rise}
-use Rattle.rules.proofs.Moved.{enters-below}
-use Rattle.rules.proofs.Keeps.{step-vector}
+use Rattle.rules.proofs.Moved.{enters-below, step-vector}
 use Rattle.rules.proofs.Touched.{row-solve-first, column-solve-first, none-touched, touched-at, touched-still, touched-by, Meets, by-entry, by-slack, combine-at}
 
 -- y is a zero at every place with the property Z

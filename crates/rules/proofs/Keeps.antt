@@ -21,17 +21,17 @@ use Rattle.rules.specs.Plan.{Problem, State, Workspace, Etas, Factored, 
 use Rattle.rules.specs.Choose.{choose}
 use Rattle.rules.specs.Basis.{etaUsed, etaFits, etaEntryAt, pushEta, basisAfter, noColumns, factoredAnew}
 use Rattle.rules.specs.Pivot.{storeTurn, stored, storesFinite, movedVal, newVal, newPrice, newNorm, etaFinite, flipFinite, flipped, numbersFinite, exchangedTo, exchanged, refactored}
-use Rattle.rules.specs.Step.{step, moved}
+use Rattle.rules.specs.Step.{stateWithDualNorms, step, dualStep, moved}
 use Rattle.rules.specs.Conditions.{stepColumn}
 use Rattle.rules.specs.declared.Entering.{Entering}
 use Rattle.rules.specs.declared.Choice.the-variants.{Enters}
+use Rattle.rules.specs.declared.LeavingVar.{LeavingVar}
 use Rattle.rules.specs.declared.PivotInfo.{PivotInfo}
 use Rattle.rules.specs.Invariant.{ProblemFits, Lengths, Maps, Store, FactorFits, FactorNumbers, Numbers, Fits, Sound, Vector}
 use Rattle.rules.proofs.Lists.{set-either, spliced-long, spliced-all}
-use Rattle.rules.proofs.Vectors.{rows-places, column-vector, vector-touchAt}
 use Rattle.rules.proofs.Maps.{exchange-maps}
 use Rattle.rules.proofs.Store.{afterPush, pushed, pushed-store, starts-last}
-use Rattle.rules.proofs.Moved.{enters-below, Flips, Swaps, columnOf, rowOf, helper, Pushes, Refactors, moves}
+use Rattle.rules.proofs.Moved.{Flips, Swaps, columnOf, rowOf, helper, dualNormOf, dualNormsOf, Pushes, Refactors, Exchanged, touched-vector, moves, dual-moves}
 use Rattle.rules.proofs.Refactored.{refactored-fits, refactored-numbers}
 
 -- ---- storing at the listed places
@@ -273,61 +273,121 @@ module _ (P : Problem) (p : ProblemFits P) (s : State) (f : Fits P s) (e : Enter
       swap-numbers P s f e c rowSv helper value diff row coeff leaving hc hr empty 0 (factoredAnew g (s .factor)) n old
       (λ i h. absurd (omega (arith, none-used))) (refactored-numbers P p s f (e .col) row hc hr g made)
 
--- ---- any step
-module _ (P : Problem) (p : ProblemFits P) (s : State) (f : Fits P s) (e : Entering) (enters : choose P (s .ws) ≡ Enters e) where
-  col-below : e .col < nOf P
-  col-below = enters-below P (s .ws) e enters
+-- ---- 02, Ask 8: the dual norms, put in
+module _ (P : Problem) (u : State) (l : List Float) where
+  with-norms-fits : mOf P ≤ length l → Fits P u → Fits P (stateWithDualNorms l u)
+  with-norms-fits h f =
+      let g = f .lengths in
+      let m = f .maps in
+      record {
+        lengths = record {
+          basicVars-long = g .basicVars-long;
+          basicVarVals-long = g .basicVarVals-long;
+          nbVars-long = g .nbVars-long;
+          nbVarVals-long = g .nbVarVals-long;
+          prices-long = g .prices-long;
+          norms-long = g .norms-long;
+          dualNorms-long = h;
+          flags-long = g .flags-long;
+          varStates-long = g .varStates-long;
+          leaving-long = g .leaving-long;
+          starts-long = g .starts-long;
+          rows-long = g .rows-long;
+          coeffs-long = g .coeffs-long;
+        };
+        maps = record {
+          place = λ k i. let x = m .place k i in record { var = x .var; back = x .back };
+          row = λ r i. let x = m .row r i in record { var = x .var; back = x .back };
+          variable = λ v i. let x = m .variable v i in record { cell = x .cell; non-basic = x .non-basic; basic = x .basic };
+        };
+        store = f .store;
+        factor = f .factor;
+        factorings = f .factorings;
+      }
 
-  -- the column solve of the step is in order
-  pub step-vector : Vector (mOf P) (stepColumn P s e)
-  step-vector = column-vector P p s f (s .ws .nbVars # e .col) (f .maps .place (e .col) col-below .var)
+  with-norms-numbers : ((r : ℕ) → r < mOf P → finite (l ! r) ≡ true) → Numbers P u → Numbers P (stateWithDualNorms l u)
+  with-norms-numbers h g =
+      record {
+        objective = g .objective;
+        basicVal = g .basicVal;
+        nbVal = g .nbVal;
+        price = g .price;
+        norm = g .norm;
+        dualNorm = h;
+        eta = g .eta;
+        factor = g .factor;
+      }
 
-  -- the leaving row is a row
-  pub row-below : (x : Swaps P s e) → x .row < mOf P
-  row-below x = rw (x .leaves .row-there) (step-vector .places-below .below (x .leaves .place) (x .leaves .listed-place))
+-- ---- an exchange, whichever step makes it
+module _ (P : Problem) (p : ProblemFits P) (s : State) (f : Fits P s) (e : Entering) (t : State) (x : Exchanged P s e t) where
+  abbrev z : Swaps P s e
+  z = x .swap
 
-  -- so is the column with the leaving row touched
-  pub touched-vector : (x : Swaps P s e) → Vector (mOf P) (columnOf P s e x)
-  touched-vector x = vector-touchAt (stepColumn P s e) (x .row) (rows-places P p) step-vector (row-below x)
+  norms-long : mOf P ≤ length (dualNormsOf P s e z)
+  norms-long = simp stored-long (f .lengths .dualNorms-long)
 
-  module _ (i : PivotInfo) (t : State) (steps : step P s e ≡ moved i t) where
-    -- the two maps between variables and places are each other's inverse after every step
-    pub step-fits : Fits P t
-    step-fits =
-        ⊎-elim
-        (λ (x : Flips P s e t). rw (x .after) (flip-fits P s e (stepColumn P s e) (x .value) (x .diff) f))
-        (⊎-elim
-        (λ (y : Pushes P s e t).
-        let x = y .swap in
-        rw (y .after)
-        (exchange-fits P s f e (columnOf P s e x) (rowOf P s e x) (helper P s e x) (x .value) (x .diff) (x .row) (x .coeff) (x .leaving)
-        col-below (row-below x) (touched-vector x) (y .fits)))
-        (λ (y : Refactors P s e t).
-        let x = y .swap in
-        rw (y .after)
-        (refactor-fits P p s f e (columnOf P s e x) (rowOf P s e x) (helper P s e x) (x .value) (x .diff) (x .row) (x .coeff) (x .leaving)
-        col-below (row-below x) (y .factor) (y .made))))
-        (moves P s e i t steps)
+  made-fits : Fits P t
+  made-fits =
+      ⊎-elim
+      (λ (y : Pushes P s e z t).
+      rw (y .after)
+      (with-norms-fits P _ (dualNormsOf P s e z) norms-long
+      (exchange-fits P s f e (columnOf P s e z) (rowOf P s e z) (helper P s e z) (z .value) (z .diff) (z .row) (z .coeff) (z .leaving)
+      (x .col-below) (x .row-below) (touched-vector P p s f e x) (y .fits))))
+      (λ (y : Refactors P s e z t).
+      rw (y .after)
+      (with-norms-fits P _ (dualNormsOf P s e z) norms-long
+      (refactor-fits P p s f e (columnOf P s e z) (rowOf P s e z) (helper P s e z) (z .value) (z .diff) (z .row) (z .coeff) (z .leaving)
+      (x .col-below) (x .row-below) (y .factor) (y .made))))
+      (x .stores)
 
-    -- every stored number is finite after every step
-    pub step-numbers : Numbers P s → Numbers P t
-    step-numbers g =
-        ⊎-elim
-        (λ (x : Flips P s e t). rw (x .after) (flip-numbers P s e (stepColumn P s e) (x .value) (x .diff) (x .passes) g))
-        (⊎-elim
-        (λ (y : Pushes P s e t).
-        let x = y .swap in
-        rw (y .after)
-        (exchange-numbers P s f e (columnOf P s e x) (rowOf P s e x) (helper P s e x) (x .value) (x .diff) (x .row) (x .coeff) (x .leaving)
-        col-below (row-below x) (touched-vector x) (y .fits) (y .passes) (y .column) g))
-        (λ (y : Refactors P s e t).
-        let x = y .swap in
-        rw (y .after)
-        (refactor-numbers P p s f e (columnOf P s e x) (rowOf P s e x) (helper P s e x) (x .value) (x .diff) (x .row) (x .coeff) (x .leaving)
-        col-below (row-below x) (y .factor) (y .made) (y .passes) g)))
-        (moves P s e i t steps)
+  made-numbers : Numbers P s → Numbers P t
+  made-numbers g =
+      let norms : (r : ℕ) → r < mOf P → finite (dualNormsOf P s e z ! r) ≡ true = λ r h.
+      stored-finite (columnOf P s e z) (dualNormOf P s e z) (s .ws .dualNorms) (x .passes .norms) r (g .dualNorm r h) in
+      ⊎-elim
+      (λ (y : Pushes P s e z t).
+      rw (y .after)
+      (with-norms-numbers P _ (dualNormsOf P s e z) norms
+      (exchange-numbers P s f e (columnOf P s e z) (rowOf P s e z) (helper P s e z) (z .value) (z .diff) (z .row) (z .coeff) (z .leaving)
+      (x .col-below) (x .row-below) (touched-vector P p s f e x) (y .fits) (x .passes .numbers) (y .column) g)))
+      (λ (y : Refactors P s e z t).
+      rw (y .after)
+      (with-norms-numbers P _ (dualNormsOf P s e z) norms
+      (refactor-numbers P p s f e (columnOf P s e z) (rowOf P s e z) (helper P s e z) (z .value) (z .diff) (z .row) (z .coeff) (z .leaving)
+      (x .col-below) (x .row-below) (y .factor) (y .made) (x .passes .numbers) g)))
+      (x .stores)
+
+-- ---- a primal step
+module _ (P : Problem) (p : ProblemFits P) (s : State) (f : Fits P s) (e : Entering) (enters : choose P (s .ws) ≡ Enters e) (i : PivotInfo)
+    (t : State) (steps : step P s e ≡ moved i t) where
+  -- the two maps between variables and places are each other's inverse after every step
+  pub step-fits : Fits P t
+  step-fits =
+      ⊎-elim (λ (x : Flips P s e t). rw (x .after) (flip-fits P s e (stepColumn P s e) (x .value) (x .diff) f))
+      (made-fits P p s f e t) (moves P p s f e enters i t steps)
+
+  -- every stored number is finite after every step
+  pub step-numbers : Numbers P s → Numbers P t
+  step-numbers g =
+      ⊎-elim (λ (x : Flips P s e t). rw (x .after) (flip-numbers P s e (stepColumn P s e) (x .value) (x .diff) (x .passes) g))
+      (λ (x : Exchanged P s e t). made-numbers P p s f e t x g) (moves P p s f e enters i t steps)
 
 pub step-sound : (P : Problem) (p : ProblemFits P) (s : State) → Sound P s → (e : Entering) → choose P (s .ws) ≡ Enters e → (i : PivotInfo) (t : State) → step P s e ≡ moved i t
     → Sound P t
 step-sound P p s g e enters i t q =
     record { fits = step-fits P p s (g .fits) e enters i t q; numbers = step-numbers P p s (g .fits) e enters i t q (g .numbers) }
+
+-- ---- a dual step
+module _ (P : Problem) (p : ProblemFits P) (s : State) (f : Fits P s) (l : LeavingVar) (h : l .row < mOf P) (i : PivotInfo) (t : State)
+    (steps : dualStep P s l ≡ moved i t) where
+  pub dual-fits : Fits P t
+  dual-fits = let x = dual-moves P p s l h i t steps in made-fits P p s f (x .0) t (x .1)
+
+  pub dual-numbers : Numbers P s → Numbers P t
+  dual-numbers = let x = dual-moves P p s l h i t steps in made-numbers P p s f (x .0) t (x .1)
+
+pub dual-sound : (P : Problem) (p : ProblemFits P) (s : State) → Sound P s → (l : LeavingVar) → l .row < mOf P → (i : PivotInfo) (t : State)
+    → dualStep P s l ≡ moved i t → Sound P t
+dual-sound P p s g l h i t q =
+    record { fits = dual-fits P p s (g .fits) l h i t q; numbers = dual-numbers P p s (g .fits) l h i t q (g .numbers) }

@@ -10,13 +10,13 @@ use Rattle.doubles.proofs.Loops.{both-true}
 use Rattle.doubles.proofs.Tests.{true-by}
 use Rattle.sparse.specs.Scattered.{Sv, listedFinite, sqNorm, Below}
 use Rattle.lu_factor_rules.specs.Factor.{Factor, factored, factorize}
-use Rattle.rules.specs.Plan.{Problem, State, Workspace, Etas, Factored, nOf, mOf}
+use Rattle.rules.specs.Plan.{Problem, State, Workspace, nOf, mOf}
 use Rattle.rules.specs.Choose.{choose}
 use Rattle.rules.specs.Basis.{rowCoeffsOf, helperOf, invRow, tauOf, touchAt, etaFits, basisAfter}
 use Rattle.rules.specs.Ratio.{rises}
 use Rattle.rules.specs.Choices.{Listed, maxStep, RatioGives, exchanges}
 use Rattle.rules.specs.DualChoices.{DualGives, exchanges as dual-exchanges}
-use Rattle.rules.specs.Pivot.{stored, storesFinite, newDualNorm, flipFinite, flipped, numbersFinite, etaFinite, exchangedTo, exchanged, refactored}
+use Rattle.rules.specs.Pivot.{stored, storesFinite, newDualNorm, flipFinite, flipped, numbersFinite, etaFinite, exchanged, refactored}
 use Rattle.rules.specs.Step.{stateWithDualNorms, step, dualStep, moved}
 use Rattle.rules.specs.Conditions.{EtaBroken, FactorBroken, Exchanges, ExchangesBoth, StepBroken, StoresTo, stepColumn, Moves, dualRow, DualMoves}
 use Rattle.rules.specs.Invariant.{ProblemFits, Fits, Vector}
@@ -29,7 +29,7 @@ use Rattle.rules.specs.declared.PivotInfo.the-variants.{Flip, Exchange}
 use Rattle.rules.specs.declared.Ratio.the-variants.{Pivot}
 use Rattle.rules.proofs.EnteringColumn.{enters-exactly}
 use Rattle.rules.proofs.LeavingRow.{candidate-means}
-use Rattle.rules.proofs.Vectors.{column-vector, row-vector}
+use Rattle.rules.proofs.Vectors.{rows-places, column-vector, row-vector, vector-touchAt}
 use Rattle.rules.proofs.Stops.{room, flip-broken, numbers-broken, norms-broken, column-broken, moves-exactly}
 use Rattle.rules.proofs.DualStops.{dual-moves-exactly}
 
@@ -87,10 +87,6 @@ module _ (P : Problem) (s : State) (e : Entering) where
   pub record Passes (x : Swaps) : Type 0 where
     pub numbers : numbersFinite P s e (columnOf x) (rowOf x) (helper x) (x .value) (x .diff) (x .row) (x .coeff) (x .leaving) ≡ true
     pub norms : storesFinite (columnOf x) (dualNormOf x) ≡ true
-
-  abbrev pub swapped : Swaps → Etas → ℕ → Factored → State
-  swapped x etas count factor = stateWithDualNorms (dualNormsOf x)
-      (exchangedTo P s e (columnOf x) (rowOf x) (helper x) (x .value) (x .diff) (x .row) (x .coeff) (x .leaving) etas count factor)
 
   -- with its eta column
   pub record Pushes (x : Swaps) (t : State) : Type 0 where
@@ -164,11 +160,19 @@ module _ (P : Problem) (s : State) (e : Entering) where
           stores = exchange-stores sound x;
         }
 
+-- the column solve of a step is in order, and so is the column with the leaving row touched
+module _ (P : Problem) (p : ProblemFits P) (s : State) (f : Fits P s) (e : Entering) where
+  solved-vector : e .col < nOf P → Vector (mOf P) (stepColumn P s e)
+  solved-vector h = column-vector P p s f (s .ws .nbVars # e .col) (f .maps .place (e .col) h .var)
+
+  pub touched-vector : {t : State} (x : Exchanged P s e t) → Vector (mOf P) (columnOf P s e (x .swap))
+  touched-vector x =
+      vector-touchAt (stepColumn P s e) (x .swap .row) (rows-places P p) (solved-vector (x .col-below)) (x .row-below)
+
 -- ---- a primal step
 module _ (P : Problem) (p : ProblemFits P) (s : State) (f : Fits P s) (e : Entering) (enters : choose P (s .ws) ≡ Enters e) where
-  -- its column solve is in order
   pub step-vector : Vector (mOf P) (stepColumn P s e)
-  step-vector = column-vector P p s f (s .ws .nbVars # e .col) (f .maps .place (e .col) (enters-below P (s .ws) e enters) .var)
+  step-vector = solved-vector P p s f e (enters-below P (s .ws) e enters)
 
   pub moves : (i : PivotInfo) (t : State) → step P s e ≡ moved i t → Flips P s e t ⊎ Exchanged P s e t
   unfolding StepBroken StoresTo
@@ -197,7 +201,9 @@ pub dual-moves : (P : Problem) (p : ProblemFits P) (s : State) (l : LeavingVar) 
 dual-moves P p s l hr i t q =
     let x = dual-moves-exactly P s l i t .0 q .chosen in
     let e = x .0 in
-    let m = x .1 .4 in
-    (e, exchange-made P s e (x .1 .0) (x .1 .1) (l .row) (x .1 .2) (l .value) t
-    (given-below (s .ws) l (dualRow P s l) e (x .1 .0) (x .1 .1) (x .1 .2) (row-vector P p s (l .row) .places-below) (x .1 .3))
-    hr (m .1 .0) (m .1 .1 .1))
+    let m = x .1 .4 in (
+      e,
+      exchange-made P s e (x .1 .0) (x .1 .1) (l .row) (x .1 .2) (l .value) t
+          (given-below (s .ws) l (dualRow P s l) e (x .1 .0) (x .1 .1) (x .1 .2) (row-vector P p s (l .row) .places-below) (x .1 .3))
+          hr (m .1 .0) (m .1 .1 .1),
+    )

@@ -22,17 +22,18 @@ use Rattle.rules.specs.Start.{startState, startWorkspace}
 use Rattle.rules.specs.Choose.{choose}
 use Rattle.rules.specs.Basis.{etaUsed, etaFits, etaEntryAt, rowCoeffsOf, basisAfter}
 use Rattle.rules.specs.Pivot.{storeTurn, stored, flipped, exchangedTo, exchanged, refactored}
-use Rattle.rules.specs.Step.{step, moved}
+use Rattle.rules.specs.Step.{stateWithDualNorms, step, dualStep, moved}
 use Rattle.rules.specs.Conditions.{stepColumn}
 use Rattle.rules.specs.declared.Entering.{Entering}
 use Rattle.rules.specs.declared.Choice.the-variants.{Enters}
+use Rattle.rules.specs.declared.LeavingVar.{LeavingVar}
 use Rattle.rules.specs.declared.PivotInfo.{PivotInfo}
 use Rattle.rules.specs.Invariant.{ProblemFits, Fits, Vector, Past, writtenTo, columnsWritten, entriesWritten, Tails}
 use Rattle.rules.proofs.Lists.{over-tail, spliced, spliced-tail}
 use Rattle.rules.proofs.Vectors.{row-vector, columns-places, vector-touchAt}
-use Rattle.rules.proofs.Moved.{enters-below, Flips, Swaps, columnOf, rowOf, helper, Pushes, Refactors, moves}
+use Rattle.rules.proofs.Moved.{enters-below, Flips, Swaps, columnOf, rowOf, helper, dualNormOf, dualNormsOf, Pushes, Refactors, Exchanged, touched-vector, step-vector, moves, dual-moves}
 use Rattle.rules.proofs.Refactored.{exact}
-use Rattle.rules.proofs.Keeps.{step-vector, touched-vector, row-below, used-after, etas-after, has-room}
+use Rattle.rules.proofs.Keeps.{used-after, etas-after, has-room}
 
 -- ---- the cells past n
 module _ {A : Type 0} where
@@ -198,24 +199,63 @@ module _ (P : Problem) (m : Memory) (s : State) (g : Tails P m s) (e : Entering)
           factor-past = past-trans (record { same = coeffs-behind factor x (s .factor .coeffs) }) (g .factor-coeffs-tail);
         })
 
+-- 02, Ask 8: the dual norms, put in
+with-norms-tails : (P : Problem) (m : Memory) (u : State) (l : List Float) → Past (mOf P) l (m .ws .dualNorms) → Tails P m u
+    → Tails P m (stateWithDualNorms l u)
+with-norms-tails P m u l h g =
+    record {
+      basicVars-tail = g .basicVars-tail;
+      basicVarVals-tail = g .basicVarVals-tail;
+      nbVars-tail = g .nbVars-tail;
+      nbVarVals-tail = g .nbVarVals-tail;
+      prices-tail = g .prices-tail;
+      norms-tail = g .norms-tail;
+      dualNorms-tail = h;
+      flags-tail = g .flags-tail;
+      varStates-tail = g .varStates-tail;
+      leaving-tail = g .leaving-tail;
+      starts-tail = g .starts-tail;
+      rows-tail = g .rows-tail;
+      coeffs-tail = g .coeffs-tail;
+      numbers-tail = g .numbers-tail;
+      factor-coeffs-tail = g .factor-coeffs-tail;
+    }
+
+-- ---- an exchange, whichever step makes it
+module _ (P : Problem) (p : ProblemFits P) (m : Memory) (s : State) (f : Fits P s) (g : Tails P m s) (e : Entering) (t : State)
+    (x : Exchanged P s e t) where
+  abbrev z : Swaps P s e
+  z = x .swap
+
+  touched-row : Vector (nOf P) (rowOf P s e z)
+  touched-row = vector-touchAt (rowCoeffsOf P s (z .row)) (e .col) (columns-places P p) (row-vector P p s (z .row)) (x .col-below)
+
+  made-tails : Tails P m t
+  made-tails =
+      let v = touched-vector P p s f e x in
+      let norms = past-stored (columnOf P s e z) (dualNormOf P s e z) (v .places-below) (g .dualNorms-tail) in
+      ⊎-elim
+      (λ (y : Pushes P s e z t).
+      rw (y .after)
+      (with-norms-tails P m _ (dualNormsOf P s e z) norms
+      (exchange-tails P m s g e (columnOf P s e z) v (x .col-below) f (rowOf P s e z) (helper P s e z) touched-row (z .value) (z .diff) (z .row)
+      (z .coeff) (z .leaving) (x .row-below) (y .fits))))
+      (λ (y : Refactors P s e z t).
+      rw (y .after)
+      (with-norms-tails P m _ (dualNormsOf P s e z) norms
+      (refactor-tails P m s g e (columnOf P s e z) v (x .col-below) f (rowOf P s e z) (helper P s e z) touched-row (z .value) (z .diff) (z .row)
+      (z .coeff) (z .leaving) (x .row-below) p (y .factor) (y .made))))
+      (x .stores)
+
 pub step-tails : (P : Problem) (p : ProblemFits P) (m : Memory) (s : State) (f : Fits P s) (g : Tails P m s) (e : Entering) → choose P (s .ws) ≡ Enters e → (i : PivotInfo) (t : State)
     → step P s e ≡ moved i t → Tails P m t
 step-tails P p m s f g e enters i t steps =
-    let hc = enters-below P (s .ws) e enters in
     ⊎-elim
-    (λ (x : Flips P s e t). rw (x .after) (flip-tails P m s g e (stepColumn P s e) (step-vector P p s f e enters) hc (x .value) (x .diff)))
-    (⊎-elim
-    (λ (y : Pushes P s e t).
-    let x = y .swap in
-    rw (y .after)
-    (exchange-tails P m s g e (columnOf P s e x) (touched-vector P p s f e enters x) hc f (rowOf P s e x) (helper P s e x)
-    (touched-row P p s e x hc) (x .value) (x .diff) (x .row) (x .coeff) (x .leaving) (row-below P p s f e enters x) (y .fits)))
-    (λ (y : Refactors P s e t).
-    let x = y .swap in
-    rw (y .after)
-    (refactor-tails P m s g e (columnOf P s e x) (touched-vector P p s f e enters x) hc f (rowOf P s e x) (helper P s e x)
-    (touched-row P p s e x hc) (x .value) (x .diff) (x .row) (x .coeff) (x .leaving) (row-below P p s f e enters x) p (y .factor) (y .made))))
-    (moves P s e i t steps)
-  where
-    touched-row : (P : Problem) (p : ProblemFits P) (s : State) (e : Entering) (x : Swaps P s e) → e .col < nOf P → Vector (nOf P) (rowOf P s e x)
-    touched-row P p s e x hc = vector-touchAt (rowCoeffsOf P s (x .row)) (e .col) (columns-places P p) (row-vector P p s (x .row)) hc
+    (λ (x : Flips P s e t).
+    rw (x .after)
+    (flip-tails P m s g e (stepColumn P s e) (step-vector P p s f e enters) (enters-below P (s .ws) e enters) (x .value) (x .diff)))
+    (made-tails P p m s f g e t) (moves P p s f e enters i t steps)
+
+pub dual-tails : (P : Problem) (p : ProblemFits P) (m : Memory) (s : State) (f : Fits P s) (g : Tails P m s) (l : LeavingVar) → l .row < mOf P
+    → (i : PivotInfo) (t : State) → dualStep P s l ≡ moved i t → Tails P m t
+dual-tails P p m s f g l h i t steps = let x = dual-moves P p s l h i t steps in made-tails P p m s f g (x .0) t (x .1)
