@@ -16,6 +16,7 @@ pub mod Touched
 pub mod Entered
 pub mod Before
 pub mod EnteringColumn
+pub mod DualLeaving
 pub mod LeavingRow
 pub mod Choices
 pub mod Refusals
