@@ -22,6 +22,7 @@ pub mod Choices
 pub mod Refusals
 pub mod FinalCheck
 pub mod Stops
+pub mod DualStops
 pub mod Answers
 pub mod DualStart
 pub mod Ran
