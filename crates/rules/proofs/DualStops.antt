@@ -19,7 +19,7 @@ use Rattle.rules.specs.declared.PivotInfo.{PivotInfo}
 use Rattle.rules.specs.declared.Stop.{Stop}
 use Rattle.rules.specs.declared.Stop.the-variants.{Finished, Spent as Stop·Spent, Unbounded as Stop·Unbounded, NotFinite as Stop·NotFinite, Singular as Stop·Singular, Infeasible as Stop·Infeasible}
 use Rattle.rules.proofs.DualColumn.{dual-ratio-exactly}
-use Rattle.rules.proofs.Stops.{clash, entries, also, past, nor, taken, pivot-broken, pivot-singular, pivot-other, pivot-moves}
+use Rattle.rules.proofs.Stops.{clash, entries, also, past, nor, pivot-broken, pivot-singular, pivot-other, pivot-moves}
 
 module _ (P : Problem) (s : State) (l : LeavingVar) where
   -- ---- the exchange that the ratio gives: its column, then as a primal one

@@ -18,7 +18,7 @@ use Rattle.rules.specs.Choices.{Listed, maxStep, RatioGives, exchanges}
 use Rattle.rules.specs.DualChoices.{DualGives, exchanges as dual-exchanges}
 use Rattle.rules.specs.Pivot.{stored, storesFinite, newDualNorm, flipFinite, flipped, numbersFinite, etaFinite, exchanged, refactored}
 use Rattle.rules.specs.Step.{stateWithDualNorms, step, dualStep, moved}
-use Rattle.rules.specs.Conditions.{EtaBroken, FactorBroken, Exchanges, ExchangesBoth, StepBroken, StoresTo, stepColumn, Moves, dualRow, DualMoves}
+use Rattle.rules.specs.Conditions.{EtaBroken, FactorBroken, Exchanges, ExchangesBoth, StepBroken, StoresTo, stepColumn, Moves, dualRow}
 use Rattle.rules.specs.Invariant.{ProblemFits, Fits, Vector}
 use Rattle.rules.specs.declared.Entering.{Entering}
 use Rattle.rules.specs.declared.Choice.the-variants.{Enters}

@@ -98,7 +98,7 @@ steps-count P s (one-more {k} {t} {u} e i r c q) = omega (arith, steps-count P s
 
 -- k steps that stand in one kind lead to one state
 module _ (P : Problem) (s : State) where
-  no-dual : {k : ℕ} {t : State} → Steps P s primal dual k t → ⊥
+  pub no-dual : {k : ℕ} {t : State} → Steps P s primal dual k t → ⊥
   no-dual (one-dual l i r c q) = no-dual r
 
   dual-same : {b : Kind} {k : ℕ} {t u : State} → Steps P s b dual k t → Steps P s b dual k u → t ≡ u

@@ -71,7 +71,7 @@ module _ {b : Bool} {w : Stop} {o : Outcome} {G : Type 0} (e : (b ≡ false) ↔
   pub nor : {y : Outcome} → ¬ (stopped w ≡ y) → ¬ (o ≡ y) → ¬ (orStop b w o ≡ y)
   nor n r h = r (past n Iff·rfl .0 h .1)
 
-pub taken : {i : PivotInfo} {t : State} {w : Stop} → ¬ (moved i t ≡ stopped w)
+taken : {i : PivotInfo} {t : State} {w : Stop} → ¬ (moved i t ≡ stopped w)
 taken h = clash (cc)
 
 -- ---- the dual norms, put into what an exchange gives

@@ -21,7 +21,7 @@ use Rattle.doubles.proofs.Tests.{true-by}
 use Rattle.sparse.specs.Scattered.{Sv, blank, putAt, touched, touchedBy, listed, listedVal, relisted}
 use Rattle.sparse.proofs.Laws.{untouched, no-both, none-set, falses, listed-marked, marked-listed}
 use Rattle.rules.specs.Plan.{Problem, State, Etas, nOf, mOf, rowCols, rowCoeffs, varStateOf}
-use Rattle.rules.specs.Basis.{factorSolve, factorSolveTransp, solveEtas, solve, etaTurnTransp, solveEtasTransp, solveTransp, rowSolve, scattered, colCoeffs, addEntry, addTurn, addRow, combine, rowCoeffsOf, helperOf}
+use Rattle.rules.specs.Basis.{factorSolve, factorSolveTransp, solveEtas, solve, etaTurnTransp, solveEtasTransp, solveTransp, rowSolve, scattered, colCoeffs, addEntry, addTurn, addRow, combine, rowCoeffsOf, tauOf, helperOf}
 use Rattle.rules.specs.Invariant.{ProblemFits, Store, Fits, Vector, Touched}
 use Rattle.rules.proofs.Maps.{split}
 use Rattle.rules.proofs.Vectors.{vector-blank, vector-putAt, rows-places, columns-places, vector-addEntry, vector-addRow, vector-combine, relisted-vector}
@@ -79,6 +79,11 @@ pub column-solve-first : (P : Problem) (s : State) → s .factor .there ≡ fals
     → colCoeffs P s v ≡ solveEtas (s .ws .etas) (s .etaCount) (scattered P v)
 unfolding colCoeffs solve factorSolve
 column-solve-first P s e v = rw e refl
+
+pub tau-first : (P : Problem) (s : State) → s .factor .there ≡ false → (y : Sv)
+    → tauOf P s y ≡ solveEtas (s .ws .etas) (s .etaCount) (relisted y)
+unfolding tauOf solve factorSolve
+tau-first P s e y = rw e refl
 
 -- ---- the transposed solve
 module _ (P : Problem) (f : ProblemFits P) where
