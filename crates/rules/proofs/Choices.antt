@@ -31,13 +31,13 @@ infinite-distance (inf s) nan h f = absurd (not-both f refl)
 infinite-distance (inf s) (inf t) h f = absurd (not-both f refl)
 infinite-distance (inf s) (fin t n d) h f = refl
 
-finite-below : (x : Float) → finite x ≡ true → lt x +inf ≡ true
+pub finite-below : (x : Float) → finite x ≡ true → lt x +inf ≡ true
 unfolding finite lt
 finite-below nan f = cc
 finite-below (inf s) f = cc
 finite-below (fin s m e) f = refl
 
-settles : (x a b d : Bool) → (b ≡ true → (a ≡ true) × (d ≡ true)) → x || (a && b && d) ≡ x || b
+pub settles : (x a b d : Bool) → (b ≡ true → (a ≡ true) × (d ≡ true)) → x || (a && b && d) ≡ x || b
 settles x a true d h = rw (h refl .0, h refl .1)
 settles x true false d h = refl
 settles x false false d h = refl

@@ -1,36 +1,27 @@
 -- What Harris' two passes mean, said apart from their loops. Assumes nothing.
-use mathlib.Core.Path.{_≡_, refl, subst}
+use mathlib.Core.Path.{_≡_, refl}
 use mathlib.Core.Bool.{Bool, true, false, not}
 use mathlib.Core.Logic.{_↔_, inl, inr, ⊎-elim}
 use Prim.Native.Nat.{ℕ, _<_, _≤_}
-use native.Mathlib.Omega.{arith}
 use borrow.Author.Tests.{not-true}
 use lib.Dec.{T}
-use lib.Ieee.{Float, nan, inf, fin, binary64, div, eq, lt, le, fits, ofBits}
+use lib.Ieee.{Float, binary64, lt, le, fits, ofBits}
 use lib.Ieee.Fits.{sub-fits}
-use Rattle.doubles.specs.Num.{_⊖_, _⊘_, f0, eps, -inf, finite, infinite, size}
+use Rattle.doubles.specs.Num.{_⊖_, f0, eps, -inf, finite, infinite}
 use Rattle.doubles.specs.Lists.{_!_}
 use Rattle.doubles.proofs.Loops.{both-true}
 use Rattle.doubles.proofs.Tests.{not-both, false-by}
-use Rattle.doubles.proofs.Order.{lt-irrefl, lt-trans, lt-number}
+use Rattle.doubles.proofs.Order.{lt-irrefl, lt-trans}
 use Rattle.doubles.specs.Words.{Under}
 use Rattle.doubles.proofs.Quotients.{notNegative, difference-sign, under}
-use Rattle.doubles.proofs.Largest.{Best, kept, took, best, above, atLeast, by-above, by-below, only-one}
+use Rattle.doubles.proofs.Largest.{Best, kept, took, best, by-below}
 use Rattle.sparse.specs.Scattered.{Sv, listed, listedVal}
 use Rattle.rules.specs.Plan.{Problem, Workspace}
-use Rattle.rules.specs.Ratio.{towardsMax, limitBy, limit, examined, relaxed, stepTo, passOneTurn, passOne, candidate, Leaving, leavingOf, passTwoTurn, passTwo}
+use Rattle.rules.specs.Ratio.{towardsMax, limitBy, limit, examined, relaxed, stepTo, passOneTurn, passOne, candidate, passTwoTurn, passTwo}
 use Rattle.rules.specs.Choices.{sizeAt, aheadAt, limitAt, quotientOne, quotientTwo, Examined, PassOne, Candidate, NoCandidate, Leaves}
+use Rattle.rules.proofs.Passes.{quotient-number, Left, left as passed, wins-exactly, none-exactly, at-most}
 
--- what is divided by a NaN is in no order
-quotient-number : (l a t : Float) → le (l ⊘ size a) t ≡ true → lt -inf (size a) ≡ true
-unfolding le lt eq div size
-quotient-number nan nan t h = cc
-quotient-number (inf s) nan t h = cc
-quotient-number (fin s m e) nan t h = cc
-quotient-number l (inf s) t h = refl
-quotient-number l (fin s m e) t h = refl
-
-nothing-left : (notNegative f0 ≡ true) × T (fits binary64 f0)
+pub nothing-left : (notNegative f0 ≡ true) × T (fits binary64 f0)
 unfolding notNegative fits ofBits
 nothing-left = (refl, tt)
 
@@ -48,7 +39,7 @@ room false bound x = go (lt bound x) refl
     go true h = (difference-sign bound x h, sub-fits binary64 x bound)
     go false h = nothing-left
 
-eps-sign : notNegative eps ≡ true
+pub eps-sign : notNegative eps ≡ true
 unfolding notNegative ofBits
 eps-sign = refl
 
@@ -108,40 +99,24 @@ module _ (P : Problem) (w : Workspace) (up : Bool) (c : Sv) where
 
   -- ---- pass two
   module _ (maxStep : Float) where
-    data Left : Leaving → Type 0 where
-      row : (k : ℕ) → Leaves P w up c maxStep k → Left (leavingOf k (sizeAt c k))
-      none : NoCandidate P w up c maxStep → Left (leavingOf (c .pat .count) -inf)
+    abbrev test-two : ℕ → Bool
+    test-two = candidate P w up c maxStep
 
-    number : (k : ℕ) → candidate P w up c maxStep k ≡ true → lt -inf (sizeAt c k) ≡ true
+    number : (k : ℕ) → test-two k ≡ true → lt -inf (sizeAt c k) ≡ true
     number k t = quotient-number (limitAt P w up c k) (listedVal c k) maxStep (candidate-means maxStep k .0 t .near)
 
-    left : Left (passTwo P w up c maxStep)
+    left : Left (c .pat .count) test-two (sizeAt c) number (passTwo P w up c maxStep)
     unfolding passTwo passTwoTurn
-    left = go (passTwo P w up c maxStep) (best by-above (candidate P w up c maxStep) (sizeAt c) (λ b. b .size) (λ k. leavingOf k (sizeAt c k)) (λ k. refl) (passTwoTurn P w up c maxStep) (λ k b. refl) (leavingOf (c .pat .count) -inf) (c .pat .count))
-      where
-        go : (b : Leaving) → Best above atLeast (candidate P w up c maxStep) (sizeAt c) (λ k. leavingOf k (sizeAt c k)) -inf (leavingOf (c .pat .count) -inf) (c .pat .count) b → Left b
-        go _ (kept h) = none (λ k l x. let t = candidate-means maxStep k .1 x in not-both (number k t) (h k l t))
-        go _ (took k l t a h f) = row k (record { inside = l; passes = t; largest = h; first = f })
-
-    leaves-by : {b : Leaving} → Left b → (k : ℕ) → k < c .pat .count → b .at ≡ k ↔ Leaves P w up c maxStep k
-    leaves-by (row j x) k l =
-        (λ q. subst (Leaves P w up c maxStep) q x, λ y. only-one x y (lt-number _ _ (number j (x .passes))) (lt-number _ _ (number k (y .passes))))
-    leaves-by (none n) k l = (λ q. absurd (omega arith), λ y. absurd (n k l (candidate-means maxStep k .0 (y .passes))))
-
-    stays-by : {b : Leaving} → Left b → b .at ≡ c .pat .count ↔ NoCandidate P w up c maxStep
-    stays-by (row k x) = (λ q. absurd (omega (arith, x .inside)), λ n. absurd (n k (x .inside) (candidate-means maxStep k .0 (x .passes))))
-    stays-by (none n) = (λ q. n, λ m. refl)
-
-    within-by : {b : Leaving} → Left b → b .at ≤ c .pat .count
-    within-by (row k x) = omega (arith, x .inside)
-    within-by (none n) = omega arith
+    left = passed (c .pat .count) test-two (sizeAt c) number (passTwoTurn P w up c maxStep) (λ k b. refl)
 
     pub within-list : passTwo P w up c maxStep .at ≤ c .pat .count
-    within-list = within-by left
+    within-list = at-most (c .pat .count) test-two (sizeAt c) number left
 
     pub leaves-exactly : (k : ℕ) → k < c .pat .count → passTwo P w up c maxStep .at ≡ k ↔ Leaves P w up c maxStep k
-    leaves-exactly = leaves-by left
+    leaves-exactly = wins-exactly (c .pat .count) test-two (sizeAt c) number left
 
     -- no row leaves exactly when no row is a candidate
     pub stays-exactly : passTwo P w up c maxStep .at ≡ c .pat .count ↔ NoCandidate P w up c maxStep
-    stays-exactly = stays-by left
+    stays-exactly =
+        let e = none-exactly (c .pat .count) test-two (sizeAt c) number left in
+        (λ q k l x. e .0 q k l (candidate-means maxStep k .1 x), λ n. e .1 (λ k l t. n k l (candidate-means maxStep k .0 t)))

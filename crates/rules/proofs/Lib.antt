@@ -17,8 +17,10 @@ pub mod Entered
 pub mod Before
 pub mod EnteringColumn
 pub mod DualLeaving
+pub mod Passes
 pub mod LeavingRow
 pub mod Choices
+pub mod DualColumn
 pub mod Refusals
 pub mod FinalCheck
 pub mod Stops

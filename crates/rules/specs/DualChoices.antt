@@ -47,14 +47,21 @@ abbrev pub entersUp : Bool → Float → Bool
 entersUp up a = elim (lt f0 a) [ true ↦ not up | false ↦ up ]
 
 module _ (w : Workspace) (up : Bool) (r : Sv) where
-  -- 02: it "has a row coefficient of size at least EPS and isn't already at the bound in the way of the move"
-  pub record Eligible (k : ℕ) : Type 0 where
-    pub of-size : le eps (sizeAt r k) ≡ true
-    pub free : mayMove (entersUp up (listedVal r k)) (flagsOf (w .flags # listed r k)) ≡ true
+  -- 02: column c "has a row coefficient of size at least EPS and isn't already at the bound in the way of the move"
+  pub record EligibleColumn (c : ℕ) : Type 0 where
+    pub of-size : le eps (size (r .vals ! c)) ≡ true
+    pub free : mayMove (entersUp up (r .vals ! c)) (flagsOf (w .flags # c)) ≡ true
 
-  -- 26: "no entering column exists for the leaving row"
+  -- the k-th listed one
+  abbrev pub Eligible : ℕ → Type 0
+  Eligible k = EligibleColumn (listed r k)
+
+  -- 26: "no entering column exists for the leaving row", of the row's list and of all columns
   abbrev pub NoneEligible : Type 0
   NoneEligible = (k : ℕ) → k < r .pat .count → ¬ Eligible k
+
+  abbrev pub NoColumn : ℕ → Type 0
+  NoColumn n = (c : ℕ) → c < n → ¬ EligibleColumn c
 
   -- "Pass one: … the smallest, from +inf"
   pub record DualPassOne (t : Float) : Type 0 where

@@ -1,0 +1,298 @@
+-- What the ratio on prices gives, and exactly when: 02's Ask 8, "a two-pass rule like the primal one, on prices", and 26.
+-- Assumes nothing.
+use mathlib.Core.Path.{_≡_, refl, sym, _∙_, subst}
+use mathlib.Core.Bool.{Bool, true, false, not, _&&_, _||_}
+use mathlib.Core.Logic.{_↔_, _⊎_, inl, inr, ⊎-elim}
+use Prim.Native.Nat.{ℕ, zero, suc, _*_, _<_, _≤_}
+use native.Mathlib.Nat.{mul-pos}
+use native.Mathlib.Omega.{arith}
+use borrow.Author.Tests.{ltb-true, ltb-false, lt-ltb, le-ltb, eqb-true}
+use lib.Dec.{T, ltb, eqb}
+use lib.IntN.{ℤ}
+use lib.ListN.{getD}
+use lib.Ieee.{Float, nan, inf, fin, binary64, add, div, eq, lt, le, neg, isNan, up, down, fits, ofBits}
+use lib.Ieee.Fits.{sub-fits, up-pos, down-pos}
+use Rattle.doubles.specs.Num.{_⊕_, _⊖_, _⊘_, f0, eps, +inf, -inf, finite, size}
+use Rattle.doubles.specs.Limits.{places}
+use Rattle.doubles.specs.Lists.{_!_, _#_}
+use Rattle.doubles.specs.Words.{Under}
+use Rattle.doubles.proofs.Bools.{itself, _both_, _either_, _neither_, turned, some-fails}
+use Rattle.doubles.proofs.Loops.{both-true}
+use Rattle.doubles.proofs.Tests.{not-both, false-by, true-by}
+use Rattle.doubles.proofs.Order.{lt-le-trans, le-total, le-not-lt, le-means}
+use Rattle.doubles.proofs.Quotients.{notNegative, under}
+use Rattle.doubles.proofs.Largest.{Best, kept, took, best, by-below}
+use Rattle.sparse.specs.Scattered.{Sv, listed, listedVal}
+use Rattle.sparse.proofs.Laws.{marked-listed}
+use Rattle.rules.specs.Plan.{Workspace, flagsOf}
+use Rattle.rules.specs.Invariant.{Vector}
+use Rattle.rules.specs.Ratio.{Leaving}
+use Rattle.rules.specs.Choices.{sizeAt}
+use Rattle.rules.specs.DualRatio.{leavingRises, mayMove, eligible, clamped, eligibleAt, priceAt, dualRelaxed, dualStepTo, dualSoundAt, dualSound, dualPassOneTurn, dualPassOne, dualCandidate, dualPassTwoTurn, dualPassTwo, dualExchangeOf, dualRatio}
+use Rattle.rules.specs.DualChoices.{entersUp, EligibleColumn, Eligible, NoneEligible, NoColumn, DualPassOne, DualUnsound, bad-quotient, bad-step, DualSound, EntersBy, DualGives, not-finite, nothing, exchanges}
+use Rattle.rules.specs.declared.NonBasicVarState.{NonBasicVarState}
+use Rattle.rules.specs.declared.LeavingVar.{LeavingVar}
+use Rattle.rules.specs.declared.DualRatio.{DualRatio}
+use Rattle.rules.specs.declared.DualRatio.the-variants.{Nothing}
+use Rattle.rules.proofs.Passes.{quotient-number, Left, left as passed, wins-exactly, none-exactly, at-most}
+use Rattle.rules.proofs.LeavingRow.{nothing-left, eps-sign}
+use Rattle.rules.proofs.Choices.{finite-below, settles}
+
+-- ---- which columns are looked at
+
+eps-above : lt f0 eps ≡ true
+unfolding lt ofBits
+eps-above = refl
+
+-- of size at least y, which is above 0.0: at least y, or at most -y
+sides : (n : ℕ) (d : ℤ) (a : Float) → le (fin false n d) (size a) ≡ true → (le (fin false n d) a ≡ true) ⊎ (le a (neg (fin false n d)) ≡ true)
+unfolding le lt eq neg size
+sides n d nan h = absurd (not-both h refl)
+sides n d (inf true) h = inr refl
+sides n d (inf false) h = inl refl
+sides n d (fin false m e) h = inl h
+sides n d (fin true m e) h =
+    inr (le-total (fin true n d) (fin true m e) (unfold isNan in refl) (unfold isNan in refl)
+    (le-ltb (m * up e * down d) (n * up d * down e) (le-means (n * up d * down e) (m * up e * down d) _ h)))
+
+below-size : (n : ℕ) (d : ℤ) (a : Float) → le a (neg (fin false (suc n) d)) ≡ true → le (fin false (suc n) d) (size a) ≡ true
+unfolding le lt eq neg size
+below-size n d nan h = absurd (not-both h refl)
+below-size n d (inf true) h = refl
+below-size n d (inf false) h = absurd (not-both h refl)
+below-size n d (fin false m e) h =
+    let some : 0 < suc n = omega arith in
+    let b = both-true (eqb (m * up e * down d) (suc n * up d * down e)) (eqb (m * up e * down d) 0) h in
+    absurd (omega (arith, eqb-true (m * up e * down d) _ (b .0), eqb-true (m * up e * down d) 0 (b .1), mul-pos (mul-pos some (up-pos d)) (down-pos e)))
+below-size n d (fin true m e) h =
+    le-total (fin false m e) (fin false (suc n) d) (unfold isNan in refl) (unfold isNan in refl)
+    (le-not-lt (fin true m e) (fin true (suc n) d) h)
+
+above-size : (a : Float) → lt f0 a ≡ true → a ≡ size a
+unfolding lt ofBits size
+above-size nan h = absurd (not-both h refl)
+above-size (inf true) h = absurd (not-both h refl)
+above-size (inf false) h = refl
+above-size (fin false m e) h = refl
+above-size (fin true m e) h = absurd (not-both h refl)
+
+eps-sides : (a : Float) → le eps (size a) ≡ true ↔ ((le eps a ≡ true) ⊎ (le a (neg eps) ≡ true))
+unfolding ofBits
+eps-sides a = (
+  sides _ _ a,
+  ⊎-elim (λ h. let p = lt-le-trans f0 eps a eps-above h in subst (λ x. le eps x ≡ true) (above-size a p) h) (below-size _ _ a),
+)
+
+-- the sign tells the way
+ways : (up : Bool) (a : Float) → (le eps a ≡ true → entersUp up a ≡ not up) × (le a (neg eps) ≡ true → entersUp up a ≡ up)
+ways up a = (
+  λ h. let p = lt-le-trans f0 eps a eps-above h in rw (p, entersUp),
+  λ h. let p = false-by (λ p. not-both (lt-le-trans f0 a (neg eps) p h) eps-under) in rw (p, entersUp),
+)
+  where
+    eps-under : lt f0 (neg eps) ≡ false
+    eps-under = unfold lt neg ofBits in refl
+
+-- 02: it "has a row coefficient of size at least EPS and isn't already at the bound in the way of the move"
+pub eligible-means : (up : Bool) (f : NonBasicVarState) (a : Float)
+    → eligible up f a ≡ true ↔ ((le eps (size a) ≡ true) × (mayMove (entersUp up a) f ≡ true))
+unfolding eligible
+eligible-means up f a = (
+  λ h. ⊎-elim
+      (λ b. (eps-sides a .1 (inl (b .0)), subst (λ u. mayMove u f ≡ true) (sym (ways up a .0 (b .0))) (b .1)))
+      (λ b. (eps-sides a .1 (inr (b .0)), subst (λ u. mayMove u f ≡ true) (sym (ways up a .1 (b .0))) (b .1)))
+      (e .0 h),
+  λ h. e .1 (⊎-elim
+      (λ s. inl (s, subst (λ u. mayMove u f ≡ true) (ways up a .0 s) (h .1)))
+      (λ s. inr (s, subst (λ u. mayMove u f ≡ true) (ways up a .1 s) (h .1)))
+      (eps-sides a .0 (h .0))),
+)
+  where
+    e : eligible up f a ≡ true
+        ↔ (((le eps a ≡ true) × (mayMove (not up) f ≡ true)) ⊎ ((le a (neg eps) ≡ true) × (mayMove up f ≡ true)))
+    e = (itself both itself) either (itself both itself)
+
+-- ---- the clamped price is a double that isn't negative, or no number
+size-double : (x : Float) → T (fits binary64 x) → T (fits binary64 (size x))
+unfolding fits size
+size-double nan t = t
+size-double (inf s) t = tt
+size-double (fin s zero e) t = t
+size-double (fin s (suc m) e) t = t
+
+clamped-double : (f : NonBasicVarState) (d : Float) → T (fits binary64 (clamped f d))
+unfolding clamped
+clamped-double f d = go ((f .«at_min» && lt d f0) || (f .«at_max» && lt f0 d))
+  where
+    go : (b : Bool) → T (fits binary64 (elim b [ true ↦ f0 | false ↦ d ⊖ f0 ]))
+    go true = nothing-left .1
+    go false = sub-fits binary64 d f0
+
+settles-size : (x a : Float) → T (fits binary64 x) → finite ((size x ⊕ eps) ⊘ size a) ≡ true → Under (size x) eps (size a)
+unfolding size add div notNegative finite fits
+settles-size nan a t h = absurd (not-both h refl)
+settles-size (inf s) a t h = under (inf false) eps a refl tt eps-sign h
+settles-size (fin s m e) a t h = under (fin false m e) eps a refl (size-double (fin s m e) t) eps-sign h
+
+module _ (w : Workspace) (up : Bool) (r : Sv) where
+  -- ---- the test of the quotients
+  abbrev flagsAt : ℕ → NonBasicVarState
+  flagsAt k = flagsOf (w .flags # listed r k)
+
+  looked-means : (k : ℕ) → eligibleAt w up r k ≡ true ↔ Eligible w up r k
+  looked-means k =
+      let e = eligible-means up (flagsAt k) (listedVal r k) in
+      (λ h. record { of-size = e .0 h .0; free = e .0 h .1 }, λ x. e .1 (x .of-size, x .free))
+
+  dual-settles : (k : ℕ) → finite (dualRelaxed w up r k) ≡ true → Under (priceAt w up r k) eps (sizeAt r k)
+  dual-settles k h = settles-size (clamped (flagsAt k) (w .prices ! listed r k)) (listedVal r k) (clamped-double (flagsAt k) (w .prices ! listed r k)) h
+
+  -- "A quotient of an eligible column that isn't finite: 23": pass one's quotient alone settles it
+  pub dual-one-test : (k : ℕ) → dualSoundAt w up r k ≡ not (eligibleAt w up r k) || finite (dualRelaxed w up r k)
+  dual-one-test k =
+      settles (not (eligibleAt w up r k)) true (finite (dualRelaxed w up r k)) (finite (dualStepTo w up r k))
+      (λ h. (refl, dual-settles k h .finite-too))
+
+  fails-at : (k : ℕ) → dualSoundAt w up r k ≡ false ↔ (Eligible w up r k × (finite (dualRelaxed w up r k) ≡ false))
+  fails-at k =
+      let e = turned (looked-means k) neither itself in
+      (λ h. e .0 (sym (dual-one-test k) ∙ h), λ x. dual-one-test k ∙ e .1 x)
+
+  unsound-exactly : dualSound w up r ≡ false ↔ DualUnsound w up r
+  unfolding dualSound
+  unsound-exactly = (λ h. let k = e .0 h in bad-quotient (k .0) (k .1) (k .2 .0) (k .2 .1), back)
+    where
+      e : dualSound w up r ≡ false ↔ ((k : ℕ) × (k < r .pat .count) × (Eligible w up r k × (finite (dualRelaxed w up r k) ≡ false)))
+      e = some-fails (r .pat .count) fails-at
+
+      back : DualUnsound w up r → dualSound w up r ≡ false
+      back (bad-quotient k l x h) = e .1 (k, l, (x, h))
+      back (bad-step k l x h) = e .1 (k, l, (x, false-by (λ f. not-both (dual-settles k f .finite-too) h)))
+
+  sound-by : dualSound w up r ≡ true → DualSound w up r
+  sound-by h = record { quotients = one; steps = λ k l x. dual-settles k (one k l x) .finite-too }
+    where
+      one : (k : ℕ) → k < r .pat .count → Eligible w up r k → finite (dualRelaxed w up r k) ≡ true
+      one k l x = true-by (λ f. not-both h (unsound-exactly .1 (bad-quotient k l x f)))
+
+  passes : DualSound w up r → dualSound w up r ≡ true
+  passes s = true-by (λ f. never-both (unsound-exactly .0 f))
+    where
+      never-both : DualUnsound w up r → ⊥
+      never-both (bad-quotient k l x h) = not-both (s .quotients k l x) h
+      never-both (bad-step k l x h) = not-both (s .steps k l x) h
+
+  -- ---- pass one
+  abbrev most : Float
+  most = dualPassOne w up r
+
+  pub dual-pass-one : DualPassOne w up r (dualPassOne w up r)
+  unfolding dualPassOne
+  dual-pass-one = go (dualPassOne w up r) (best by-below (eligibleAt w up r) (dualRelaxed w up r) (λ x. x) (dualRelaxed w up r) (λ k. refl) (dualPassOneTurn w up r) (λ k t. refl) +inf (r .pat .count))
+    where
+      go : (t : Float) → Best lt lt (eligibleAt w up r) (dualRelaxed w up r) (dualRelaxed w up r) +inf +inf (r .pat .count) t → DualPassOne w up r t
+      go _ (kept h) = record { smallest = λ k l x. h k l (looked-means k .1 x); one-of = inl refl }
+      go _ (took k l t a h f) =
+          record { smallest = λ j m x. h j m (looked-means j .1 x); one-of = inr (k, l, looked-means k .0 t, refl) }
+
+  -- ---- pass two
+  abbrev near : ℕ → Bool
+  near = dualCandidate w up r most
+
+  near-parts : (k : ℕ) → near k ≡ true → (eligibleAt w up r k ≡ true) × (le (dualStepTo w up r k) most ≡ true)
+  unfolding dualCandidate
+  near-parts k h = both-true (eligibleAt w up r k) _ h
+
+  near-by : (k : ℕ) → Eligible w up r k → le (dualStepTo w up r k) most ≡ true → near k ≡ true
+  unfolding dualCandidate
+  near-by k x h = rw (looked-means k .1 x, h)
+
+  number : (k : ℕ) → near k ≡ true → lt -inf (sizeAt r k) ≡ true
+  number k t = quotient-number (priceAt w up r k) (listedVal r k) most (near-parts k t .1)
+
+  abbrev best-two : Leaving
+  best-two = dualPassTwo w up r most
+
+  left : Left (r .pat .count) near (sizeAt r) number best-two
+  unfolding dualPassTwo dualPassTwoTurn
+  left = passed (r .pat .count) near (sizeAt r) number (dualPassTwoTurn w up r most) (λ k b. refl)
+
+  enters-exactly : (k : ℕ) → k < r .pat .count → best-two .at ≡ k ↔ EntersBy w up r k
+  enters-exactly = wins-exactly (r .pat .count) near (sizeAt r) number left
+
+  -- where every quotient is finite, a column that is eligible makes a candidate: the one that gave pass one's step
+  eligible-found : DualSound w up r → ((k : ℕ) → k < r .pat .count → near k ≡ true → ⊥) → NoneEligible w up r
+  eligible-found s n k l x =
+      ⊎-elim
+      (λ (q : most ≡ +inf). not-both (finite-below _ (s .quotients k l x)) (subst (λ t. lt (dualRelaxed w up r k) t ≡ false) q (dual-pass-one .smallest k l x)))
+      (λ j.
+      let y = j .2 in
+      n (j .0) (j .1) (near-by (j .0) y (rw (j .3) (dual-settles (j .0) (s .quotients (j .0) (j .1) y) .no-larger))))
+      (dual-pass-one .one-of)
+
+  none-so : NoneEligible w up r → (best-two .at ≡ r .pat .count)
+  none-so n = none-exactly (r .pat .count) near (sizeAt r) number left .1 (λ k l t. n k l (looked-means k .0 (near-parts k t .0)))
+
+  none-only : DualSound w up r → best-two .at ≡ r .pat .count → NoneEligible w up r
+  none-only s q = eligible-found s (none-exactly (r .pat .count) near (sizeAt r) number left .0 q)
+
+  all-sound : NoneEligible w up r → DualSound w up r
+  all-sound n = record { quotients = λ k l x. absurd (n k l x); steps = λ k l x. absurd (n k l x) }
+
+  up-to : best-two .at ≤ r .pat .count
+  up-to = at-most (r .pat .count) near (sizeAt r) number left
+
+-- ---- what the ratio gives
+module _ (w : Workspace) (l : LeavingVar) (r : Sv) where
+  abbrev rises : Bool
+  rises = leavingRises w l
+
+  abbrev place : ℕ
+  place = dualPassTwo w rises r (dualPassOne w rises r) .at
+
+  gives : {x : DualRatio} → DualGives w l r x → dualRatio w l r ≡ x
+  unfolding dualRatio dualExchangeOf
+  gives (not-finite u) = rw (unsound-exactly w rises r .1 u, dualRatio)
+  gives (nothing n) =
+      let past : ltb place (r .pat .count) ≡ false = le-ltb place (r .pat .count) (omega (arith, none-so w rises r n)) in
+      rw (passes w rises r (all-sound w rises r n), dualRatio, past)
+  gives (exchanges s k x) =
+      let at : place ≡ k = enters-exactly w rises r k (x .inside) .1 x in
+      rw (passes w rises r s, dualRatio, at, lt-ltb k (r .pat .count) (x .inside), at)
+
+  some-outcome : (x : DualRatio) × DualGives w l r x
+  some-outcome = go (dualSound w rises r) refl
+    where
+      found : DualSound w rises r → (b : Bool) → ltb place (r .pat .count) ≡ b → (x : DualRatio) × DualGives w l r x
+      found s true h = (_, exchanges s place (enters-exactly w rises r place (ltb-true _ _ h) .0 refl))
+      found s false h = (_, nothing (none-only w rises r s (omega (arith, up-to w rises r, ltb-false place (r .pat .count) h))))
+
+      go : (b : Bool) → dualSound w rises r ≡ b → (x : DualRatio) × DualGives w l r x
+      go false h = (_, not-finite (unsound-exactly w rises r .0 h))
+      go true h = found (sound-by w rises r h) _ refl
+
+  -- 02: "the entering column is chosen by a two-pass rule like the primal one, on prices"
+  pub dual-ratio-exactly : (x : DualRatio) → dualRatio w l r ≡ x ↔ DualGives w l r x
+  dual-ratio-exactly x = (λ q. subst (DualGives w l r) (sym (gives (some-outcome .1)) ∙ q) (some-outcome .1), gives)
+
+  of-26 : DualGives w l r Nothing → NoneEligible w rises r
+  of-26 (nothing n) = n
+
+  -- "No eligible column: 26"
+  pub infeasible-exactly : dualRatio w l r ≡ Nothing ↔ NoneEligible w (leavingRises w l) r
+  infeasible-exactly = (λ q. of-26 (dual-ratio-exactly Nothing .0 q), λ n. gives (nothing n))
+
+-- 02's own words of 26, over the columns: a place that the row doesn't list holds 0.0, which is under EPS
+pub no-column : (n : ℕ) (w : Workspace) (up : Bool) (r : Sv) → n ≤ places → Vector n r → NoneEligible w up r ↔ NoColumn w up r n
+no-column n w up r h v = (λ f c l x. go f c l x (getD (r .pat .marks) c false) refl, λ f k l. f (listed r k) (v .places-below .below k l))
+  where
+    small : le eps (size f0) ≡ false
+    small = unfold le lt eq size ofBits in refl
+
+    go : NoneEligible w up r → (c : ℕ) → c < n → EligibleColumn w up r c → (b : Bool) → getD (r .pat .marks) c false ≡ b → ⊥
+    go f c l x true q =
+        let k = marked-listed r (v .good) c q in
+        f (k .0) (k .1) (subst (EligibleColumn w up r) (sym (k .2)) x)
+    go f c l x false q =
+        let z : r .vals ! c ≡ f0 = v .good .zeros c (omega arith) q in
+        not-both (x .of-size) (subst (λ a. le eps (size a) ≡ false) (sym z) small)
