@@ -9,7 +9,7 @@ use Rattle.rules.specs.Choose.{choose}
 use Rattle.rules.specs.Basis.{etaUsed}
 use Rattle.rules.specs.DualRow.{chooseRow}
 use Rattle.rules.specs.Step.{step, dualStep, moved}
-use Rattle.rules.specs.Kinds.{Kind, dual, primal, firstKind, lastKind}
+use Rattle.rules.specs.Kinds.{Kind, dual, primal, firstKind}
 use Rattle.rules.specs.Answers.{asRow}
 use Rattle.rules.specs.Solve.{Solved}
 use Rattle.rules.specs.Invariant.{Sound, Past, Tails}
@@ -34,10 +34,10 @@ pub record Reached (P : Problem) (s : State) (b c : Kind) (t : State) (budget : 
   pub by-steps : Steps P s b c (t .steps) t
   pub within : t .steps ≤ budget
 
--- from the start of a plan, within its budget: at the end the run stands among its steps of the last kind
-abbrev pub RunsTo : Plan → Memory → State → Type 0
-RunsTo p m t =
-    Reached (problemOf p) (startState (problemOf p) m) (firstKind p) (lastKind (problemOf p) m) t (p .budget)
+-- from the start of a plan, within its budget, to t, where steps of kind c go on. A dual feasible start stands among its
+-- dual steps until no row leaves
+abbrev pub RunsTo : Plan → Memory → Kind → State → Type 0
+RunsTo p m c t = Reached (problemOf p) (startState (problemOf p) m) (firstKind p) c t (p .budget)
 
 -- 01: "After k steps the store has at most k columns and k times the row count of entries". The steps that made a factor
 -- leave none
@@ -55,7 +55,8 @@ pub record LentTails (P : Problem) (m m′ : Memory) (t : State) : Type 0 where
 
 -- 01: "Answers 0 and 20 to 24 carry the objective and step count of that state", "the workspace then holds the state after the last whole step"
 pub record Ran (p : Plan) (m : Memory) (r : Solved) (t : State) : Type 0 where
-  pub reached : RunsTo p m t
+  pub kind : Kind
+  pub reached : RunsTo p m kind t
   pub bounded : Bounded (problemOf p) t
   pub sound : Sound (problemOf p) t
   pub steps-told : asRow (r .answer) .steps ≡ t .steps
