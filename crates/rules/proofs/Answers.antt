@@ -49,10 +49,10 @@ use Rattle.rules.specs.declared.Answer.the-variants.{Optimal, BadSize, B
 -- ---- the run, from s with k steps left, among steps of one kind
 
 module _ (P : Problem) where
-  abbrev runs : ℕ → State → Ended
+  abbrev pub runs : ℕ → State → Ended
   runs k s = until (next P) (atBudget P) k s
 
-  abbrev dualRuns : ℕ → State → Ended
+  abbrev pub dualRuns : ℕ → State → Ended
   dualRuns k s = until (dualNext P) (dualAtBudget P) k s
 
   abbrev goesFrom : Kind → ℕ → State → Ended
@@ -65,7 +65,7 @@ module _ (P : Problem) where
   none-enters zero s q = rw (q, atBudget) refl
   none-enters (suc k) s q = rw (q, until, next) refl
 
-  none-leaves : (k : ℕ) (s : State) → chooseRow P (s .ws) ≡ Row·Nothing → dualRuns k s ≡ ended Finished s
+  pub none-leaves : (k : ℕ) (s : State) → chooseRow P (s .ws) ≡ Row·Nothing → dualRuns k s ≡ ended Finished s
   unfolding until dualNext dualAtBudget
   none-leaves zero s q = rw (q, dualAtBudget) refl
   none-leaves (suc k) s q = rw (q, until, dualNext) refl
