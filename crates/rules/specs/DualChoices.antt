@@ -13,7 +13,6 @@ use Rattle.rules.specs.Plan.{Problem, Workspace, mOf, flagsOf}
 use Rattle.rules.specs.Choices.{sizeAt}
 use Rattle.rules.specs.DualRow.{rowMin, rowMax, outsideAt, infeasibilityAt, rowScoreAt}
 use Rattle.rules.specs.DualRatio.{leavingRises, mayMove, dualRelaxed, dualStepTo, dualPassOne, dualCandidate}
-use Rattle.rules.specs.declared.NonBasicVarState.{NonBasicVarState}
 use Rattle.rules.specs.declared.Entering.{Entering}
 use Rattle.rules.specs.declared.LeavingVar.{LeavingVar}
 use Rattle.rules.specs.declared.DualRatio.{DualRatio}
