@@ -6,7 +6,7 @@ use mathlib.Core.Logic.{_↔_, _⊎_, inl, inr, ⊎-elim}
 use Prim.Native.Nat.{ℕ, zero, suc, _*_, _<_, _≤_}
 use native.Mathlib.Nat.{mul-pos}
 use native.Mathlib.Omega.{arith}
-use borrow.Author.Tests.{ltb-true, ltb-false, lt-ltb, le-ltb, eqb-true}
+use borrow.Author.Tests.{ltb-true, ltb-false, lt-ltb, le-ltb, eqb-true, not-true}
 use lib.Dec.{T, ltb, eqb}
 use lib.IntN.{ℤ}
 use lib.ListN.{getD}
@@ -29,7 +29,7 @@ use Rattle.rules.specs.Invariant.{Vector}
 use Rattle.rules.specs.Ratio.{Leaving}
 use Rattle.rules.specs.Choices.{sizeAt}
 use Rattle.rules.specs.DualRatio.{leavingRises, mayMove, eligible, clamped, eligibleAt, priceAt, dualRelaxed, dualStepTo, dualSoundAt, dualSound, dualPassOneTurn, dualPassOne, dualCandidate, dualPassTwoTurn, dualPassTwo, dualExchangeOf, dualRatio}
-use Rattle.rules.specs.DualChoices.{entersUp, EligibleColumn, Eligible, NoneEligible, NoColumn, DualPassOne, DualUnsound, bad-quotient, bad-step, DualSound, EntersBy, DualGives, not-finite, nothing, exchanges}
+use Rattle.rules.specs.DualChoices.{entersUp, FreeTo, Clamped, EligibleColumn, Eligible, NoneEligible, NoColumn, DualPassOne, DualUnsound, bad-quotient, bad-step, DualSound, EntersBy, DualGives, not-finite, nothing, exchanges}
 use Rattle.rules.specs.declared.NonBasicVarState.{NonBasicVarState}
 use Rattle.rules.specs.declared.LeavingVar.{LeavingVar}
 use Rattle.rules.specs.declared.DualRatio.{DualRatio}
@@ -93,26 +93,51 @@ ways up a = (
     eps-under : lt f0 (neg eps) ≡ false
     eps-under = unfold lt neg ofBits in refl
 
+free-means : (rises : Bool) (f : NonBasicVarState) → mayMove rises f ≡ true ↔ FreeTo rises f
+free-means true f =
+    (λ h. record { not-upper = λ _. not-true _ h; not-lower = λ q. absurd (not-both refl q) }, λ x. rw (x .not-upper refl))
+free-means false f =
+    (λ h. record { not-upper = λ q. absurd (not-both q refl); not-lower = λ _. not-true _ h }, λ x. rw (x .not-lower refl))
+
 -- 02: it "has a row coefficient of size at least EPS and isn't already at the bound in the way of the move"
 pub eligible-means : (up : Bool) (f : NonBasicVarState) (a : Float)
-    → eligible up f a ≡ true ↔ ((le eps (size a) ≡ true) × (mayMove (entersUp up a) f ≡ true))
+    → eligible up f a ≡ true ↔ ((le eps (size a) ≡ true) × FreeTo (entersUp up a) f)
 unfolding eligible
 eligible-means up f a = (
   λ h. ⊎-elim
-      (λ b. (eps-sides a .1 (inl (b .0)), subst (λ u. mayMove u f ≡ true) (sym (ways up a .0 (b .0))) (b .1)))
-      (λ b. (eps-sides a .1 (inr (b .0)), subst (λ u. mayMove u f ≡ true) (sym (ways up a .1 (b .0))) (b .1)))
+      (λ b. (eps-sides a .1 (inl (b .0)), subst (λ u. FreeTo u f) (sym (ways up a .0 (b .0))) (b .1)))
+      (λ b. (eps-sides a .1 (inr (b .0)), subst (λ u. FreeTo u f) (sym (ways up a .1 (b .0))) (b .1)))
       (e .0 h),
   λ h. e .1 (⊎-elim
-      (λ s. inl (s, subst (λ u. mayMove u f ≡ true) (ways up a .0 s) (h .1)))
-      (λ s. inr (s, subst (λ u. mayMove u f ≡ true) (ways up a .1 s) (h .1)))
+      (λ s. inl (s, subst (λ u. FreeTo u f) (ways up a .0 s) (h .1)))
+      (λ s. inr (s, subst (λ u. FreeTo u f) (ways up a .1 s) (h .1)))
       (eps-sides a .0 (h .0))),
 )
   where
-    e : eligible up f a ≡ true
-        ↔ (((le eps a ≡ true) × (mayMove (not up) f ≡ true)) ⊎ ((le a (neg eps) ≡ true) × (mayMove up f ≡ true)))
+    e : eligible up f a ≡ true ↔ (((le eps a ≡ true) × FreeTo (not up) f) ⊎ ((le a (neg eps) ≡ true) × FreeTo up f))
+    e = (itself both free-means (not up) f) either (itself both free-means up f)
+
+-- ---- the clamped price
+picks : (b : Bool) (x y : Float)
+    → (b ≡ true → elim b [ true ↦ x | false ↦ y ] ≡ x) × (b ≡ false → elim b [ true ↦ x | false ↦ y ] ≡ y)
+picks b x y = (λ q. rw q, λ q. rw q)
+
+pub clamped-means : (f : NonBasicVarState) (d : Float) → Clamped f d (clamped f d)
+unfolding clamped
+clamped-means f d =
+    record {
+      at-lower = λ p q. picks off f0 (d ⊖ f0) .0 (e .1 (inl (p, q)));
+      at-upper = λ p q. picks off f0 (d ⊖ f0) .0 (e .1 (inr (p, q)));
+      else-kept = λ a b. picks off f0 (d ⊖ f0) .1 (false-by (λ t. ⊎-elim (λ h. not-both (h .1) (a (h .0))) (λ h. not-both (h .1) (b (h .0))) (e .0 t)));
+    }
+  where
+    off : Bool
+    off = (f .«at_min» && lt d f0) || (f .«at_max» && lt f0 d)
+
+    e : off ≡ true ↔ (((f .«at_min» ≡ true) × (lt d f0 ≡ true)) ⊎ ((f .«at_max» ≡ true) × (lt f0 d ≡ true)))
     e = (itself both itself) either (itself both itself)
 
--- ---- the clamped price is a double that isn't negative, or no number
+-- it is a double that isn't negative, or no number
 size-double : (x : Float) → T (fits binary64 x) → T (fits binary64 (size x))
 unfolding fits size
 size-double nan t = t
