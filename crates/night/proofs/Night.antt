@@ -9,10 +9,12 @@ use Rattle.rules.specs.Plan.{slackMin, slackMax, varMin, varMax, keptRows, colu
 use Rattle.rules.specs.Refusals.{sizesFit, planLong, storeLong, workspaceLong, memoryLong, startsRise, passes1, passes2, badAt, firstBadRow, firstCrossed, zeroHolds, firstFalse}
 use Rattle.rules.specs.Start.{startVal, startDual, startVals, dualFeasible, startObjective, startSlack, startNorm, startWorkspace, startState, passes6, passes7}
 use Rattle.rules.specs.Choose.{mayEnter, scoreOf, betterTurn, bestColumn, otherVal, enteringOf, choose}
-use Rattle.rules.specs.Basis.{factorSolve, factorSolveTransp, etaTurn, solveEtas, solve, etaTurnTransp, solveEtasTransp, solveTransp, colCoeffs, addEntry, addRow, combine, rowCoeffsOf, helperOf, touchAt, etaEntry, etaFits, writeColumn, pushEta}
+use Rattle.rules.specs.DualRow.{tooLow, outside as outsideRow, infeasibilityOf, boundBroken, betterRowTurn, bestRow, leavingRowOf, chooseRow}
+use Rattle.rules.specs.DualRatio.{leavingRises, eligible, clamped, dualSound, dualPassOne, dualCandidate, dualPassTwoTurn, dualPassTwo, dualExchangeOf, dualRatio}
+use Rattle.rules.specs.Basis.{factorSolve, factorSolveTransp, etaTurn, solveEtas, solve, etaTurnTransp, solveEtasTransp, solveTransp, colCoeffs, addEntry, addRow, combine, rowCoeffsOf, helperOf, tauOf, touchAt, etaEntry, etaFits, writeColumn, pushEta}
 use Rattle.rules.specs.Ratio.{towardsMax, ahead, limitBy, limit, examined, relaxed, stepTo, soundRatios, passOne, candidate, passTwoTurn, passTwo, flipOf, exchangeOf, pivotOf, soundDistance, ratio}
-use Rattle.rules.specs.Pivot.{stored, storesFinite, flagsAt, newObjective, movedVal, flipFinite, flipped, newVal, newPrice, newNorm, numbersFinite, etaFinite, exchanged}
-use Rattle.rules.specs.Step.{exchange, flip, pivot, step, next, atBudget, runOf}
+use Rattle.rules.specs.Pivot.{stored, storesFinite, flagsAt, newObjective, movedVal, flipFinite, flipped, newVal, newPrice, newNorm, newDualNorm, numbersFinite, etaFinite, exchanged}
+use Rattle.rules.specs.Step.{exchange, bothNorms, flip, pivot, step, dualPivot, dualStep, next, atBudget, runOf, dualNext, dualAtBudget, dualRunOf, bothRuns}
 use Rattle.rules.specs.FinalCheck.{valueOf, valuesOf, counted, beyond, larger, valueExcess, rowExcess, excessAt, worstTurn, worst, judged, finalCheck}
 use Rattle.rules.specs.Answers.{asRow}
 use Rattle.rules.specs.Solve.{checkedAnswer, answerOf, valuesAfter, memoryAfter, close, endOf, solvePlan}
@@ -20,7 +22,7 @@ use Rattle.sheet_rules.specs.Sum.{sum, bit}
 use Rattle.sheet_rules.specs.Sheet.{holds, wrong, outside, termBy, term, lacksBy, lacks, activity, price, cost, floor, brokenRows, outsideAmounts, wrongSigns, absentNeeded, fresh, overKept}
 use Rattle.sheet_rules.specs.Opening.{firstFailed, sizesFine, allWithin, boundFine, boundsFine, opsFine, arraysFine, numbersFine, crosses, uncrossed, opening, opened}
 use Rattle.sheet_rules.specs.Verdict.{countFine, countsFine, keptFine, isZero, gap, noneExists, verdictBy, verdict}
-use Rattle.night.specs.Plans.{num, minus, oneRow, N1, N2, N3, N4, roomFor, kindsFrom}
+use Rattle.night.specs.Plans.{num, minus, oneRow, N1, N2, N3, N4, roomFor, kindsFrom, dualKindsFrom, kindsOf}
 use Rattle.night.specs.Cases.{shown, wanted, cases}
 
 pub night : map shown cases ≡ map wanted cases
@@ -30,12 +32,14 @@ unfolding
     sizesFit planLong storeLong workspaceLong memoryLong startsRise passes1 passes2 badAt firstBadRow firstCrossed zeroHolds firstFalse
     startVal startDual startVals dualFeasible startObjective startSlack startNorm startWorkspace startState passes6 passes7
     mayEnter scoreOf betterTurn bestColumn otherVal enteringOf choose
-    factorSolve factorSolveTransp takeOff etaTurn solveEtas solve etaTurnTransp solveEtasTransp solveTransp colCoeffs addEntry addRow combine rowCoeffsOf relisted helperOf touchAt listedFinite etaEntry etaFits writeColumn pushEta
+    tooLow outsideRow infeasibilityOf boundBroken betterRowTurn bestRow leavingRowOf chooseRow
+    leavingRises eligible clamped dualSound dualPassOne dualCandidate dualPassTwoTurn dualPassTwo dualExchangeOf dualRatio
+    factorSolve factorSolveTransp takeOff etaTurn solveEtas solve etaTurnTransp solveEtasTransp solveTransp colCoeffs addEntry addRow combine rowCoeffsOf relisted helperOf tauOf touchAt listedFinite etaEntry etaFits writeColumn pushEta
     towardsMax ahead limitBy limit examined relaxed stepTo soundRatios passOne candidate passTwoTurn passTwo flipOf exchangeOf pivotOf soundDistance ratio
-    stored storesFinite flagsAt newObjective movedVal flipFinite flipped newVal newPrice newNorm numbersFinite etaFinite exchanged
-    exchange flip pivot step next atBudget runOf valueOf valuesOf counted beyond larger valueExcess rowExcess excessAt worstTurn worst judged finalCheck asRow
+    stored storesFinite flagsAt newObjective movedVal flipFinite flipped newVal newPrice newNorm newDualNorm numbersFinite etaFinite exchanged
+    exchange bothNorms flip pivot step dualPivot dualStep next atBudget runOf dualNext dualAtBudget dualRunOf bothRuns valueOf valuesOf counted beyond larger valueExcess rowExcess excessAt worstTurn worst judged finalCheck asRow
     checkedAnswer answerOf valuesAfter memoryAfter close endOf solvePlan
     sum bit holds wrong outside termBy term lacksBy lacks activity price cost floor brokenRows outsideAmounts wrongSigns absentNeeded fresh overKept
     firstFailed sizesFine allWithin boundFine boundsFine opsFine arraysFine numbersFine crosses uncrossed opening opened countFine countsFine keptFine isZero gap noneExists verdictBy verdict
-    num minus oneRow N1 N2 N3 N4 roomFor kindsFrom shown wanted cases
+    num minus oneRow N1 N2 N3 N4 roomFor kindsFrom dualKindsFrom kindsOf shown wanted cases
 night = refl

@@ -1,4 +1,5 @@
 -- 01, "Night cases": the plans N1 to N4 as lent arrays, memory for them, and the kinds of the steps that the rules take. Assumes nothing.
+use mathlib.Core.Bool.{true, false}
 use mathlib.Core.List.{List, [], _∷_}
 use Prim.Native.Nat.{ℕ, zero, suc, _+_}
 use lib.IntN.{pos}
@@ -7,10 +8,13 @@ use lib.Ieee.{Float, binary64, neg, ofBits, ofInt}
 use Rattle.doubles.specs.Num.{f0, +inf}
 use Rattle.doubles.specs.Limits.{etaColumns, etaEntries, countCells}
 use Rattle.lu_factor_rules.specs.Packed.{factorNumbers, factorCoeffs}
-use Rattle.rules.specs.Plan.{Plan, Memory, Problem, State}
+use Rattle.rules.specs.Plan.{Plan, Memory, Problem, State, problemOf}
+use Rattle.rules.specs.Start.{startState, dualFeasible}
 use Rattle.rules.specs.Choose.{choose}
-use Rattle.rules.specs.Step.{step, moved, stopped}
+use Rattle.rules.specs.DualRow.{chooseRow}
+use Rattle.rules.specs.Step.{step, dualStep, moved, stopped}
 use Rattle.rules.specs.declared.Choice.the-variants.{Enters, Nothing}
+use Rattle.rules.specs.declared.RowChoice.the-variants.{Leaves, Nothing as Row·Nothing}
 use Rattle.rules.specs.declared.PivotInfo.{PivotInfo}
 use Rattle.rules.specs.declared.PivotInfo.the-variants.{Flip, Exchange}
 
@@ -75,6 +79,7 @@ roomFor p =
         nbVarVals = replicate n f0;
         prices = replicate n f0;
         norms = replicate n f0;
+        dualNorms = replicate m f0;
         flags = replicate n 0;
         varStates = replicate (n + m) 0;
         etas = record { leaving = replicate etaColumns 0; starts = replicate (etaColumns + 1) 0; rows = replicate etaEntries 0; coeffs = replicate etaEntries f0 };
@@ -85,10 +90,11 @@ roomFor p =
       factorCoeffs = replicate factorCoeffs f0;
     }
 
--- the kinds of the steps that the rules take, at most k of them
+-- the kinds of the steps that the rules take, at most k of them. 02: "dual steps for starts that are dual feasible"
 pub data Kind : Type 0 where
   flips : Kind
   exchanges : Kind
+  exchangesDually : Kind
 
 abbrev pub kindOf : PivotInfo → Kind
 kindOf (Flip v d) = flips
@@ -101,3 +107,17 @@ kindsFrom P (suc k) s =
       | Nothing ↦ []
       | Enters e ↦ elim (step P s e) [ moved i t ↦ kindOf i ∷ kindsFrom P k t | stopped w ↦ [] ]
     ]
+
+unfoldable pub dualKindsFrom : Problem → ℕ → State → List Kind
+dualKindsFrom P zero s = []
+dualKindsFrom P (suc k) s =
+    elim (chooseRow P (s .ws)) [
+      | Row·Nothing ↦ kindsFrom P (suc k) s
+      | Leaves l ↦ elim (dualStep P s l) [ moved i t ↦ exchangesDually ∷ dualKindsFrom P k t | stopped w ↦ [] ]
+    ]
+
+unfoldable pub kindsOf : Plan → ℕ → List Kind
+kindsOf p k =
+    let P = problemOf p in
+    let s = startState P (roomFor p) in
+    elim (dualFeasible p) [ true ↦ dualKindsFrom P k s | false ↦ kindsFrom P k s ]

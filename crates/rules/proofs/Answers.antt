@@ -2,7 +2,7 @@
 -- is one such state. Assumes nothing.
 use mathlib.Core.Path.{_≡_, refl, sym, ap, _∙_, subst}
 use mathlib.Core.Bool.{Bool, true, false}
-use mathlib.Core.Logic.{_↔_, _⊎_, inl, inr, ⊎-elim}
+use mathlib.Core.Logic.{_↔_, _⊎_, ⊎-elim}
 use Prim.Native.Nat.{ℕ, zero, suc, _+_, _-_, _<_, _≤_}
 use native.Mathlib.Omega.{arith}
 use mathlib.Core.List.{List}
@@ -13,7 +13,6 @@ use borrow.Author.Tests.{eq-eqb, ne-eqb}
 use Rattle.doubles.specs.Num.{f0, f1, eps, size}
 use Rattle.doubles.specs.Loop.{until}
 use Rattle.doubles.specs.Lists.{over}
-use Rattle.doubles.proofs.Bools.{never}
 use Rattle.doubles.proofs.Loops.{length-tab}
 use Rattle.rules.specs.Plan.{Plan, Memory, Problem, State, problemOf, nOf, mOf}
 use Rattle.rules.specs.Start.{dualFeasible, startState}
@@ -24,7 +23,7 @@ use Rattle.rules.specs.Kinds.{Kind, dual, primal, firstKind, kindAfter, 
 use Rattle.rules.specs.FinalCheck.{valuesOf, finalCheck}
 use Rattle.rules.specs.Answers.{Row as Told, asRow, numberOf}
 use Rattle.rules.specs.Solve.{Solved, checkedAnswer, answerOf, valuesAfter, memoryAfter, close, endOf, solvePlan}
-use Rattle.rules.specs.Conditions.{NoneBelow, Checks, AllSound, StopsWith, DualStopsWith, Halts, DualHalts, reached, written, Passes, Ends, Line, optimal, unbounded, spent, singular, infeasible, not-finite, value-rejected, row-rejected}
+use Rattle.rules.specs.Conditions.{NoneBelow, Checks, AllSound, StopsWith, DualStopsWith, Halts, DualHalts, reached, Passes, Ends, Line, optimal, unbounded, spent, singular, infeasible, not-finite, value-rejected, row-rejected}
 use Rattle.rules.specs.Steps.{Steps, none, one-dual, turns, one-more, Reached, RunsTo}
 use Rattle.rules.proofs.Refusals.{Case, refused, accepted, cases, none-refused}
 use Rattle.rules.proofs.Lengths.{tolerance-fits}
@@ -49,10 +48,10 @@ use Rattle.rules.specs.declared.Answer.the-variants.{Optimal, BadSize, B
 -- ---- the run, from s with k steps left, among steps of one kind
 
 module _ (P : Problem) where
-  abbrev runs : ℕ → State → Ended
+  abbrev pub runs : ℕ → State → Ended
   runs k s = until (next P) (atBudget P) k s
 
-  abbrev dualRuns : ℕ → State → Ended
+  abbrev pub dualRuns : ℕ → State → Ended
   dualRuns k s = until (dualNext P) (dualAtBudget P) k s
 
   abbrev goesFrom : Kind → ℕ → State → Ended
@@ -65,7 +64,7 @@ module _ (P : Problem) where
   none-enters zero s q = rw (q, atBudget) refl
   none-enters (suc k) s q = rw (q, until, next) refl
 
-  none-leaves : (k : ℕ) (s : State) → chooseRow P (s .ws) ≡ Row·Nothing → dualRuns k s ≡ ended Finished s
+  pub none-leaves : (k : ℕ) (s : State) → chooseRow P (s .ws) ≡ Row·Nothing → dualRuns k s ≡ ended Finished s
   unfolding until dualNext dualAtBudget
   none-leaves zero s q = rw (q, dualAtBudget) refl
   none-leaves (suc k) s q = rw (q, until, dualNext) refl

@@ -1,17 +1,19 @@
 -- What the ratio on prices gives, and exactly when: 02's Ask 8, "a two-pass rule like the primal one, on prices", and 26.
 -- Assumes nothing.
-use mathlib.Core.Path.{_≡_, refl, sym, _∙_, subst}
+use mathlib.Core.Path.{_≡_, refl, sym, ap, _∙_, subst}
 use mathlib.Core.Bool.{Bool, true, false, not, _&&_, _||_}
 use mathlib.Core.Logic.{_↔_, _⊎_, inl, inr, ⊎-elim}
-use Prim.Native.Nat.{ℕ, zero, suc, _*_, _<_, _≤_}
-use native.Mathlib.Nat.{mul-pos}
+use Prim.Native.Nat.{ℕ, zero, suc, _+_, _-_, _*_, _^_, _<_, _≤_}
+use native.Mathlib.Nat.{mul-one, zero-mul, mul-pos, mul-lt-mul-of-pos-right, lt-of-mul-lt-mul-right, lt-of-not-le, le-of-suc-le-suc}
 use native.Mathlib.Omega.{arith}
-use borrow.Author.Tests.{ltb-true, ltb-false, lt-ltb, le-ltb, eqb-true}
+use borrow.Author.Tests.{ltb-true, ltb-false, lt-ltb, le-ltb, eqb-true, not-true}
 use lib.Dec.{T, ltb, eqb}
-use lib.IntN.{ℤ}
+use lib.Pow.{pow-add, pow-pos, pow-lt}
+use lib.IntN.{ℤ, pos, negsuc}
 use lib.ListN.{getD}
-use lib.Ieee.{Float, nan, inf, fin, binary64, add, div, eq, lt, le, neg, isNan, up, down, fits, ofBits}
-use lib.Ieee.Fits.{sub-fits, up-pos, down-pos}
+use lib.Ieee.{Float, nan, inf, fin, Format, binary64, emax, low, add, sub, sum, round, div, eq, lt, le, neg, isNan, up, down, fits, ofBits}
+use lib.Ieee.Fits.{round-fits, sub-fits, up-pos, down-pos}
+use lib.Ieee.Exact.{HasValue, round-exact}
 use Rattle.doubles.specs.Num.{_⊕_, _⊖_, _⊘_, f0, eps, +inf, -inf, finite, size}
 use Rattle.doubles.specs.Limits.{places}
 use Rattle.doubles.specs.Lists.{_!_, _#_}
@@ -19,8 +21,10 @@ use Rattle.doubles.specs.Words.{Under}
 use Rattle.doubles.proofs.Bools.{itself, _both_, _either_, _neither_, turned, some-fails}
 use Rattle.doubles.proofs.Loops.{both-true}
 use Rattle.doubles.proofs.Tests.{not-both, false-by, true-by}
-use Rattle.doubles.proofs.Order.{lt-le-trans, le-total, le-not-lt, le-means}
-use Rattle.doubles.proofs.Quotients.{notNegative, under}
+use Rattle.doubles.proofs.Order.{lt-le-trans, le-total, le-not-lt, le-means, le-by}
+use Rattle.doubles.proofs.Quotients.{notNegative, places as placesOf, under}
+use Rattle.doubles.proofs.Floats.{size-zero}
+use Rattle.doubles.proofs.Once.{written-once}
 use Rattle.doubles.proofs.Largest.{Best, kept, took, best, by-below}
 use Rattle.sparse.specs.Scattered.{Sv, listed, listedVal}
 use Rattle.sparse.proofs.Laws.{marked-listed}
@@ -29,7 +33,7 @@ use Rattle.rules.specs.Invariant.{Vector}
 use Rattle.rules.specs.Ratio.{Leaving}
 use Rattle.rules.specs.Choices.{sizeAt}
 use Rattle.rules.specs.DualRatio.{leavingRises, mayMove, eligible, clamped, eligibleAt, priceAt, dualRelaxed, dualStepTo, dualSoundAt, dualSound, dualPassOneTurn, dualPassOne, dualCandidate, dualPassTwoTurn, dualPassTwo, dualExchangeOf, dualRatio}
-use Rattle.rules.specs.DualChoices.{entersUp, EligibleColumn, Eligible, NoneEligible, NoColumn, DualPassOne, DualUnsound, bad-quotient, bad-step, DualSound, EntersBy, DualGives, not-finite, nothing, exchanges}
+use Rattle.rules.specs.DualChoices.{entersUp, FreeTo, Clamped, EligibleColumn, Eligible, NoneEligible, NoColumn, DualPassOne, DualUnsound, bad-quotient, bad-step, DualSound, EntersBy, DualGives, not-finite, nothing, exchanges}
 use Rattle.rules.specs.declared.NonBasicVarState.{NonBasicVarState}
 use Rattle.rules.specs.declared.LeavingVar.{LeavingVar}
 use Rattle.rules.specs.declared.DualRatio.{DualRatio}
@@ -93,26 +97,33 @@ ways up a = (
     eps-under : lt f0 (neg eps) ≡ false
     eps-under = unfold lt neg ofBits in refl
 
+free-means : (rises : Bool) (f : NonBasicVarState) → mayMove rises f ≡ true ↔ FreeTo rises f
+free-means true f =
+    (λ h. record { not-upper = λ _. not-true _ h; not-lower = λ q. absurd (not-both refl q) }, λ x. rw (x .not-upper refl))
+free-means false f =
+    (λ h. record { not-upper = λ q. absurd (not-both q refl); not-lower = λ _. not-true _ h }, λ x. rw (x .not-lower refl))
+
 -- 02: it "has a row coefficient of size at least EPS and isn't already at the bound in the way of the move"
 pub eligible-means : (up : Bool) (f : NonBasicVarState) (a : Float)
-    → eligible up f a ≡ true ↔ ((le eps (size a) ≡ true) × (mayMove (entersUp up a) f ≡ true))
+    → eligible up f a ≡ true ↔ ((le eps (size a) ≡ true) × FreeTo (entersUp up a) f)
 unfolding eligible
 eligible-means up f a = (
   λ h. ⊎-elim
-      (λ b. (eps-sides a .1 (inl (b .0)), subst (λ u. mayMove u f ≡ true) (sym (ways up a .0 (b .0))) (b .1)))
-      (λ b. (eps-sides a .1 (inr (b .0)), subst (λ u. mayMove u f ≡ true) (sym (ways up a .1 (b .0))) (b .1)))
+      (λ b. (eps-sides a .1 (inl (b .0)), subst (λ u. FreeTo u f) (sym (ways up a .0 (b .0))) (b .1)))
+      (λ b. (eps-sides a .1 (inr (b .0)), subst (λ u. FreeTo u f) (sym (ways up a .1 (b .0))) (b .1)))
       (e .0 h),
   λ h. e .1 (⊎-elim
-      (λ s. inl (s, subst (λ u. mayMove u f ≡ true) (ways up a .0 s) (h .1)))
-      (λ s. inr (s, subst (λ u. mayMove u f ≡ true) (ways up a .1 s) (h .1)))
+      (λ s. inl (s, subst (λ u. FreeTo u f) (ways up a .0 s) (h .1)))
+      (λ s. inr (s, subst (λ u. FreeTo u f) (ways up a .1 s) (h .1)))
       (eps-sides a .0 (h .0))),
 )
   where
-    e : eligible up f a ≡ true
-        ↔ (((le eps a ≡ true) × (mayMove (not up) f ≡ true)) ⊎ ((le a (neg eps) ≡ true) × (mayMove up f ≡ true)))
-    e = (itself both itself) either (itself both itself)
+    e : eligible up f a ≡ true ↔ (((le eps a ≡ true) × FreeTo (not up) f) ⊎ ((le a (neg eps) ≡ true) × FreeTo up f))
+    e = (itself both free-means (not up) f) either (itself both free-means up f)
 
--- ---- the clamped price is a double that isn't negative, or no number
+-- ---- a double minus 0.0 is itself
+
+-- a double's size is a double
 size-double : (x : Float) → T (fits binary64 x) → T (fits binary64 (size x))
 unfolding fits size
 size-double nan t = t
@@ -120,6 +131,97 @@ size-double (inf s) t = tt
 size-double (fin s zero e) t = t
 size-double (fin s (suc m) e) t = t
 
+-- 2 ^ e in units of the format's smallest value
+in-units : (l : ℕ) (e : ℤ) → down e ≤ 2 ^ l → (j : ℕ) × (up e * 2 ^ l ≡ 2 ^ j * down e)
+in-units l (pos k) h = (k + l, rw (pow-add 2 k l) (omega arith))
+in-units l (negsuc k) h =
+    let b : suc k ≤ l = le-of-suc-le-suc (lt-of-not-le (λ (g : suc l ≤ suc k). omega (arith, pow-lt g))) in
+    let e : l - suc k + suc k ≡ l = omega arith in
+    (l - suc k, rw (← pow-add 2 (l - suc k) (suc k), e) (omega arith))
+
+-- a value of the format rounds to its own value, with either sign
+rounds-exactly : (f : Format) (s : Bool) (m : ℕ) (e : ℤ) → T (fits f (fin false (suc m) e))
+    → HasValue (round f s (suc m * up e) (down e)) s (suc m * up e) (down e)
+rounds-exactly f s m e t =
+    let p = placesOf f m e t in
+    let j = in-units (low f) e (p .lowest) in
+    let u : suc m * up e * 2 ^ low f ≡ suc m * 2 ^ (j .0) * down e = omega (arith, ap (λ (x : ℕ). suc m * x) (j .1)) in
+    let l : suc m * 2 ^ (j .0) < 2 ^ (low f + suc (emax f)) =
+    lt-of-mul-lt-mul-right (down e) (rw (← u, pow-add 2 (low f) (suc (emax f))) (omega (arith, mul-lt-mul-of-pos-right (p .in-size) (pow-pos (low f))))) in
+    round-exact f s (suc m * up e) (down e) (suc m) (j .0) (down-pos e) (p .few-digits) l u
+
+-- and a double is written in one way
+same-value : (s : Bool) (m : ℕ) (e : ℤ) (y : Float) → T (fits binary64 (fin s (suc m) e)) → T (fits binary64 y)
+    → HasValue y s (suc m * up e) (down e) → y ≡ fin s (suc m) e
+unfolding lt le eq size ofBits
+same-value s m e nan t u v = absurd v
+same-value s m e (inf r) t u v = absurd v
+same-value s m e (fin r n d) t u v =
+    let q : fin false (suc m) e ≡ fin false n d =
+    written-once (fin false (suc m) e) (fin false n d) (size-double (fin s (suc m) e) t) (size-double (fin r n d) u)
+    (lt-ltb (0 * 1 * down e) (suc m * up e * 1) (omega (arith, some)))
+    (le-by (suc m * up e * down d) (n * up d * down e) (omega (arith, v .1)))
+    (le-by (n * up d * down e) (suc m * up e * down d) (omega (arith, v .1))) in
+    cc (q, v .0)
+  where
+    some : 0 < suc m * up e
+    some = let n : 0 < suc m = omega arith in mul-pos n (up-pos e)
+
+rounds-to-itself : (s : Bool) (m : ℕ) (e : ℤ) → T (fits binary64 (fin s (suc m) e)) → round binary64 s (suc m * up e) (down e) ≡ fin s (suc m) e
+unfolding size
+rounds-to-itself s m e t =
+    same-value s m e _ t (round-fits binary64 s (suc m * up e) (down e)) (rounds-exactly binary64 s m e (size-double (fin s (suc m) e) t))
+
+-- 0.0 and -0.0 are written with the exponent 0
+zero-exponent : (s : Bool) (e : ℤ) → T (fits binary64 (fin s zero e)) → e ≡ pos 0
+unfolding eq size
+zero-exponent s e t =
+    let q : fin false 0 (pos 0) ≡ fin false 0 e = size-zero (fin false 0 e) (size-double (fin s 0 e) t) (rw (zero-mul (up e), zero-mul (down e))) in
+    cc q
+
+-- nan, the infinities, 0.0 and -0.0 too: `clamped` in `rules:DualRatio` leans on it
+pub kept-price : (d : Float) → T (fits binary64 d) → d ⊖ f0 ≡ d
+unfolding sub add neg sum ofBits
+kept-price nan t = refl
+kept-price (inf s) t = refl
+kept-price (fin true zero e) t = rw (zero-exponent true e t) (unfold round in refl)
+kept-price (fin false zero e) t = rw (zero-exponent false e t) (unfold round in refl)
+kept-price (fin true (suc m) e) t =
+    let a : suc m * up e * 1 + 0 * down e ≡ suc m * up e = omega arith in
+    rw (a, mul-one (down e)) (rounds-to-itself true m e t)
+kept-price (fin false (suc m) e) t =
+    let h : ltb (suc m * up e * 1) (0 * down e) ≡ false = le-ltb (suc m * up e * 1) (0 * down e) (omega arith) in
+    let a : suc m * up e * 1 - 0 * down e ≡ suc m * up e = omega arith in
+    rw (h, a, mul-one (down e)) (rounds-to-itself false m e t)
+
+-- ---- the clamped price
+picks : (b : Bool) (x y : Float)
+    → (b ≡ true → elim b [ true ↦ x | false ↦ y ] ≡ x) × (b ≡ false → elim b [ true ↦ x | false ↦ y ] ≡ y)
+picks b x y = (λ q. rw q, λ q. rw q)
+
+pub clamped-means : (f : NonBasicVarState) (d : Float) → Clamped f d (clamped f d)
+unfolding clamped
+clamped-means f d =
+    record {
+      at-lower = λ p q. picks off f0 (d ⊖ f0) .0 (e .1 (inl (p, q)));
+      at-upper = λ p q. picks off f0 (d ⊖ f0) .0 (e .1 (inr (p, q)));
+      else-kept = λ a b. picks off f0 (d ⊖ f0) .1 (false-by (λ t. ⊎-elim (λ h. not-both (h .1) (a (h .0))) (λ h. not-both (h .1) (b (h .0))) (e .0 t)));
+    }
+  where
+    off : Bool
+    off = (f .«at_min» && lt d f0) || (f .«at_max» && lt f0 d)
+
+    e : off ≡ true ↔ (((f .«at_min» ≡ true) × (lt d f0 ≡ true)) ⊎ ((f .«at_max» ≡ true) × (lt f0 d ≡ true)))
+    e = (itself both itself) either (itself both itself)
+
+-- of a price that is a double: 0.0 where its sign is the wrong one for the bound, else the price itself
+pub clamped-exactly : (f : NonBasicVarState) (d : Float) → T (fits binary64 d)
+    → clamped f d ≡ elim ((f .«at_min» && lt d f0) || (f .«at_max» && lt f0 d)) [ true ↦ f0 | false ↦ d ]
+unfolding clamped
+clamped-exactly f d t =
+    ap (λ x. elim ((f .«at_min» && lt d f0) || (f .«at_max» && lt f0 d)) [ true ↦ f0 | false ↦ x ]) (kept-price d t)
+
+-- it is a double
 clamped-double : (f : NonBasicVarState) (d : Float) → T (fits binary64 (clamped f d))
 unfolding clamped
 clamped-double f d = go ((f .«at_min» && lt d f0) || (f .«at_max» && lt f0 d))

@@ -1,27 +1,36 @@
--- No column enters at a dual feasible start: since 02's filter asks for a price of at least EPS in size, the steps by
--- themselves give what 01 says of such a start. Assumes nothing.
-use mathlib.Core.Path.{_≡_, refl, sym, _∙_, subst}
-use mathlib.Core.Bool.{Bool, true, false, _&&_}
-use Prim.Native.Nat.{ℕ, _+_, _*_, _<_}
+-- No column enters at a dual feasible start, since 02's filter asks for a price of at least EPS in size, and no row leaves
+-- where every slack starts within its bounds: the steps by themselves give what is said of such starts. Assumes nothing.
+use mathlib.Core.Path.{_≡_, refl, sym, ap, _∙_, subst}
+use mathlib.Core.Bool.{Bool, true, false, _&&_, _||_}
+use mathlib.Core.Logic.{⊎-elim}
+use Prim.Native.Nat.{ℕ, zero, suc, _+_, _-_, _*_, _<_}
 use native.Mathlib.Omega.{arith}
 use borrow.Author.Tests.{ltb-false, eqb-true, le-ltb, not-false}
-use lib.Ieee.{Float, nan, inf, fin, lt, eq, ne, neg, isNan, ofBits, up, down}
-use Rattle.doubles.specs.Num.{f0, eps, -inf, finite, infinite, size}
+use lib.Dec.{ltb}
+use lib.Ieee.{Float, nan, inf, fin, lt, le, eq, ne, neg, add, sub, isNan, ofBits, up, down}
+use Rattle.doubles.specs.Num.{_⊕_, _⊖_, f0, eps, +inf, -inf, finite, infinite, size}
 use Rattle.doubles.specs.Lists.{_!_, _#_}
 use Rattle.doubles.proofs.Floats.{differs}
 use Rattle.doubles.proofs.Loops.{both-true, all-at, getD-table}
 use Rattle.doubles.proofs.Order.{lt-irrefl, lt-trans, lt-le-trans, le-total, le-not-lt}
-use Rattle.doubles.proofs.Tests.{not-both, false-by, true-by}
-use Rattle.rules.specs.Plan.{Problem, Memory, nOf, flagsCell, flagsOf}
-use Rattle.rules.specs.Start.{lowerFirst, upperFirst, startVal, startDual, startValAt, startVals, dualFeasible, startFlags, startWorkspace, startState}
+use Rattle.doubles.proofs.Tests.{not-both, either, false-by, true-by}
+use Rattle.rules.specs.Plan.{Problem, Memory, Workspace, nOf, mOf, slackMin, slackMax, varMin, varMax, flagsCell, flagsOf}
+use Rattle.rules.specs.Start.{lowerFirst, upperFirst, startVal, startDual, startValAt, startVals, startSlack, dualFeasible, startFlags, startWorkspace, startState, inBounds, passes7}
 use Rattle.rules.specs.Choose.{mayEnter, passesFilter, scoreAt, choose}
-use Rattle.rules.specs.Step.{runOf}
+use Rattle.rules.specs.DualRow.{tooLow, outside, outsideAt, chooseRow}
+use Rattle.rules.specs.Step.{ended, runOf, dualRunOf, thenPrimal, bothRuns}
+use Rattle.rules.specs.Kinds.{dual, primal, firstKind}
 use Rattle.rules.specs.Solve.{endOf}
+use Rattle.rules.specs.Conditions.{Ends}
+use Rattle.rules.specs.Steps.{Steps, none, turns}
 use Rattle.rules.specs.declared.NonBasicVarState.{NonBasicVarState}
 use Rattle.rules.specs.declared.Choice.the-variants.{Nothing}
+use Rattle.rules.specs.declared.RowChoice.the-variants.{Nothing as Row·Nothing}
+use Rattle.rules.specs.declared.Stop.the-variants.{Finished}
 use Rattle.rules.proofs.Lists.{over-at}
 use Rattle.rules.proofs.EnteringColumn.{eps-number, size-number, filter-means, fixed-never, under-eps-never, price-number, nothing-exactly}
-use Rattle.rules.proofs.Answers.{none-enters, at-once}
+use Rattle.rules.proofs.DualLeaving.{none-exactly}
+use Rattle.rules.proofs.Answers.{runs, none-leaves, end-exact}
 
 -- ---- doubles
 self : (x : Float) → isNan x ≡ false → eq x x ≡ true
@@ -147,11 +156,93 @@ none-at-dual-start P m d = nothing-exactly P (startState P m .ws) .1 (λ c l t. 
         start-never cost lo hi number (all-at (λ j. startDual (p .costs ! j) (p .lowers ! j) (p .uppers ! j)) n d c l) in
         rw (cell, price, value, flags-back (eq (startValAt p c) lo) (eq (startValAt p c) hi)) one
 
--- 01: "If dual feasible, Optimal is reached at once with 0 steps (ours)": the steps by themselves end there
-pub steps-alone : (P : Problem) (m : Memory) → endOf P m ≡ runOf P (P .plan .budget) (startState P m)
-unfolding endOf runOf
-steps-alone P m = go (dualFeasible (P .plan)) refl
-  where
-    go : (b : Bool) → dualFeasible (P .plan) ≡ b → endOf P m ≡ runOf P (P .plan .budget) (startState P m)
-    go true d = at-once P m d ∙ sym (none-enters P (P .plan .budget) (startState P m) (none-at-dual-start P m d))
-    go false d = rw (d, endOf) refl
+-- ---- no row leaves where every slack starts within its bounds, which 7's test asks with no tolerance
+low-edge : lt (f0 ⊖ eps) f0 ≡ true
+unfolding lt sub ofBits
+low-edge = refl
+
+high-edge : lt f0 (f0 ⊕ eps) ≡ true
+unfolding lt add ofBits
+high-edge = refl
+
+nothing-below : (x : Float) → lt x -inf ≡ false
+unfolding lt
+nothing-below nan = refl
+nothing-below (inf true) = refl
+nothing-below (inf false) = refl
+nothing-below (fin s m e) = refl
+
+nothing-above : (x : Float) → lt +inf x ≡ false
+unfolding lt
+nothing-above nan = refl
+nothing-above (inf s) = refl
+nothing-above (fin s m e) = refl
+
+from-zero : (x : Float) → le f0 x ≡ true → lt x (f0 ⊖ eps) ≡ false
+from-zero x h = false-by (λ t. not-both (lt-trans x (f0 ⊖ eps) f0 t low-edge) (le-not-lt f0 x h))
+
+to-zero : (x : Float) → le x f0 ≡ true → lt (f0 ⊕ eps) x ≡ false
+to-zero x h = false-by (λ t. not-both (lt-trans f0 (f0 ⊕ eps) x high-edge t) (le-not-lt x f0 h))
+
+low-inside : (op : ℕ) (x : Float) → le (slackMin op) x ≡ true → lt x (slackMin op ⊖ eps) ≡ false
+unfolding slackMin sub ofBits
+low-inside zero x h = from-zero x h
+low-inside (suc zero) x h = from-zero x h
+low-inside (suc (suc k)) x h = nothing-below x
+
+high-inside : (op : ℕ) (x : Float) → le x (slackMax op) ≡ true → lt (slackMax op ⊕ eps) x ≡ false
+unfolding slackMax add ofBits
+high-inside zero x h = nothing-above x
+high-inside (suc zero) x h = to-zero x h
+high-inside (suc (suc k)) x h = to-zero x h
+
+module _ (P : Problem) (m : Memory) where
+  abbrev start : Workspace
+  start = startState P m .ws
+
+  abbrev opOf : ℕ → ℕ
+  opOf r = P .plan .ops # (P .kept # r)
+
+  slack-bounds : (r : ℕ) → (varMin P (nOf P + r) ≡ slackMin (opOf r)) × (varMax P (nOf P + r) ≡ slackMax (opOf r))
+  unfolding varMin varMax
+  slack-bounds r =
+      let above : ltb (nOf P + r) (nOf P) ≡ false = le-ltb (nOf P + r) (nOf P) (omega arith) in
+      let back : nOf P + r - nOf P ≡ r = omega arith in
+      (rw (above, varMin, back) refl, rw (above, varMax, back) refl)
+
+  never-outside : passes7 P ≡ true → (r : ℕ) → r < mOf P → outsideAt P start r ≡ false
+  unfolding passes7 startState startWorkspace outside tooLow
+  never-outside h r l =
+      let xs = startVals (P .plan) in
+      let b = both-true (le (slackMin (opOf r)) (startSlack P xs r)) (le (startSlack P xs r) (slackMax (opOf r)))
+      (all-at (λ r. inBounds (slackMin (opOf r)) (startSlack P xs r) (slackMax (opOf r))) (mOf P) h r l) in
+      let v : start .basicVars # r ≡ nOf P + r = over-at (mOf P) (λ r. nOf P + r) (m .ws .basicVars) 0 r l in
+      let x : start .basicVarVals ! r ≡ startSlack P xs r = over-at (mOf P) (startSlack P xs) (m .ws .basicVarVals) nan r l in
+      rw (v, x, slack-bounds r .0, slack-bounds r .1, low-inside (opOf r) (startSlack P xs r) (b .0), high-inside (opOf r) (startSlack P xs r) (b .1))
+
+  pub none-leaves-start : passes7 P ≡ true → chooseRow P (startState P m .ws) ≡ Row·Nothing
+  none-leaves-start h = none-exactly P start .1 (λ r l t. absurd (not-both t (never-outside h r l)))
+
+  -- 01: "If dual feasible, Optimal is reached at once with 0 steps (ours)": still so where every slack starts within its
+  -- bounds
+  pub at-once : dualFeasible (P .plan) ≡ true → passes7 P ≡ true → endOf P m ≡ ended Finished (startState P m)
+  unfolding firstKind Ends startState
+  at-once d h =
+      let first : firstKind (P .plan) ≡ dual = rw (d, firstKind) in
+      let steps : Steps P (startState P m) (firstKind (P .plan)) primal 0 (startState P m) = rw first (turns none (none-leaves-start h)) in
+      end-exact P m Finished (startState P m) .1 (primal, record { by-steps = steps; within = omega arith }, none-at-dual-start P m d)
+
+  -- the steps by themselves give what is said of an accepted plan: where the start isn't dual feasible no row leaves, so
+  -- that the dual steps could come first always
+  pub steps-alone : passes7 P || dualFeasible (P .plan) ≡ true → endOf P m ≡ bothRuns P (P .plan .budget) (startState P m)
+  unfolding endOf bothRuns startState runOf dualRunOf
+  steps-alone h = go (dualFeasible (P .plan)) refl
+    where
+      go : (b : Bool) → dualFeasible (P .plan) ≡ b → endOf P m ≡ bothRuns P (P .plan .budget) (startState P m)
+      go true d = rw (d, endOf) refl
+      go false d =
+          let seven : passes7 P ≡ true = ⊎-elim (λ q. q) (λ q. absurd (not-both q d)) (either (passes7 P) (dualFeasible (P .plan)) h) in
+          let all : P .plan .budget ≡ P .plan .budget - 0 = omega arith in
+          rw (d, endOf)
+          (ap (λ (k : ℕ). runs P k (startState P m)) all
+          ∙ sym (ap (thenPrimal P (P .plan .budget)) (none-leaves P (P .plan .budget - 0) (startState P m) (none-leaves-start seven))))

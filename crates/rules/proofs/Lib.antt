@@ -28,3 +28,4 @@ pub mod DualStops
 pub mod Answers
 pub mod DualStart
 pub mod Ran
+pub mod InWords

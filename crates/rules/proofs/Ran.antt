@@ -1,4 +1,4 @@
--- The answers 0 and 20 to 24: the state behind them, and what is lent afterwards. Assumes nothing.
+-- The answers 0 and 20 to 26: the state behind them, and what is lent afterwards. Assumes nothing.
 use mathlib.Core.Path.{_≡_, refl, ap, _∙_}
 use mathlib.Core.Bool.{Bool, true, false}
 use mathlib.Core.Logic.{_⊎_}
@@ -11,9 +11,10 @@ use Rattle.rules.specs.Plan.{Plan, Memory, Problem, State, problemOf, nO
 use Rattle.rules.specs.Start.{startState}
 use Rattle.rules.specs.FinalCheck.{valuesOf}
 use Rattle.rules.specs.Step.{Ended}
+use Rattle.rules.specs.Kinds.{Kind, lastKind}
 use Rattle.rules.specs.Answers.{Row as Told, asRow, numberOf}
 use Rattle.rules.specs.Solve.{Solved, answerOf, valuesAfter, memoryAfter, close, endOf, solvePlan}
-use Rattle.rules.specs.Conditions.{NoneBelow, reached, Line, optimal, unbounded, spent, singular, not-finite, value-rejected, row-rejected}
+use Rattle.rules.specs.Conditions.{NoneBelow, reached, Line, optimal, unbounded, spent, singular, infeasible, not-finite, value-rejected, row-rejected}
 use Rattle.rules.specs.Invariant.{Past, Tails}
 use Rattle.rules.specs.Steps.{LentTails, Ran}
 use Rattle.rules.specs.declared.Answer.{Answer}
@@ -42,12 +43,13 @@ module _ (P : Problem) (m : Memory) (e : Ended) where
       }
 
 -- a line of the table tells what its state has
-tells : {P : Problem} {s : State} {t : Told} → Line P s t → (t .steps ≡ s .steps) × (t .objective ≡ s .objective)
+tells : {P : Problem} {c : Kind} {s : State} {t : Told} → Line P c s t → (t .steps ≡ s .steps) × (t .objective ≡ s .objective)
 tells (optimal x h g) = (refl, refl)
 tells (unbounded h) = (refl, refl)
 tells (spent h) = (refl, refl)
 tells (singular h) = (refl, refl)
 tells (not-finite h) = (refl, refl)
+tells (infeasible r h) = (refl, refl)
 tells (value-rejected v x h g) = (refl, refl)
 tells (row-rejected r x h g) = (refl, refl)
 
@@ -74,6 +76,7 @@ module _ (p : Plan) (m : Memory) where
       let start = start-sound p m (pass .passes-1) (pass .passes-2) (pass .passes-3) (pass .passes-6) in
       let steps = end-reached P m .by-steps in
       record {
+        kind = lastKind P m;
         reached = end-reached P m;
         bounded = end-bounded P m fits (start .fits);
         sound = steps-sound P (startState P m) fits start steps;

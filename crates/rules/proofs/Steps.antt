@@ -163,6 +163,13 @@ module _ (P : Problem) (s : State) where
           let enters : e ≡ e′ = cc in
           cc
 
+  -- and to one whatever kind they stand in
+  pub steps-one : {b c d : Kind} {k : ℕ} {t u : State} → Steps P s b c k t → Steps P s b d k u → t ≡ u
+  steps-one {c = dual} {d = dual} r q = dual-same r q
+  steps-one {c = dual} {d = primal} r q = same-turned r q
+  steps-one {c = primal} {d = dual} r q = sym (same-turned q r)
+  steps-one {c = primal} {d = primal} r q = steps-same r q
+
 module _ (P : Problem) (s : State) (p : ProblemFits P) where
   pub steps-fit : Fits P s → {b c : Kind} {k : ℕ} {t : State} → Steps P s b c k t → Fits P t
   steps-fit f none = f

@@ -21,7 +21,8 @@ use Rattle.rules.specs.Choose.{choose}
 use Rattle.rules.specs.Basis.{colCoeffs, rowCoeffsOf, helperOf, invRow, tauOf, touchAt, etaUsed, etaEntryAt, basisAfter}
 use Rattle.rules.specs.Choices.{RatioGives}
 use Rattle.rules.specs.DualRow.{chooseRow}
-use Rattle.rules.specs.DualChoices.{DualGives}
+use Rattle.rules.specs.DualRatio.{leavingRises}
+use Rattle.rules.specs.DualChoices.{NoColumn, DualGives}
 use Rattle.rules.specs.Pivot.{stored, newObjective, movedVal, flipped, newVal, newPrice, newNorm, newDualNorm, exchanged, refactored}
 use Rattle.rules.specs.Step.{stateWithDualNorms}
 use Rattle.rules.specs.FinalCheck.{valuesOf, counted, placesOf}
@@ -428,6 +429,17 @@ Halts P s w = (e : Entering) × (choose P (s .ws) ≡ Enters e) × (s .steps < P
 
 abbrev pub DualHalts : Problem → State → Stop → Type 0
 DualHalts P s w = (l : LeavingVar) × (chooseRow P (s .ws) ≡ Leaves l) × (s .steps < P .plan .budget) × DualStopsWith P s l w
+
+-- 26 in 02's own words: row r is the leaving one, a step is left, the row's entries are finite, and "no column has a row
+-- coefficient of size at least EPS and isn't already at the bound in the way of the move that brings the leaving value
+-- towards the one it is to take"
+pub record NoEntering (P : Problem) (s : State) (r : ℕ) : Type 0 where
+  pub leaving : LeavingVar
+  pub leaves : chooseRow P (s .ws) ≡ Leaves leaving
+  pub row-is : r ≡ leaving .row
+  pub step-left : s .steps < P .plan .budget
+  pub entries : ¬ EntryBroken (dualRow P s leaving)
+  pub no-column : NoColumn (s .ws) (leavingRises (s .ws) leaving) (dualRow P s leaving) (nOf P)
 
 -- where no row leaves the dual steps turn into primal ones, so that a run ends among its dual steps by a stop alone
 unfoldable pub Ends : Problem → Kind → State → Stop → Type 0

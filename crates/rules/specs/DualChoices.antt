@@ -12,7 +12,7 @@ use Rattle.sparse.specs.Scattered.{Sv, listed, listedVal}
 use Rattle.rules.specs.Plan.{Problem, Workspace, mOf, flagsOf}
 use Rattle.rules.specs.Choices.{sizeAt}
 use Rattle.rules.specs.DualRow.{rowMin, rowMax, outsideAt, infeasibilityAt, rowScoreAt}
-use Rattle.rules.specs.DualRatio.{leavingRises, mayMove, dualRelaxed, dualStepTo, dualPassOne, dualCandidate}
+use Rattle.rules.specs.DualRatio.{leavingRises, dualRelaxed, dualStepTo, dualPassOne, dualCandidate}
 use Rattle.rules.specs.declared.NonBasicVarState.{NonBasicVarState}
 use Rattle.rules.specs.declared.Entering.{Entering}
 use Rattle.rules.specs.declared.LeavingVar.{LeavingVar}
@@ -46,11 +46,22 @@ NoneLeaves P w = (r : ℕ) → r < mOf P → outsideAt P w r ≡ true → lt -in
 abbrev pub entersUp : Bool → Float → Bool
 entersUp up a = elim (lt f0 a) [ true ↦ not up | false ↦ up ]
 
+-- "rising needs not at_max, falling not at_min"
+pub record FreeTo (rises : Bool) (f : NonBasicVarState) : Type 0 where
+  pub not-upper : rises ≡ true → f .«at_max» ≡ false
+  pub not-lower : rises ≡ false → f .«at_min» ≡ false
+
+-- "Price clamped: 0.0 where at_min and price < 0.0, or at_max and price > 0.0"
+pub record Clamped (f : NonBasicVarState) (price x : Float) : Type 0 where
+  pub at-lower : f .«at_min» ≡ true → lt price f0 ≡ true → x ≡ f0
+  pub at-upper : f .«at_max» ≡ true → lt f0 price ≡ true → x ≡ f0
+  pub else-kept : (f .«at_min» ≡ true → lt price f0 ≡ false) → (f .«at_max» ≡ true → lt f0 price ≡ false) → x ≡ price ⊖ f0
+
 module _ (w : Workspace) (up : Bool) (r : Sv) where
   -- 02: column c "has a row coefficient of size at least EPS and isn't already at the bound in the way of the move"
   pub record EligibleColumn (c : ℕ) : Type 0 where
     pub of-size : le eps (size (r .vals ! c)) ≡ true
-    pub free : mayMove (entersUp up (r .vals ! c)) (flagsOf (w .flags # c)) ≡ true
+    pub free : FreeTo (entersUp up (r .vals ! c)) (flagsOf (w .flags # c))
 
   -- the k-th listed one
   abbrev pub Eligible : ℕ → Type 0

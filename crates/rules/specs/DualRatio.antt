@@ -30,8 +30,9 @@ mayMove false f = not (f .«at_min»)
 unfoldable pub eligible : Bool → NonBasicVarState → Float → Bool
 eligible up f a = (le eps a && mayMove (not up) f) || (le a (neg eps) && mayMove up f)
 
--- "Price clamped: 0.0 where at_min and price < 0.0, or at_max and price > 0.0". Else it is the difference from 0.0, which
--- is the price bit for bit, and like the primal limit a double whatever the list of prices holds
+-- "Price clamped: 0.0 where at_min and price < 0.0, or at_max and price > 0.0". Else it is the difference from 0.0: a
+-- double whatever the list of prices holds, like the primal limit, and the price itself, -0.0 too, where that is a
+-- double (`rules!DualColumn` `kept-price`)
 unfoldable pub clamped : NonBasicVarState → Float → Float
 clamped f d = elim ((f .«at_min» && lt d f0) || (f .«at_max» && lt f0 d)) [ true ↦ f0 | false ↦ d ⊖ f0 ]
 

@@ -29,6 +29,16 @@ pub data Steps (P : Problem) (s : State) (b : Kind) : Kind → ℕ → State →
   one-more : {k : ℕ} {t u : State} (e : Entering) (i : PivotInfo) → Steps P s b primal k t → choose P (t .ws) ≡ Enters e
       → step P t e ≡ moved i u → Steps P s b primal (suc k) u
 
+-- k steps of both kinds, told apart: dual ones to a state where no row leaves, and primal ones from there
+pub record TurnsAt (P : Problem) (s : State) (k : ℕ) (t : State) : Type 0 where
+  pub duals : ℕ
+  pub primals : ℕ
+  pub between : State
+  pub by-duals : Steps P s dual dual duals between
+  pub none-leaves : chooseRow P (between .ws) ≡ Row·Nothing
+  pub by-primals : Steps P between primal primal primals t
+  pub together : duals + primals ≡ k
+
 -- t is reached from s by as many steps as it says, within the budget
 pub record Reached (P : Problem) (s : State) (b c : Kind) (t : State) (budget : ℕ) : Type 0 where
   pub by-steps : Steps P s b c (t .steps) t
