@@ -121,6 +121,11 @@ fn the_second_solver_agrees() {
         );
         assert_eq!(ours.outcome, fresh.outcome);
         assert_eq!(families::factorings(&ours), families::factorings(&fresh));
+        let dual = |answer: &Answer| {
+            let state = answer.state.as_ref();
+            state.map(|state| (state.dual_steps, state.in_dual))
+        };
+        assert_eq!(dual(&ours), dual(&fresh), "{}", plan.id);
         compared += 1;
     });
     assert!(compared > 120_000);

@@ -134,38 +134,31 @@ fn many_bits(rng: &mut Rng) -> f64 {
     1.0 + rng.unit()
 }
 
-/// The place that a draft is made for, and whether it is reached on a flip.
-type NamedDraft = ((Named, bool), Draft);
+/// A place that can be named, and whether it is reached on a flip.
+type Place = (Named, bool);
 
-/// A draft for each place that can be named.
-pub(super) fn drafts(rng: &mut Rng) -> Vec<NamedDraft> {
-    vec![
-        ((Named::Norm, false), norm_draft(rng)),
-        ((Named::Price, false), price_draft(rng)),
-        ((Named::Row, false), row_draft(rng)),
-        ((Named::Objective, true), flipped_objective_draft(rng)),
-        (
-            (Named::Column, false),
-            hidden_draft(rng, Named::Column, false),
-        ),
-        (
-            (Named::Helper, false),
-            hidden_draft(rng, Named::Helper, false),
-        ),
-        ((Named::Basic, true), hidden_draft(rng, Named::Basic, true)),
-        (
-            (Named::Quotient, false),
-            hidden_draft(rng, Named::Quotient, false),
-        ),
-        (
-            (Named::Objective, false),
-            hidden_draft(rng, Named::Objective, false),
-        ),
-        (
-            (Named::Basic, false),
-            hidden_draft(rng, Named::Basic, false),
-        ),
-    ]
+pub(super) const PLACES: [Place; 10] = [
+    (Named::Norm, false),
+    (Named::Price, false),
+    (Named::Row, false),
+    (Named::Objective, true),
+    (Named::Column, false),
+    (Named::Helper, false),
+    (Named::Basic, true),
+    (Named::Quotient, false),
+    (Named::Objective, false),
+    (Named::Basic, false),
+];
+
+/// A draft that is made for this place.
+pub(super) fn draft(rng: &mut Rng, (named, flip): Place) -> Draft {
+    match (named, flip) {
+        (Named::Norm, _) => norm_draft(rng),
+        (Named::Price, _) => price_draft(rng),
+        (Named::Row, _) => row_draft(rng),
+        (Named::Objective, true) => flipped_objective_draft(rng),
+        _ => hidden_draft(rng, named, flip),
+    }
 }
 
 /// One cascade of a little over half the exponents.
