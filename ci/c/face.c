@@ -103,7 +103,8 @@ static void plan(void) {
             && MARKED(numbers, TEVALUMI_KEPT + 1, TEVALUMI_COUNTS) && MARKED(numbers, TEVALUMI_NUMBERS, LEN(numbers)),
         "all other cells of numbers");
     check(MARKED(doubles, 1, TEVALUMI_NB_VAR_VALS) && MARKED(doubles, TEVALUMI_NB_VAR_VALS + 2, TEVALUMI_PRICES) && MARKED(doubles, TEVALUMI_PRICES + 2, TEVALUMI_NORMS)
-            && MARKED(doubles, TEVALUMI_NORMS + 2, TEVALUMI_ETA_COEFFS) && MARKED(doubles, TEVALUMI_ETA_COEFFS + counts[2], TEVALUMI_OBJECTIVE)
+            && MARKED(doubles, TEVALUMI_NORMS + 2, TEVALUMI_ETA_COEFFS) && MARKED(doubles, TEVALUMI_ETA_COEFFS + counts[2], TEVALUMI_DUAL_NORMS)
+            && MARKED(doubles, TEVALUMI_DUAL_NORMS + 1, TEVALUMI_OBJECTIVE)
             && MARKED(doubles, TEVALUMI_DOUBLES, LEN(doubles)),
         "all other cells of doubles");
     check(MARKED(factor_numbers, 0, LEN(factor_numbers)) && MARKED(factor_coeffs, 0, LEN(factor_coeffs)), "and no factor");
