@@ -509,9 +509,7 @@ pub enum Error {
 impl From<Failure> for Error {
     fn from(failure: Failure) -> Error {
         match failure.status() {
-            Status::CrossedBounds | Status::FalseEmptyRow | Status::Infeasible => {
-                Error::Infeasible
-            }
+            Status::CrossedBounds | Status::FalseEmptyRow | Status::Infeasible => Error::Infeasible,
             Status::Unbounded => Error::Unbounded,
             _ => Error::Other(failure),
         }

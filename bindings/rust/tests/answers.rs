@@ -206,7 +206,10 @@ fn every_number_is_reached_by_the_raw_call() {
 #[test]
 fn numbers_and_sentences_are_told_apart() {
     let numbers: Vec<u8> = Status::ALL.iter().map(|status| status.number()).collect();
-    assert_eq!(numbers, [0, 1, 2, 3, 4, 5, 6, 7, 20, 21, 22, 23, 24, 25, 26]);
+    assert_eq!(
+        numbers,
+        [0, 1, 2, 3, 4, 5, 6, 7, 20, 21, 22, 23, 24, 25, 26]
+    );
     let sentences: BTreeSet<&str> = Status::ALL.iter().map(|status| status.sentence()).collect();
     assert_eq!(sentences.len(), Status::ALL.len());
     for number in (8..20).chain(27..40) {
@@ -379,7 +382,9 @@ fn places_are_said_in_the_callers_numbers() {
     assert_eq!(none.place(), Place::KeptRow(1));
     assert_eq!((none.constraint(), none.variable()), (Some(2), None));
     assert_eq!((none.number(), none.excess()), (26, 0.0));
-    assert!(none.to_string().ends_with(" at least 1e-8 in size there (constraint 2)"));
+    assert!(none
+        .to_string()
+        .ends_with(" at least 1e-8 in size there (constraint 2)"));
 }
 
 /// Amounts between 0 and what is wanted start at what is wanted, which is more than there is: dual steps.
@@ -393,7 +398,10 @@ fn more_is_wanted_than_there_is() {
     assert_eq!(solution.objective(), 4100.0);
     assert_eq!(vars.map(|var| solution[var]), [50.0, 100.0, 750.0]);
     assert_eq!((solution.steps(), solution.slack(0)), (1, Some(0.0)));
-    assert_eq!((solution.multiplier(0), solution.price(vars[2])), (2.0, 3.0));
+    assert_eq!(
+        (solution.multiplier(0), solution.price(vars[2])),
+        (2.0, 3.0)
+    );
 
     problem.set_budget(0);
     let spent = error(&problem);
@@ -412,8 +420,13 @@ fn a_dual_step_leaves_both_kinds_of_norm() {
     assert_eq!(work.doubles[sections::NORMS][0], 1.25);
 
     let mut work = Workspace::new();
-    let failure = reaching(Status::Infeasible).solve_in(&mut work).unwrap_err();
-    assert_eq!((failure.number(), failure.steps(), failure.objective()), (26, 1, 2.0));
+    let failure = reaching(Status::Infeasible)
+        .solve_in(&mut work)
+        .unwrap_err();
+    assert_eq!(
+        (failure.number(), failure.steps(), failure.objective()),
+        (26, 1, 2.0)
+    );
     // The state after the step: the column stands in kept row 1, above its bound.
     assert_eq!(work.numbers[sections::BASIC_VARS][..2], [1, 0]);
     assert_eq!(work.doubles[sections::BASIC_VAR_VALS][..2], [3.0, 2.0]);
@@ -719,7 +732,11 @@ fn a_refusal_changes_no_cell_and_a_solve_keeps_the_tails() {
     let past_first = |cells: std::ops::Range<usize>| cells.start + 1..cells.end;
     let kept = &marked.numbers[past_first(sections::KEPT)];
     assert!(kept.iter().all(|&cell| cell == 77));
-    for section in [sections::NB_VAR_VALS, sections::ETA_COEFFS, sections::DUAL_NORMS] {
+    for section in [
+        sections::NB_VAR_VALS,
+        sections::ETA_COEFFS,
+        sections::DUAL_NORMS,
+    ] {
         let cells = &marked.doubles[past_first(section)];
         assert!(cells.iter().all(|&cell| cell == 77.0));
     }

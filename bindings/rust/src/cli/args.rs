@@ -91,9 +91,9 @@ cost) and where each stands, and the rows with activity, right side, slack and m
 At most 128 columns, 96 rows and 2,048 entries.
 
 The run begins with each column at the bound that its cost wants: below 0 the upper one, else the
-lower one; the other where that is infinite, 0 where both are. A plan with a row that isn't kept
-there, and with a column that has no bound on the side that its cost wants, is refused with 7, though
-it may have a solution.
+lower one; the other where that is infinite, 0 where both are. Where a row isn't kept there and a
+column has no bound on the side that its cost wants, the plan is refused with 7, though it may have
+a solution.
 
 formats: MPS, free or fixed, as GLPK, Clp and HiGHS write it; CPLEX-LP; the project's own text
          (docs/EXCHANGE.md); a plan that `tevalumi keep` wrote; each of them packed by gzip, where

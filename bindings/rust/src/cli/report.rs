@@ -434,7 +434,7 @@ pub fn sentence(plan: &Plan, solved: &Solved) -> String {
             largest(solved)
         ),
         (Status::Infeasible, Place::KeptRow(k)) => format!(
-            "Infeasible: the solver finds no column that could mend row {}, where {}: none that has room to move has a coefficient of at least {EPS:e} in size there.",
+            "Infeasible: the solver finds no column that could mend row {}, {}: none that has room to move has a coefficient of at least {EPS:e} in size there.",
             kept_name(plan, solved, k),
             out_of_bounds(plan, solved, k)
         ),
@@ -442,7 +442,7 @@ pub fn sentence(plan: &Plan, solved: &Solved) -> String {
     }
 }
 
-/// What is out of its bounds in a kept row: `column x stands at 2, above its upper bound 1`.
+/// What is out of its bounds in a kept row: `where column x stands at 2, above its upper bound 1`.
 fn out_of_bounds(plan: &Plan, solved: &Solved, row: usize) -> String {
     let (var, value) = solved.basic(row);
     match var.checked_sub(plan.columns) {
@@ -453,7 +453,7 @@ fn out_of_bounds(plan: &Plan, solved: &Solved, row: usize) -> String {
                 false => ("above its upper", upper),
             };
             format!(
-                "column {} stands at {}, {side} bound {}",
+                "where column {} stands at {}, {side} bound {}",
                 plan.column_name(var),
                 number(value),
                 number(bound)
@@ -461,11 +461,11 @@ fn out_of_bounds(plan: &Plan, solved: &Solved, row: usize) -> String {
         }
         Some(k) => {
             let i = solved.kept.get(k).copied().unwrap_or(k);
-            format!(
-                "row {} is broken ({})",
-                plan.row_name(i),
-                compared(plan, plan.rhs[i] - value, i)
-            )
+            let broken = compared(plan, plan.rhs[i] - value, i);
+            match k == row {
+                true => format!("which is broken ({broken})"),
+                false => format!("where row {} is broken ({broken})", plan.row_name(i)),
+            }
         }
     }
 }
