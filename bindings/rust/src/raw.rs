@@ -301,7 +301,7 @@ pub struct PlanRef<'a> {
 
 /// The memory of a solve: four arrays, room for every plan within the limits. [`sections`] says where what stands.
 ///
-/// It is some 376 KB, of which 297 KB are the factor's, and it can stand in a `static`:
+/// It is some 377 KB, of which 297 KB are the factor's, and it can stand in a `static`:
 ///
 /// ```
 /// use std::sync::Mutex;
