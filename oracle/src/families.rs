@@ -8,9 +8,12 @@ use crate::plan::{Lent, Plan};
 use crate::rng::Rng;
 use crate::shown::Options;
 
+mod dual;
 mod growth;
 mod refactor;
 
+use dual::dual;
+pub use dual::of_both_kinds;
 use growth::Cascade;
 use refactor::{cube, refactor};
 
@@ -158,7 +161,7 @@ impl Sink<'_> {
 
 type Make = fn(&mut Rng, &mut Sink);
 
-pub const FAMILIES: [(&str, Make); 26] = [
+pub const FAMILIES: [(&str, Make); 27] = [
     ("tiny", tiny),
     ("plain", plain),
     ("ties", ties),
@@ -185,6 +188,7 @@ pub const FAMILIES: [(&str, Make); 26] = [
     ("damaged", damaged),
     ("free", free_columns),
     ("refactor", refactor),
+    ("dual", dual),
 ];
 
 /// Makes the plans of all families whose name `wanted` accepts, in order.
@@ -229,8 +233,11 @@ fn search(
         tried += 1;
         assert!(
             tried < 200_000,
-            "{}: the search finds too little",
-            sink.family
+            "{}: the search finds {} of {}, after {} plans",
+            sink.family,
+            found,
+            count,
+            sink.count
         );
     }
 }
