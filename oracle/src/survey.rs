@@ -6,8 +6,8 @@ use std::hash::{DefaultHasher, Hash, Hasher};
 
 use crate::answer::{Answer, Named, Outcome, Rejected, StartNumber, State};
 use crate::families::{
-    bad_number_kind, factorings, of_both_kinds, BAD_NUMBERS, FREE_KINDS, LARGEST, SHORT_KINDS,
-    TURNING,
+    bad_number_kind, factorings, of_both_kinds, BAD_NUMBERS, DUAL_PLACES, FREE_KINDS, LARGEST,
+    SHORT_KINDS, TURNING,
 };
 use crate::gate;
 use crate::limits;
@@ -323,6 +323,9 @@ impl Survey {
             if !UNREACHED.contains(&named) {
                 at_least(20, format!("23 by {}", named.name()));
             }
+        }
+        for named in DUAL_PLACES {
+            at_least(50, format!("23 by {} in a dual step", named.name()));
         }
         // In no row nothing stops a free column that enters: 20.
         for (name, price) in TURNING {
