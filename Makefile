@@ -109,6 +109,11 @@ bench-peers: target/staticlib/libtevalumi.a
 bench-profile: target/staticlib/libtevalumi.a
 	bench/run --profile
 
+# The samples that Debian ships with GLPK and COIN, each through the program and through glpsol: a line for each within the limits.
+.PHONY: foreign
+foreign: tevalumi
+	bench/foreign
+
 # The sum behind R beside its plain form, on rows of 96 x 128 sheets, and what opening as a whole gains: a line for each arrangement and share of nonzeros.
 bench-sheet: target/staticlib/libtevalumi.a
 	bench/run --sheet

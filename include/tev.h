@@ -1,7 +1,7 @@
 /* A thin layer over tevalumi.h: two structs with their arrays inside, and a short call for each of the library's.
  *
  * TevPlan is a plan that is built column by column and row by row. TevWork is what a run leaves and the audit sheet.
- * Both are large (some 40 and 190 KB), so let them be static or on the heap. tevalumi.h says what each number and
+ * Both are large (some 40 and 490 KB), so let them be static or on the heap. tevalumi.h says what each number and
  * status means; firmware that must save memory lends its own arrays to the calls there. */
 #ifndef TEV_H
 #define TEV_H

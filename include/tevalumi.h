@@ -25,15 +25,19 @@ extern "C" {
  *              above 2
  *            3 a column number that is too large or doesn't rise     4 lower > upper
  *            5 an empty row that is false                            6 no longer given
- *            7 a slack that starts outside its bounds
+ *            7 a slack starts outside its bounds, and a cost doesn't prefer the bound that its column starts at
+ *              (a start that isn't dual feasible)
  *            ended with the state after the last whole step, and the values left alone:
  *            20 unbounded   21 the budget is spent   22 no longer given
  *            23 a number of the step isn't finite    24 the final check rejects
  *            25 the basis after an exchange can't be factored
+ *            26 no column can mend a row that is out of its bounds: none has a coefficient of at least 1e-8 in
+ *              size there and room for the move
  * objective  of that state
  * steps      taken, at most the budget
  * place      what at and within name: 0 nothing; 1 a row (at) and a place in it (within), with status
- *            3; 2 a column (4); 3 a row (5); 4 a value, columns before slacks (24); 5 a kept row (24)
+ *            3; 2 a column (4); 3 a row (5); 4 a value, columns before slacks (24); 5 a kept row (24; with 26
+ *            the one whose basic variable is out of its bounds)
  * excess     with status 0 and 24 the largest excess: of a value over a finite bound (lower - value or
  *            value - upper), +inf where the value isn't finite, and of a kept row the size of its right
  *            side - (its sum + its slack). 0.0 where nothing exceeds 0, and with any other status. 0
@@ -57,7 +61,7 @@ typedef struct {
  *   ops, rhs                       rows; 0 is <=, 1 is =, 2 is >=
  * Written on status 0:
  *   values                         columns + rows: the columns' values, then the kept rows' slacks
- * Written on status 0 and 20 to 25, the state, each array whole whatever the plan's sizes:
+ * Written on status 0 and 20 to 26, the state, each array whole whatever the plan's sizes:
  *   numbers                        TEVALUMI_NUMBERS cells
  *   doubles                        TEVALUMI_DOUBLES cells
  *   factor_numbers                 TEVALUMI_FACTOR_NUMBERS cells
@@ -70,6 +74,7 @@ typedef struct {
  *   VAR_STATES                     columns + kept rows: a variable's place, columns + row where it is basic
  *   ETA_LEAVING, ETA_STARTS        a column's leaving row, and where its entries start
  *   ETA_ROWS, ETA_COEFFS           the entries
+ *   DUAL_NORMS                     of the kept rows
  *   COUNTS                         7: kept rows, eta columns, eta entries, steps, status, 1 where there is
  *                                  a factor, factorings since the start
  *   OBJECTIVE                      1
@@ -97,7 +102,8 @@ typedef struct {
 #define TEVALUMI_PRICES (TEVALUMI_NB_VAR_VALS + 128)
 #define TEVALUMI_NORMS (TEVALUMI_PRICES + 128)
 #define TEVALUMI_ETA_COEFFS (TEVALUMI_NORMS + 128)
-#define TEVALUMI_OBJECTIVE (TEVALUMI_ETA_COEFFS + 4096)
+#define TEVALUMI_DUAL_NORMS (TEVALUMI_ETA_COEFFS + 4096)
+#define TEVALUMI_OBJECTIVE (TEVALUMI_DUAL_NORMS + 96)
 #define TEVALUMI_DOUBLES (TEVALUMI_OBJECTIVE + 1)
 
 #define TEVALUMI_PIVOTS 0

@@ -104,6 +104,23 @@ class Problems(unittest.TestCase):
         error = self.raises(21, n2(budget=1).solve)
         self.assertEqual((error.steps, error.objective), (1, -8.0))
 
+    def test_more_is_wanted_than_there_is(self):
+        wanted = {"lowers": [0, 0, 0], "uppers": [50, 300, 750]}
+        solution = tevalumi.solve([3, 2, 5], [[1, 1, 1]], ["<="], [900], maximise=True, **wanted)
+        self.assertEqual((solution.objective, solution.steps), (4100.0, 1))
+        self.assertEqual((solution.values, solution.multipliers), ([50.0, 100.0, 750.0], [2.0]))
+
+    def test_no_column_mends_a_row(self):
+        # Row 0 is dropped.
+        problem = Problem.of([1], [[0], [1], [1]], ["=", "<=", ">="], [0, 2, 3])
+        error = self.raises(26, problem.solve, Place("row", 1))
+        self.assertEqual((error.steps, error.objective, error.excess), (1, 3.0, 0.0))
+        self.assertIn("1e-8", error.sentence)
+
+    def test_a_start_that_neither_kind_of_step_begins_at(self):
+        error = self.raises(7, Problem.of([-1], [[1]], [">="], [1]).solve)
+        self.assertIn("a column has no bound on the side that its cost prefers", error.sentence)
+
     def test_the_final_check_names_the_row(self):
         # Row 0 is dropped, and 0.1 * (10 / 3 / 0.1) isn't 10 / 3 in doubles.
         problem = Problem.of([-1], [[0], [0.1]], ["=", "<="], [0, 10 / 3], tolerance=0.0)
@@ -268,8 +285,9 @@ class Files(unittest.TestCase):
         self.assertIn("nowhere.mps", err)
         self.assertEqual(twin("--bits", PLANS / "two-tunnels.mps")[0], 2)
         status, out, _ = twin(PLANS / "too-little-air.mps")
-        self.assertEqual(status, 1)
-        self.assertIn("\nstatus     7, a row isn't kept at the start", out)
+        self.assertEqual(status, 3)
+        self.assertIn("\nstatus     26, the solver finds no column that could mend a row: none that has room", out)
+        self.assertIn(" at least 1e-8 in size there (row 2).\nobjective  10 after the last whole step, no result\n", out)
 
     @unittest.skipUnless(PROGRAM, "no program is named")
     def test_the_program_answers_alike(self):

@@ -63,13 +63,16 @@ _SENTENCES = {
     4: "a lower bound is above its upper bound",
     5: "a row without entries is false",
     6: "a number of the start isn't finite",
-    7: "a row isn't kept at the start, and this solver only begins at plans that keep every row",
+    7: "a row isn't kept at the start, and a column has no bound on the side that its cost prefers: this solver begins "
+    "where every row is kept, or where every column has one",
     20: "unbounded: no bound and no row's coefficient of at least 1e-8 in size stops a column that makes the plan cheaper",
     21: "the step budget is spent",
     22: "the eta store is full",
     23: "a number of a step isn't finite",
     24: "the final check rejects the values",
     25: "the basis after an exchange can't be factored: every remaining entry of some column is under EPS",
+    26: "the solver finds no column that could mend a row: none that has room to move has a coefficient of at least 1e-8 "
+    "in size there",
     11: "a size is over its limit, an array is too short, or an index is outside the sheet",
     12: "a number is over the sheet's limit, or a mark isn't known",
     13: "a lower bound is above its upper bound",
@@ -98,7 +101,7 @@ class Place(NamedTuple):
 class Error(Exception):
     """What the library refused or didn't solve.
 
-    `number` is document 01's, `sentence` says it in words, `place` where it has one. With 20 to 25 `steps` and
+    `number` is document 01's, `sentence` says it in words, `place` where it has one. With 20 to 26 `steps` and
     `objective` are those after the last whole step, and with 24 `excess` is the largest excess.
     """
 
@@ -171,7 +174,7 @@ _RESULTS = {
 
 # The state's sections, as tevalumi.h has them.
 _NB_VARS, _KEPT, _COUNTS, _NUMBERS = 96, 5185, 5281, 5288
-_PRICES, _DOUBLES = 224, 4577
+_PRICES, _DOUBLES = 224, 4673
 _FACTOR_NUMBERS, _FACTOR_COEFFS = 18820, 18336
 
 

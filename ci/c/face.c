@@ -95,6 +95,7 @@ static void plan(void) {
     check(numbers[TEVALUMI_NB_VARS] == 2 && numbers[TEVALUMI_NB_VARS + 1] == 1, "the slack and column 1 are not");
     check(numbers[TEVALUMI_VAR_STATES] == 2 && numbers[TEVALUMI_VAR_STATES + 1] == 1 && numbers[TEVALUMI_VAR_STATES + 2] == 0, "the map back");
     check(doubles[TEVALUMI_PRICES] == 3 && doubles[TEVALUMI_PRICES + 1] == 2, "the prices");
+    check(doubles[TEVALUMI_DUAL_NORMS] == 1, "the dual norm");
     check(numbers[TEVALUMI_FLAGS] == 1 && numbers[TEVALUMI_FLAGS + 1] == 1, "the flags");
     check(numbers[TEVALUMI_ETA_LEAVING] == 0 && numbers[TEVALUMI_ETA_STARTS] == 0 && numbers[TEVALUMI_ETA_STARTS + 1] == counts[2], "the eta store");
     check(MARKED(numbers, 1, TEVALUMI_NB_VARS) && MARKED(numbers, TEVALUMI_NB_VARS + 2, TEVALUMI_VAR_STATES) && MARKED(numbers, TEVALUMI_VAR_STATES + 3, TEVALUMI_FLAGS)
@@ -103,7 +104,8 @@ static void plan(void) {
             && MARKED(numbers, TEVALUMI_KEPT + 1, TEVALUMI_COUNTS) && MARKED(numbers, TEVALUMI_NUMBERS, LEN(numbers)),
         "all other cells of numbers");
     check(MARKED(doubles, 1, TEVALUMI_NB_VAR_VALS) && MARKED(doubles, TEVALUMI_NB_VAR_VALS + 2, TEVALUMI_PRICES) && MARKED(doubles, TEVALUMI_PRICES + 2, TEVALUMI_NORMS)
-            && MARKED(doubles, TEVALUMI_NORMS + 2, TEVALUMI_ETA_COEFFS) && MARKED(doubles, TEVALUMI_ETA_COEFFS + counts[2], TEVALUMI_OBJECTIVE)
+            && MARKED(doubles, TEVALUMI_NORMS + 2, TEVALUMI_ETA_COEFFS) && MARKED(doubles, TEVALUMI_ETA_COEFFS + counts[2], TEVALUMI_DUAL_NORMS)
+            && MARKED(doubles, TEVALUMI_DUAL_NORMS + 1, TEVALUMI_OBJECTIVE)
             && MARKED(doubles, TEVALUMI_DOUBLES, LEN(doubles)),
         "all other cells of doubles");
     check(MARKED(factor_numbers, 0, LEN(factor_numbers)) && MARKED(factor_coeffs, 0, LEN(factor_coeffs)), "and no factor");

@@ -48,6 +48,22 @@ static void plans(void) {
     check(tev_solve(&plan, &work).status == 2, "the tolerance of the plan");
 }
 
+/* More is wanted than there is: dual steps; and rows that can't be kept together. */
+static void dual(void) {
+    tev_begin(&plan);
+    size_t a = tev_column(&plan, -3, 0, 50), b = tev_column(&plan, -2, 0, 300), c = tev_column(&plan, -5, 0, 750);
+    tev_row(&plan, TEV_LE, 900), tev_entry(&plan, a, 1), tev_entry(&plan, b, 1), tev_entry(&plan, c, 1);
+    TevalumiAnswer answer = tev_solve(&plan, &work);
+    check(answer.status == 0 && answer.objective == -4100 && answer.steps == 1, "a dual step's answer");
+    check(work.values[a] == 50 && work.values[b] == 100 && work.values[c] == 750, "its values");
+    check(work.doubles[TEVALUMI_DUAL_NORMS] == 1, "its dual norm");
+    tev_row(&plan, TEV_GE, 901), tev_entry(&plan, a, 1), tev_entry(&plan, b, 1), tev_entry(&plan, c, 1);
+    answer = tev_solve(&plan, &work);
+    check(answer.status == 26 && answer.steps == 1 && answer.objective == -4100, "26");
+    check(answer.place == 5 && answer.at == 1 && answer.within == 0 && answer.excess == 0, "its kept row");
+    check(work.numbers[TEVALUMI_COUNTS + 4] == 26 && work.doubles[TEVALUMI_BASIC_VAR_VALS + 1] == 1, "its state");
+}
+
 /* What is too much is counted, stands nowhere, and is refused. */
 static void limits(void) {
     tev_begin(&plan);
@@ -194,6 +210,7 @@ static void triangles(void) {
 
 int main(void) {
     plans();
+    dual();
     limits();
     sheets();
     files();

@@ -37,6 +37,7 @@ pub fn section(name: Name) -> Section {
         Name::Etaptr => Section::Numbers(sections::ETA_STARTS),
         Name::Etaidx => Section::Numbers(sections::ETA_ROWS),
         Name::Etaval => Section::Doubles(sections::ETA_COEFFS),
+        Name::Dnorm => Section::Doubles(sections::DUAL_NORMS),
         Name::Counts => Section::Numbers(sections::COUNTS),
         Name::Obj => Section::Doubles(sections::OBJECTIVE),
         Name::Numbers => Section::Numbers(0..sections::NUMBERS),
@@ -173,7 +174,7 @@ struct Memory {
     factor_coeffs: Lent<f64>,
 }
 
-/// How much of the state an answer of 0 or 20 to 25 wrote.
+/// How much of the state an answer of 0 or 20 to 26 wrote.
 #[derive(Clone, Copy)]
 struct Wrote {
     values: usize,
@@ -190,7 +191,7 @@ impl Wrote {
     /// The written cells of a section.
     fn cells(&self, name: Name) -> usize {
         match name {
-            Name::Kept | Name::Basic | Name::Bval => self.kept,
+            Name::Kept | Name::Basic | Name::Bval | Name::Dnorm => self.kept,
             Name::Nonbasic | Name::Nval | Name::Price | Name::Norm | Name::Flags => self.columns,
             Name::Where => self.columns + self.kept,
             // What a factoring emptied may have been longer.
@@ -368,7 +369,11 @@ impl Memory {
             etaidx: self.numbers(sections::ETA_ROWS, entries).to_vec(),
             etaval: self.doubles(sections::ETA_COEFFS, entries),
             factor: wrote.factor.map(|entries| self.factor(kept, entries)),
+            dnorm: self.doubles(sections::DUAL_NORMS, kept),
             factorings: wrote.factorings,
+            // No cell says it, and no line shows it.
+            dual_steps: 0,
+            in_dual: false,
         }
     }
 
@@ -485,7 +490,7 @@ pub fn line(plan: &Plan, lengths: &Lengths, with_state: bool) -> String {
         faults.push("the plan changed".to_string());
     }
     let wrote = match answer.status {
-        0 | 20..=25 => wrote(plan, &answer, &memory)
+        0 | 20..=26 => wrote(plan, &answer, &memory)
             .map_err(|fault| faults.push(fault))
             .ok(),
         _ => None,
@@ -509,7 +514,7 @@ pub fn line(plan: &Plan, lengths: &Lengths, with_state: bool) -> String {
     })
 }
 
-/// What an answer of 0 or 20 to 25 wrote, by its own counts, and whether these are the answer's.
+/// What an answer of 0 or 20 to 26 wrote, by its own counts, and whether these are the answer's.
 fn wrote(plan: &Plan, answer: &Answer, memory: &Memory) -> Result<Wrote, String> {
     let columns = plan.columns as usize;
     let counts = memory.numbers(sections::COUNTS, 7);
@@ -560,6 +565,7 @@ fn place(answer: &Answer) -> Place {
             var: answer.at,
             excess,
         },
+        5 if answer.status == 26 => Place::Leaving { row: answer.at },
         5 => Place::Kept {
             row: answer.at,
             excess,

@@ -391,7 +391,7 @@ pub fn plans(text: &str, tally: &mut Tally) -> Result<(), String> {
                 optimal(&plan, &run, &mut rng, tally);
                 others(&plan, &mut run, &mut rng, tally);
             }
-            20..=25 => {
+            20..=26 => {
                 let (answer, _, _, stayed) = propose(&plan, &run, 0);
                 tally.nothing += 1;
                 tally.check(bare(&answer, 0, 1) && stayed, || {

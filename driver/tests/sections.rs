@@ -49,7 +49,7 @@ fn defined(header: &str) -> Numbers {
     known
 }
 
-const SECTIONS: [(&str, Range<usize>); 30] = [
+const SECTIONS: [(&str, Range<usize>); 31] = [
     ("BASIC_VARS", BASIC_VARS),
     ("NB_VARS", NB_VARS),
     ("VAR_STATES", VAR_STATES),
@@ -64,6 +64,7 @@ const SECTIONS: [(&str, Range<usize>); 30] = [
     ("PRICES", PRICES),
     ("NORMS", NORMS),
     ("ETA_COEFFS", ETA_COEFFS),
+    ("DUAL_NORMS", DUAL_NORMS),
     ("OBJECTIVE", OBJECTIVE),
     ("PIVOTS", PIVOTS),
     ("PIVOT_PLACES", PIVOT_PLACES),
@@ -145,7 +146,7 @@ fn three_lists_are_one() {
 #[test]
 fn sections_tile_their_array() {
     let (numbers, rest) = SECTIONS.split_at(9);
-    let (doubles, rest) = rest.split_at(6);
+    let (doubles, rest) = rest.split_at(7);
     let (factor_numbers, factor_coeffs) = rest.split_at(10);
     let parts = [numbers, doubles, factor_numbers, factor_coeffs];
     for (sections, (_, end)) in parts.into_iter().zip(ARRAYS) {

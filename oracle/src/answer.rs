@@ -7,8 +7,12 @@ pub enum Named {
     Limit,
     Quotient,
     Distance,
+    /// Of a dual step this comes before the column.
     Row,
+    /// Of a dual step.
+    DualQuotient,
     Helper,
+    Tau,
     Objective,
     /// The entering column's new value.
     Value,
@@ -17,6 +21,7 @@ pub enum Named {
     Leaving,
     Price,
     Norm,
+    DualNorm,
     /// The new eta column, where it fits.
     Eta,
     /// The new basis' factor, where the column doesn't fit.
@@ -24,19 +29,22 @@ pub enum Named {
 }
 
 impl Named {
-    pub const ALL: [Named; 14] = [
+    pub const ALL: [Named; 17] = [
         Named::Column,
         Named::Limit,
         Named::Quotient,
         Named::Distance,
         Named::Row,
+        Named::DualQuotient,
         Named::Helper,
+        Named::Tau,
         Named::Objective,
         Named::Value,
         Named::Basic,
         Named::Leaving,
         Named::Price,
         Named::Norm,
+        Named::DualNorm,
         Named::Eta,
         Named::Factor,
     ];
@@ -48,13 +56,16 @@ impl Named {
             Named::Quotient => "quotient",
             Named::Distance => "distance",
             Named::Row => "row",
+            Named::DualQuotient => "dual-quotient",
             Named::Helper => "helper",
+            Named::Tau => "tau",
             Named::Objective => "objective",
             Named::Value => "value",
             Named::Basic => "basic",
             Named::Leaving => "leaving",
             Named::Price => "price",
             Named::Norm => "norm",
+            Named::DualNorm => "dual-norm",
             Named::Eta => "eta",
             Named::Factor => "factor",
         }
@@ -79,7 +90,7 @@ pub enum Rejected {
 /// No number of 01's: where the shown text would have panicked.
 pub const PANICKED: usize = 99;
 
-/// Every answer of a call, 0 to 7 and 20 to 25. 02: 22 is no longer given.
+/// Every answer of a call, 0 to 7 and 20 to 26. 02: 22 is no longer given.
 #[derive(Clone, Copy, Debug, PartialEq, Eq, Hash)]
 pub enum Outcome {
     Optimal,
@@ -107,6 +118,10 @@ pub enum Outcome {
     Rejected(Rejected),
     /// 02: "no pivot of at least EPS gives the new status 25".
     Singular,
+    /// 02: "A new status 26 says no entering column exists for the leaving row".
+    Infeasible {
+        row: usize,
+    },
     /// Only with `--shown`: the shown text would have panicked here.
     Panicked,
 }
@@ -128,6 +143,7 @@ impl Outcome {
             Outcome::NotFinite { .. } => 23,
             Outcome::Rejected(_) => 24,
             Outcome::Singular => 25,
+            Outcome::Infeasible { .. } => 26,
             Outcome::Panicked => PANICKED as u8,
         }
     }
@@ -161,8 +177,12 @@ pub struct State {
     pub etaval: Vec<f64>,
     /// None is the identity.
     pub factor: Option<Factor>,
-    /// How often a basis was factored; the text doesn't have it.
+    pub dnorm: Vec<f64>,
+    /// How often a basis was factored; the text doesn't have it, nor what follows.
     pub factorings: usize,
+    /// How many of the steps were dual ones, and whether the run stopped among them.
+    pub dual_steps: u64,
+    pub in_dual: bool,
 }
 
 /// The factor in the state: L and U by columns in stored order, rows as pivot numbers.

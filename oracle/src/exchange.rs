@@ -346,6 +346,10 @@ pub enum Place {
         row: usize,
         excess: f64,
     },
+    /// A 26 has no excess.
+    Leaving {
+        row: usize,
+    },
 }
 
 impl fmt::Display for Place {
@@ -358,6 +362,7 @@ impl fmt::Display for Place {
             Place::Accepted { excess } => write!(f, "x:{:016x}", excess.to_bits()),
             Place::Value { var, excess } => write!(f, "v:{}:{:016x}", var, excess.to_bits()),
             Place::Kept { row, excess } => write!(f, "k:{}:{:016x}", row, excess.to_bits()),
+            Place::Leaving { row } => write!(f, "k:{}", row),
         }
     }
 }
@@ -372,6 +377,7 @@ impl From<&Answer> for Place {
             Outcome::FalseEmptyRow { row } => Place::Row(row),
             Outcome::Rejected(Rejected::Value(var)) => Place::Value { var, excess },
             Outcome::Rejected(Rejected::Row(row)) => Place::Kept { row, excess },
+            Outcome::Infeasible { row } => Place::Leaving { row },
             _ => Place::Nowhere,
         }
     }
@@ -435,6 +441,7 @@ fn push_state(line: &mut String, state: &State) {
         None => line.push_str(" none"),
         Some(factor) => push_factor(line, factor),
     }
+    push_double_list(line, "dnorm", &state.dnorm);
 }
 
 fn push_factor(line: &mut String, factor: &Factor) {

@@ -8,10 +8,15 @@ use crate::plan::{Lent, Plan};
 use crate::rng::Rng;
 use crate::shown::Options;
 
+mod dual;
+mod dual_growth;
 mod growth;
 mod refactor;
 
-use growth::Cascade;
+use dual::dual;
+pub use dual::of_both_kinds;
+pub use dual_growth::DUAL_PLACES;
+use growth::{Cascade, Within};
 use refactor::{cube, refactor};
 
 const INF: f64 = f64::INFINITY;
@@ -158,7 +163,7 @@ impl Sink<'_> {
 
 type Make = fn(&mut Rng, &mut Sink);
 
-pub const FAMILIES: [(&str, Make); 26] = [
+pub const FAMILIES: [(&str, Make); 27] = [
     ("tiny", tiny),
     ("plain", plain),
     ("ties", ties),
@@ -185,6 +190,7 @@ pub const FAMILIES: [(&str, Make); 26] = [
     ("damaged", damaged),
     ("free", free_columns),
     ("refactor", refactor),
+    ("dual", dual),
 ];
 
 /// Makes the plans of all families whose name `wanted` accepts, in order.
@@ -229,8 +235,11 @@ fn search(
         tried += 1;
         assert!(
             tried < 200_000,
-            "{}: the search finds too little",
-            sink.family
+            "{}: the search finds {} of {}, after {} plans",
+            sink.family,
+            found,
+            count,
+            sink.count
         );
     }
 }
@@ -1016,17 +1025,30 @@ fn near(rng: &mut Rng, exponent: i32) -> f64 {
     rng.sized(exponent, exponent).abs()
 }
 
+/// The place that a 23 names.
+fn named_by(answer: &Answer) -> Option<growth::Place> {
+    let Outcome::NotFinite { named, flip } = answer.outcome else {
+        return None;
+    };
+    let in_dual = answer.state.as_ref().is_some_and(|state| state.in_dual);
+    let within = match (flip, in_dual) {
+        (true, _) => Within::Flip,
+        (_, true) => Within::Dual,
+        _ => Within::Exchange,
+    };
+    Some((named, within))
+}
+
 /// Plans made for each place of document 01's order that a 23 can name. survey::UNREACHED has the
 /// others.
 fn named(rng: &mut Rng, sink: &mut Sink) {
-    for _ in 0..100 {
-        for (place, draft) in growth::drafts(rng) {
-            let reached = match answer(&draft).outcome {
-                Outcome::NotFinite { named, flip } => Some((named, flip)),
-                _ => None,
-            };
-            assert_eq!(reached, Some(place));
-            sink.draft(&draft);
+    let dual_places = DUAL_PLACES.map(|named| (named, Within::Dual));
+    for places in [&growth::PLACES[..], &dual_places] {
+        for &place in (0..100).flat_map(|_| places) {
+            // With some of the numbers another place comes first.
+            let mut drafts = (0..100).map(|_| growth::draft(rng, place));
+            let draft = drafts.find(|draft| named_by(&answer(draft)) == Some(place));
+            sink.draft(&draft.expect("a draft reaches its place"));
         }
     }
 }

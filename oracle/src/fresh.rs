@@ -70,6 +70,7 @@ struct Now {
     nval: Vec<f64>,
     price: Vec<f64>,
     norm: Vec<f64>,
+    dual_norm: Vec<f64>,
     at_lower: Vec<bool>,
     at_upper: Vec<bool>,
     etas: Vec<Eta>,
@@ -77,6 +78,7 @@ struct Now {
     factorings: usize,
     objective: f64,
     steps: u64,
+    dual_steps: u64,
 }
 
 pub fn solve(plan: &Plan) -> Answer {
@@ -91,18 +93,16 @@ pub fn solve(plan: &Plan) -> Answer {
         Err(outcome) => return Answer::refusal(outcome),
     };
 
-    let mut outcome = None;
-    while !dual_feasible && outcome.is_none() {
-        match step(&rules, &now, plan.budget) {
-            Ok(Some(next)) => now = next,
-            Ok(None) => break,
-            Err(stopped) => outcome = Some(stopped),
-        }
+    let mut dual_ended = Ok(());
+    if dual_feasible {
+        dual_ended = repeat(&mut now, &|now| dual_step(&rules, now, plan.budget));
     }
+    let in_dual = dual_ended.is_err();
+    let ended = dual_ended.and_then(|()| repeat(&mut now, &|now| step(&rules, now, plan.budget)));
 
-    let (outcome, excess) = match outcome {
-        Some(stopped) => (stopped, 0.0),
-        None => checked(&rules, &now, plan.tolerance),
+    let (outcome, excess) = match ended {
+        Err(stopped) => (stopped, 0.0),
+        Ok(()) => checked(&rules, &now, plan.tolerance),
     };
     Answer {
         outcome,
@@ -114,8 +114,22 @@ pub fn solve(plan: &Plan) -> Answer {
         } else {
             vec![]
         },
-        state: Some(state(&rules, &now)),
+        state: Some(State {
+            in_dual,
+            ..state(&rules, &now)
+        }),
     }
+}
+
+/// Step after step, until there is none or one stops the run.
+fn repeat(
+    now: &mut Now,
+    step: &dyn Fn(&Now) -> Result<Option<Now>, Outcome>,
+) -> Result<(), Outcome> {
+    while let Some(next) = step(now)? {
+        *now = next;
+    }
+    Ok(())
 }
 
 /// Refusal 1.
@@ -139,7 +153,7 @@ fn too_large_or_short(plan: &Plan) -> bool {
     ];
     for lent in Lent::ALL.into_iter().chain(Lent::ARRAYS) {
         let (by_default, needed) = match lent.name() {
-            "kept" | "basic" | "bval" => (rows, rows),
+            "kept" | "basic" | "bval" | "dnorm" => (rows, rows),
             "where" => (columns + rows, columns + rows),
             "etarow" => (room[1], 256),
             "etaptr" => (room[1].saturating_add(1), 257),
@@ -147,7 +161,7 @@ fn too_large_or_short(plan: &Plan) -> bool {
             "counts" => (7, 7),
             "obj" => (1, 1),
             "numbers" => (5288, 5288),
-            "doubles" => (4577, 4577),
+            "doubles" => (4673, 4673),
             "factor_numbers" => (18820, 18820),
             "factor_coeffs" => (18336, 18336),
             _ => (columns, columns),
@@ -249,6 +263,7 @@ fn start(plan: &Plan) -> Result<(Rules, Now, bool), Outcome> {
         nval: vec![],
         price: plan.cost[..columns].to_vec(),
         norm: vec![],
+        dual_norm: vec![],
         at_lower: vec![],
         at_upper: vec![],
         etas: vec![],
@@ -256,6 +271,7 @@ fn start(plan: &Plan) -> Result<(Rules, Now, bool), Outcome> {
         factorings: 0,
         objective: 0.0,
         steps: 0,
+        dual_steps: 0,
     };
 
     let mut dual_feasible = true;
@@ -304,6 +320,7 @@ fn start(plan: &Plan) -> Result<(Rules, Now, bool), Outcome> {
             .push(if op == 2 { f64::NEG_INFINITY } else { 0.0 });
         rules.upper.push(if op == 0 { f64::INFINITY } else { 0.0 });
         now.basic.push(columns + k);
+        now.dual_norm.push(1.0);
         now.bval.push(plan.rhs[row] - sum);
     }
     for c in 0..columns {
@@ -320,7 +337,8 @@ fn start(plan: &Plan) -> Result<(Rules, Now, bool), Outcome> {
         return Err(Outcome::StartNotFinite(StartNumber::Norm));
     }
     for (k, &val) in now.bval.iter().enumerate() {
-        if val < rules.lower[columns + k] || val > rules.upper[columns + k] {
+        let outside = val < rules.lower[columns + k] || val > rules.upper[columns + k];
+        if outside && !dual_feasible {
             return Err(Outcome::SlackOutside);
         }
     }
@@ -550,7 +568,7 @@ fn step(rules: &Rules, now: &Now, budget: u64) -> Result<Option<Now>, Outcome> {
         rules.lower[var]
     };
     let distance = (other - now.nval[c]).abs();
-    let mut col = solve_column(now, column(rules, var));
+    let col = solve_column(now, column(rules, var));
     for &(_, a) in &col.0 {
         finite(Named::Column, a, false)?;
     }
@@ -593,12 +611,12 @@ fn step(rules: &Rules, now: &Now, budget: u64) -> Result<Option<Now>, Outcome> {
         }
     }
 
-    let mut next = now.clone();
-    next.steps += 1;
     let Some((row, pivot, leaving_val)) = leaving else {
         if other.is_infinite() {
             return Err(Outcome::Unbounded);
         }
+        let mut next = now.clone();
+        next.steps += 1;
         let difference = other - now.nval[c];
         next.objective += now.price[c] * difference;
         finite(Named::Objective, next.objective, true)?;
@@ -612,11 +630,145 @@ fn step(rules: &Rules, now: &Now, budget: u64) -> Result<Option<Now>, Outcome> {
         return Ok(Some(next));
     };
 
-    let unit = Touched(vec![(row, 1.0)]);
-    let mut coefs = over_nonbasic(rules, now, &solve_row(now, unit));
+    let (rho, coefs) = row_of(rules, now, row)?;
+    let difference = (now.bval[row] - leaving_val) / pivot;
+    let exchange = Exchange {
+        c,
+        row,
+        pivot,
+        leaving_val,
+        difference,
+        col,
+        rho,
+        coefs,
+    };
+    exchanged(rules, now, exchange).map(Some)
+}
+
+/// The row solve's result, and the row over the non-basic places.
+fn row_of(rules: &Rules, now: &Now, row: usize) -> Result<(Touched, Touched), Outcome> {
+    let rho = solve_row(now, Touched(vec![(row, 1.0)]));
+    let coefs = over_nonbasic(rules, now, &rho);
     for &(_, a) in &coefs.0 {
         finite(Named::Row, a, false)?;
     }
+    Ok((rho, coefs))
+}
+
+/// The row whose basic value is outside by more than EPS and has the largest score, the infeasibility
+/// squared over the dual norm; with the bound that it leaves to.
+fn leaving_row(rules: &Rules, now: &Now) -> Option<(usize, f64)> {
+    let mut best = f64::NEG_INFINITY;
+    let mut leaving = None;
+    for (r, &val) in now.bval.iter().enumerate() {
+        let (lower, upper) = (rules.lower[now.basic[r]], rules.upper[now.basic[r]]);
+        let (outside, bound) = if val < lower - EPS {
+            (lower - val, lower)
+        } else if val > upper + EPS {
+            (val - upper, upper)
+        } else {
+            continue;
+        };
+        let score = outside * outside / now.dual_norm[r];
+        if score > best {
+            best = score;
+            leaving = Some((r, bound));
+        }
+    }
+    leaving
+}
+
+/// 02, Ask 8, "One dual step, in this order".
+fn dual_step(rules: &Rules, now: &Now, budget: u64) -> Result<Option<Now>, Outcome> {
+    let Some((row, leaving_val)) = leaving_row(rules, now) else {
+        return Ok(None);
+    };
+    if now.steps >= budget {
+        return Err(Outcome::Spent);
+    }
+    let (rho, coefs) = row_of(rules, now, row)?;
+
+    // Every eligible place with its coefficient and the size of its clamped price. The leaving value
+    // grows by -a times what the entering one grows by.
+    let grows = leaving_val > now.bval[row];
+    let mut eligible = vec![];
+    for &(c, a) in &coefs.0 {
+        let rises = (a > 0.0) != grows;
+        let in_the_way = if rises {
+            now.at_upper[c]
+        } else {
+            now.at_lower[c]
+        };
+        if a.abs() >= EPS && !in_the_way {
+            let wrong_sign =
+                now.at_lower[c] && now.price[c] < 0.0 || now.at_upper[c] && now.price[c] > 0.0;
+            eligible.push((c, a, if wrong_sign { 0.0 } else { now.price[c].abs() }));
+        }
+    }
+    let mut least = f64::INFINITY;
+    for &(_, a, price) in &eligible {
+        let quotient = (price + EPS) / a.abs();
+        finite(Named::DualQuotient, quotient, false)?;
+        least = least.min(quotient);
+    }
+    let mut entering: Option<(usize, f64)> = None;
+    for &(c, a, price) in &eligible {
+        let larger = entering.is_none_or(|(_, pivot)| a.abs() > pivot.abs());
+        if price / a.abs() <= least && larger {
+            entering = Some((c, a));
+        }
+    }
+    let Some((c, pivot)) = entering else {
+        return Err(Outcome::Infeasible { row });
+    };
+
+    let col = solve_column(now, column(rules, now.nonbasic[c]));
+    for &(_, a) in &col.0 {
+        finite(Named::Column, a, false)?;
+    }
+    let exchange = Exchange {
+        c,
+        row,
+        pivot,
+        leaving_val,
+        difference: (now.bval[row] - leaving_val) / pivot,
+        col,
+        rho,
+        coefs,
+    };
+    let mut next = exchanged(rules, now, exchange)?;
+    next.dual_steps += 1;
+    Ok(Some(next))
+}
+
+/// What either kind of step has found when it exchanges.
+struct Exchange {
+    /// The entering place and the leaving row.
+    c: usize,
+    row: usize,
+    pivot: f64,
+    leaving_val: f64,
+    difference: f64,
+    col: Touched,
+    /// The row solve's result, and the row.
+    rho: Touched,
+    coefs: Touched,
+}
+
+/// The state after an exchange of either kind.
+fn exchanged(rules: &Rules, now: &Now, exchange: Exchange) -> Result<Now, Outcome> {
+    let Exchange {
+        c,
+        row,
+        pivot,
+        leaving_val,
+        difference,
+        mut col,
+        rho,
+        mut coefs,
+    } = exchange;
+    let mut next = now.clone();
+    next.steps += 1;
     // The two touches.
     coefs.touch(c);
     col.touch(row);
@@ -624,8 +776,11 @@ fn step(rules: &Rules, now: &Now, budget: u64) -> Result<Option<Now>, Outcome> {
     for &(_, h) in &helper.0 {
         finite(Named::Helper, h, false)?;
     }
+    let tau = solve_column(now, rho.clone());
+    for &(_, t) in &tau.0 {
+        finite(Named::Tau, t, false)?;
+    }
 
-    let difference = (now.bval[row] - leaving_val) / pivot;
     next.objective += now.price[c] * difference;
     finite(Named::Objective, next.objective, false)?;
     finite(Named::Value, now.nval[c] + difference, false)?;
@@ -660,8 +815,18 @@ fn step(rules: &Rules, now: &Now, budget: u64) -> Result<Option<Now>, Outcome> {
         };
         finite(Named::Norm, next.norm[p], false)?;
     }
+    let squares = sum_of_squares(&rho);
+    for &(r, a) in &col.0 {
+        next.dual_norm[r] = if r == row {
+            squares / (pivot * pivot)
+        } else {
+            let change = -2.0 * a * tau.get(r) / pivot + squares * a * a / (pivot * pivot);
+            now.dual_norm[r] + change
+        };
+        finite(Named::DualNorm, next.dual_norm[r], false)?;
+    }
 
-    next.basic[row] = var;
+    next.basic[row] = now.nonbasic[c];
     next.nonbasic[c] = left;
     let stored: usize = now.etas.iter().map(|eta| eta.entries.len()).sum();
     if now.etas.len() < 256 && stored + col.0.len() <= 4096 {
@@ -671,7 +836,7 @@ fn step(rules: &Rules, now: &Now, budget: u64) -> Result<Option<Now>, Outcome> {
         next.factorings += 1;
         next.etas.clear();
     }
-    Ok(Some(next))
+    Ok(next)
 }
 
 fn eta(col: &Touched, row: usize, pivot: f64) -> Result<Eta, Outcome> {
@@ -744,9 +909,11 @@ fn state(rules: &Rules, now: &Now) -> State {
         nval: now.nval.clone(),
         price: now.price.clone(),
         norm: now.norm.clone(),
+        dnorm: now.dual_norm.clone(),
         etaptr: vec![0],
         factor: now.factor.as_ref().map(stored_factor),
         factorings: now.factorings,
+        dual_steps: now.dual_steps,
         ..State::default()
     };
     for c in 0..rules.columns {

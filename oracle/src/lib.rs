@@ -52,7 +52,7 @@ pub mod limits {
     pub const ETA_ENTRIES: u64 = 4_096;
     /// The cells of the four arrays that hold the state: every section, whatever the plan's sizes.
     pub const NUMBERS: u64 = 5_288;
-    pub const DOUBLES: u64 = 4_577;
+    pub const DOUBLES: u64 = 4_673;
     pub const FACTOR_NUMBERS: u64 = 18_820;
     pub const FACTOR_COEFFS: u64 = 18_336;
     pub const TRI_PLACES: u64 = 96;

@@ -1,4 +1,5 @@
-//! 01's night cases that are plans, starred or not, each with the answer that 01 gives. All ours.
+//! 01's night cases that are plans, starred or not, each with the answer that 01 gives; N4's first has
+//! 02's. All ours.
 
 use crate::exchange::{Item, Reader};
 use crate::plan::Plan;
@@ -41,7 +42,7 @@ const CASES: [Case; 14] = [
     case("N2", 0, -12.0, 2, &[4.0, 0.0, 0.0], &[0]),
     case("N2-budget-1", 21, -8.0, 1, &[], &[0]),
     case("N3", 20, 0.0, 0, &[], &[]),
-    case("N4-at-least-1", 7, 0.0, 0, &[], &[]),
+    case("N4-at-least-1", 0, 1.0, 1, &[1.0, 0.0], &[0]),
     case("N4-at-least-0", 0, 0.0, 0, &[0.0, 0.0], &[]),
     case("bounds-3-to-2", 4, 0.0, 0, &[], &[]),
     case("bounds-3-to-3", 0, 3.0, 0, &[3.0], &[]),

@@ -42,6 +42,7 @@ pub enum Lent {
     Etaptr,
     Etaidx,
     Etaval,
+    Dnorm,
     /// Kept rows, eta columns, eta entries, steps, status of the last run, whether a factor is there,
     /// factorings since the start.
     Counts,
@@ -64,7 +65,7 @@ impl Lent {
     ];
 
     /// The sections.
-    pub const ALL: [Lent; 15] = [
+    pub const ALL: [Lent; 16] = [
         Lent::Kept,
         Lent::Basic,
         Lent::Bval,
@@ -78,6 +79,7 @@ impl Lent {
         Lent::Etaptr,
         Lent::Etaidx,
         Lent::Etaval,
+        Lent::Dnorm,
         Lent::Counts,
         Lent::Obj,
     ];
@@ -97,6 +99,7 @@ impl Lent {
             Lent::Etaptr => "etaptr",
             Lent::Etaidx => "etaidx",
             Lent::Etaval => "etaval",
+            Lent::Dnorm => "dnorm",
             Lent::Counts => "counts",
             Lent::Obj => "obj",
             Lent::Numbers => "numbers",
@@ -123,7 +126,7 @@ impl Lent {
     /// stated store".
     pub fn needed(self, columns: u64, rows: u64) -> u64 {
         match self {
-            Lent::Kept | Lent::Basic | Lent::Bval => rows,
+            Lent::Kept | Lent::Basic | Lent::Bval | Lent::Dnorm => rows,
             Lent::Nonbasic | Lent::Nval | Lent::Price | Lent::Norm | Lent::Flags => columns,
             Lent::Where => columns + rows,
             Lent::Etarow => limits::ETA_COLUMNS,

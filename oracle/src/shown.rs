@@ -38,10 +38,13 @@ pub enum Correction {
     /// 02: "every finite cost, coefficient, right side or bound whose size is above 1e12" is
     /// refused; the source takes it.
     Wild,
+    /// 02, Ask 8, ours: primal steps come after the dual ones too. The shown initial_solve takes them
+    /// only where the start wasn't dual feasible.
+    AfterDual,
 }
 
 impl Correction {
-    pub const ALL: [Correction; 10] = [
+    pub const ALL: [Correction; 11] = [
         Correction::InfiniteRow,
         Correction::StaleHelper,
         Correction::NanBounds,
@@ -52,6 +55,7 @@ impl Correction {
         Correction::FreeFilter,
         Correction::Acceptance,
         Correction::Wild,
+        Correction::AfterDual,
     ];
 
     pub fn name(self) -> &'static str {
@@ -66,6 +70,7 @@ impl Correction {
             Correction::FreeFilter => "free-filter",
             Correction::Acceptance => "acceptance",
             Correction::Wild => "wild",
+            Correction::AfterDual => "after-dual",
         }
     }
 }

@@ -1,8 +1,7 @@
 //! From minilp 0.2.2, src/solver.rs, Apache-2.0, changed: the rules and corrections of document 01,
 //! and of 02 where it says so, are put in, each marked `// ours:` with their words. Left out: the
-//! dual choice and dual norms, restore_feasibility, fix_var and unfix_var, add_constraint, Gomory
-//! cuts, logging and the parts that only these use. The shown lu_factorize and recalc_obj_coeffs
-//! stand in shown.rs.
+//! artificial objective, fix_var and unfix_var, add_constraint, Gomory cuts, logging and the parts
+//! that only these use. The shown lu_factorize and recalc_obj_coeffs stand in shown.rs.
 
 use crate::{
     answer::{Named, Outcome, Rejected, StartNumber, State},
@@ -35,12 +34,13 @@ pub struct Solver {
     is_primal_feasible: bool,
     is_dual_feasible: bool,
 
-    // ours: the plan's number of each kept row, the budget, the steps taken, how often a basis was
-    // factored, the first number of 01's order that isn't finite, and the corrections that are
+    // ours: the plan's number of each kept row, the budget, the steps taken, the dual ones among them,
+    // how often a basis was factored, the first number of 01's order that isn't finite, and the corrections that are
     // switched off.
     kept_rows: Vec<usize>,
     budget: u64,
     steps: u64,
+    dual_steps: u64,
     factorings: usize,
     not_finite: Option<Named>,
     options: Options,
@@ -55,6 +55,7 @@ pub struct Solver {
     pub(crate) basic_var_vals: Vec<f64>,
     basic_var_mins: Vec<f64>,
     basic_var_maxs: Vec<f64>,
+    dual_edge_sq_norms: Vec<f64>,
 
     /// Remaining variables. (idx -> var), 'nb' means 'non-basic'
     pub(crate) nb_vars: Vec<usize>,
@@ -246,6 +247,9 @@ impl Solver {
             .zip(&basic_var_maxs)
             .all(|((&val, &min), &max)| val >= min && val <= max);
 
+        // ours: enable_dual_steepest_edge is left out; the shown text never has it off.
+        let dual_edge_sq_norms = vec![1.0; basic_vars.len()];
+
         // If is dual feasible at start, we don't need lengthy primal phase2.
         // Thus we can skip expensive calculations for primal sq. norms.
         // ours: "A norm, reckoned for every plan".
@@ -259,7 +263,8 @@ impl Solver {
 
         let mut nb_var_obj_coeffs = vec![];
         let mut primal_edge_sq_norms = vec![];
-        // ours: an artificial objective is for slacks that start outside, which are refused (7).
+        // ours: an artificial objective is for starts that are feasible neither way, which are
+        // refused (7).
         for &var in nb_vars.iter() {
             let col = orig_constraints_csc.outer_view(var).unwrap();
 
@@ -285,8 +290,9 @@ impl Solver {
             return Err(Outcome::StartNotFinite(StartNumber::Norm));
         }
 
-        // ours: 7: "a slack starts outside its bounds, no tolerance".
-        if !is_primal_feasible {
+        // ours: 7: "a slack starts outside its bounds, no tolerance". 02: "exactly when a slack is
+        // outside and the start isn't dual feasible".
+        if !is_primal_feasible && !is_dual_feasible {
             return Err(Outcome::SlackOutside);
         }
 
@@ -309,6 +315,7 @@ impl Solver {
             kept_rows,
             budget,
             steps: 0,
+            dual_steps: 0,
             factorings: 0,
             not_finite: None,
             options,
@@ -324,6 +331,7 @@ impl Solver {
             basic_var_vals,
             basic_var_mins,
             basic_var_maxs,
+            dual_edge_sq_norms,
             nb_vars,
             nb_var_obj_coeffs,
             nb_var_vals,
@@ -356,15 +364,20 @@ impl Solver {
     }
 
     pub fn initial_solve(&mut self) -> Result<(), Outcome> {
-        // ours: restore_feasibility is left out; try_new refuses with 7 instead.
-        assert!(self.is_primal_feasible);
+        if !self.is_primal_feasible {
+            self.restore_feasibility()?;
+        }
 
-        // ours: "If dual feasible, Optimal is reached at once with 0 steps".
-        if !self.is_dual_feasible {
+        // ours: for every plan "primal steps until no column enters".
+        let shown_end = self.is_dual_feasible
+            && (self.options.shows(Correction::AfterDual)
+                // The shown filter has no say at a start that is feasible both ways.
+                || self.options.shows(Correction::FreeFilter) && self.steps == 0);
+        if !shown_end {
             // ours: recalc_obj_coeffs is left out. With "Sums start at 0.0" it changes no bit here.
-            if self.options.shows(Correction::SumStart) {
+            if !self.is_dual_feasible && self.options.shows(Correction::SumStart) {
                 self.recalc_obj_coeffs(-0.0);
-            } else if self.options.shows(Correction::Recalc) {
+            } else if !self.is_dual_feasible && self.options.shows(Correction::Recalc) {
                 self.recalc_obj_coeffs(0.0);
             }
             self.optimize()?;
@@ -376,16 +389,7 @@ impl Solver {
     fn optimize(&mut self) -> Result<(), Outcome> {
         loop {
             if let Some(pivot_info) = self.choose_pivot()? {
-                // ours: "20 to 24 leave the values array alone; the workspace then holds the state
-                // after the last whole step", so a step with a number that isn't finite is undone,
-                // and so is one whose new basis has no factor.
-                let before = (!self.options.no_copies).then(|| self.clone());
-                if let Err(outcome) = self.pivot(&pivot_info) {
-                    *self = before.expect("a plan that answers 23 or 25 is run with copies");
-                    return Err(outcome);
-                }
-                // ours: "The step count in the answer is the number of steps the rules took."
-                self.steps += 1;
+                self.take_step(&pivot_info)?;
             } else {
                 break;
             }
@@ -393,6 +397,64 @@ impl Solver {
 
         self.is_dual_feasible = true;
         Ok(())
+    }
+
+    fn restore_feasibility(&mut self) -> Result<(), Outcome> {
+        loop {
+            if let Some((row, leaving_new_val)) = self.choose_pivot_row_dual() {
+                // ours: 21, where a row would leave. 02: "Budget, store, 23 and the final check apply
+                // as for primal steps".
+                if self.steps >= self.budget {
+                    return Err(Outcome::Spent);
+                }
+
+                self.calc_row_coeffs(row);
+                // ours: "Column, row and helper entries ... must be finite, else 23".
+                for (_, &coeff) in self.row_coeffs.iter() {
+                    check_finite(Named::Row, coeff)?;
+                }
+
+                let pivot_info = self.choose_entering_col_dual(row, leaving_new_val)?;
+                self.calc_col_coeffs(pivot_info.col);
+                // ours: as above.
+                for (_, &coeff) in self.col_coeffs.iter() {
+                    check_finite(Named::Column, coeff)?;
+                }
+
+                self.touch_pivot(row, pivot_info.col);
+                self.take_step(&pivot_info)?;
+                self.dual_steps += 1;
+            } else {
+                break;
+            }
+        }
+
+        self.is_primal_feasible = true;
+        Ok(())
+    }
+
+    // ours: "20 to 24 leave the values array alone; the workspace then holds the state after the last
+    // whole step", so a step with a number that isn't finite is undone, and so is one whose new basis
+    // has no factor.
+    fn take_step(&mut self, pivot_info: &PivotInfo) -> Result<(), Outcome> {
+        let before = (!self.options.no_copies).then(|| self.clone());
+        if let Err(outcome) = self.pivot(pivot_info) {
+            *self = before.expect("a plan that answers 23 or 25 is run with copies");
+            return Err(outcome);
+        }
+        // ours: "The step count in the answer is the number of steps the rules took." 02: "each dual
+        // step counts as one".
+        self.steps += 1;
+        Ok(())
+    }
+
+    // ours: "Before the new numbers of an exchange the entering place is touched in the row, and the
+    // leaving row in the column".
+    fn touch_pivot(&mut self, row: usize, col: usize) {
+        if !self.options.shows(Correction::Reset) {
+            self.row_coeffs.get_mut(col);
+            self.col_coeffs.touch(row);
+        }
     }
 
     /// Calculate current coeffs column for a single non-basic variable.
@@ -605,12 +667,7 @@ impl Solver {
                 check_finite(Named::Row, coeff)?;
             }
 
-            // ours: "Before the new numbers of an exchange the entering place is touched in the row,
-            // and the leaving row in the column".
-            if !self.options.shows(Correction::Reset) {
-                self.row_coeffs.get_mut(entering_c);
-                self.col_coeffs.touch(row);
-            }
+            self.touch_pivot(row, entering_c);
 
             let entering_diff = (self.basic_var_vals[row] - leaving_new_val) / pivot_coeff;
             let entering_new_val = entering_cur_val + entering_diff;
@@ -638,6 +695,170 @@ impl Solver {
                 entering_diff: entering_other_val - entering_cur_val,
                 elem: None,
             }))
+        }
+    }
+
+    fn choose_pivot_row_dual(&self) -> Option<(usize, f64)> {
+        let infeasibilities = self
+            .basic_var_vals
+            .iter()
+            .zip(&self.basic_var_mins)
+            .zip(&self.basic_var_maxs)
+            .enumerate()
+            .filter_map(|(r, ((&val, &min), &max))| {
+                if val < min - EPS {
+                    Some((r, min - val))
+                } else if val > max + EPS {
+                    Some((r, val - max))
+                } else {
+                    None
+                }
+            });
+
+        let mut leaving_r = None;
+        let mut max_score = f64::NEG_INFINITY;
+        for (r, infeasibility) in infeasibilities {
+            let sq_norm = self.dual_edge_sq_norms[r];
+            let score = infeasibility * infeasibility / sq_norm;
+            if score > max_score {
+                leaving_r = Some(r);
+                max_score = score;
+            }
+        }
+
+        leaving_r.map(|r| {
+            let val = self.basic_var_vals[r];
+            let min = self.basic_var_mins[r];
+            let max = self.basic_var_maxs[r];
+
+            // If we choose this var as leaving, its new val will be at the boundary
+            // which is violated.
+            // Why is that? We must maintain primal optimality (a.k.a. dual feasibility) for
+            // the leaving variable, thus new_obj_coeff must be >= 0 if new_val is min, and <= 0
+            // if new_val is max. Sign of the leaving var obj coeff:
+            // sign(new_obj_coeff) = -sign(old_obj_coeff) * sign(pivot_coeff).
+            // Another constraint is that we must not decrease primal objective.
+            // As sign(obj_val_diff) = -sign(old_obj_coeff) * sign(leaving_diff) * sign(pivot_coeff)
+            // must be >= 0, we conclude that sign(new_obj_coeff) = sign(leaving_diff).
+            // From this we see that if old val was < min, dual feasibility is maintained if the
+            // new var is min (analogously for max).
+            let new_val = if val < min {
+                min
+            } else if val > max {
+                max
+            } else {
+                unreachable!();
+            };
+            (r, new_val)
+        })
+    }
+
+    fn choose_entering_col_dual(
+        &self,
+        row: usize,
+        leaving_new_val: f64,
+    ) -> Result<PivotInfo, Outcome> {
+        // True if the new obj. coeff. must be nonnegative in a dual-feasible configuration.
+        let leaving_diff_sign = leaving_new_val > self.basic_var_vals[row];
+
+        fn clamp_obj_coeff(mut obj_coeff: f64, var_state: &NonBasicVarState) -> f64 {
+            if var_state.at_min && obj_coeff < 0.0 {
+                obj_coeff = 0.0;
+            }
+            if var_state.at_max && obj_coeff > 0.0 {
+                obj_coeff = 0.0;
+            }
+            obj_coeff
+        }
+
+        let is_eligible_var = |coeff: f64, var_state: &NonBasicVarState| -> bool {
+            let entering_diff_sign = if coeff >= EPS {
+                !leaving_diff_sign
+            } else if coeff <= -EPS {
+                leaving_diff_sign
+            } else {
+                return false;
+            };
+
+            if entering_diff_sign {
+                !var_state.at_max
+            } else {
+                !var_state.at_min
+            }
+        };
+
+        // Harris rule. See e.g.
+        // Gill, P. E., Murray, W., Saunders, M. A., & Wright, M. H. (1989).
+        // A practical anti-cycling procedure for linearly constrained optimization.
+        // Mathematical Programming, 45(1-3), 437-474.
+        //
+        // https://link.springer.com/content/pdf/10.1007/BF01589114.pdf
+
+        // First, we determine the max step (change in the leaving variable obj. coeff that still
+        // leaves us with a dual-feasible state) using relaxed bounds.
+        let mut max_step = f64::INFINITY;
+        for (c, &coeff) in self.row_coeffs.iter() {
+            let var_state = &self.nb_var_states[c];
+            if !is_eligible_var(coeff, var_state) {
+                continue;
+            }
+
+            let obj_coeff = clamp_obj_coeff(self.nb_var_obj_coeffs[c], var_state);
+            let cur_step = (obj_coeff.abs() + EPS) / coeff.abs();
+            // ours: "A quotient of an eligible column that isn't finite: 23". Pass two's quotient is
+            // no larger than this one.
+            check_finite(Named::DualQuotient, cur_step)?;
+            if cur_step < max_step {
+                max_step = cur_step;
+            }
+        }
+
+        // Second, we choose among the variables satisfying the relaxed step bound
+        // the one with the biggest pivot coefficient. This allows for a much more
+        // numerically stable basis at the price of slight infeasibility in dual variables.
+        let mut entering_c = None;
+        let mut pivot_coeff_abs = f64::NEG_INFINITY;
+        let mut pivot_coeff = 0.0;
+        for (c, &coeff) in self.row_coeffs.iter() {
+            let var_state = &self.nb_var_states[c];
+            if !is_eligible_var(coeff, var_state) {
+                continue;
+            }
+
+            let obj_coeff = clamp_obj_coeff(self.nb_var_obj_coeffs[c], var_state);
+
+            // If we change obj. coeff of the leaving variable by this amount,
+            // obj. coeff if the current variable will reach the bound of dual infeasibility.
+            // Variable with the tightest such bound is the entering variable.
+            let cur_step = obj_coeff.abs() / coeff.abs();
+            if cur_step <= max_step {
+                let coeff_abs = coeff.abs();
+                if coeff_abs > pivot_coeff_abs {
+                    entering_c = Some(c);
+                    pivot_coeff_abs = coeff_abs;
+                    pivot_coeff = coeff;
+                }
+            }
+        }
+
+        if let Some(col) = entering_c {
+            let entering_diff = (self.basic_var_vals[row] - leaving_new_val) / pivot_coeff;
+            let entering_new_val = self.nb_var_vals[col] + entering_diff;
+
+            Ok(PivotInfo {
+                col,
+                entering_new_val,
+                entering_diff,
+                elem: Some(PivotElem {
+                    row,
+                    leaving_new_val,
+                    coeff: pivot_coeff,
+                }),
+            })
+        } else {
+            // ours: 26: "exactly when no column has a row coefficient of size at least EPS and isn't
+            // already at the bound in the way of the move".
+            Err(Outcome::Infeasible { row })
         }
     }
 
@@ -702,6 +923,8 @@ impl Solver {
 
         self.basic_var_mins[pivot_elem.row] = self.orig_var_mins[entering_var];
         self.basic_var_maxs[pivot_elem.row] = self.orig_var_maxs[entering_var];
+
+        self.update_dual_sq_norms(pivot_elem.row, pivot_coeff);
 
         // Update non-basic vars stuff
 
@@ -847,6 +1070,39 @@ impl Solver {
         }
     }
 
+    fn update_dual_sq_norms(&mut self, leaving_row: usize, pivot_coeff: f64) {
+        // Computations for the dual steepest edge pivoting rule.
+        // See the same reference (Forrest, Goldfarb).
+
+        let tau = self.basis_solver.solve(self.inv_basis_row_coeffs.iter());
+
+        // ours: tau's "listed entries must be finite, else 23 (as the helper's)".
+        for (_, &val) in tau.iter() {
+            note(&mut self.not_finite, Named::Tau, val);
+        }
+
+        // Calculate pivot_sq_norm directly to avoid loss of precision.
+        let pivot_sq_norm = self.inv_basis_row_coeffs.sq_norm();
+        // assert!((self.dual_edge_sq_norms[leaving_row] - pivot_sq_norm).abs() < 0.1);
+
+        let pivot_coeff_sq = pivot_coeff * pivot_coeff;
+        for (r, &col_coeff) in self.col_coeffs.iter() {
+            if r == leaving_row {
+                self.dual_edge_sq_norms[r] = pivot_sq_norm / pivot_coeff_sq;
+            } else {
+                self.dual_edge_sq_norms[r] += -2.0 * col_coeff * tau.get(r) / pivot_coeff
+                    + pivot_sq_norm * col_coeff * col_coeff / pivot_coeff_sq;
+            }
+
+            // ours: "unwrap and assert become the numbered answers."
+            note(
+                &mut self.not_finite,
+                Named::DualNorm,
+                self.dual_edge_sq_norms[r],
+            );
+        }
+    }
+
     // ours. 02: "Acceptance is excess <= tol".
     pub fn final_check(&self, tol: f64) -> (Outcome, f64) {
         let (excess, place) = self.largest_excess();
@@ -956,7 +1212,10 @@ impl Solver {
             etaidx: etaidx.to_vec(),
             etaval: etaval.to_vec(),
             factor: self.basis_solver.lu_factors.to_factor(),
+            dnorm: self.dual_edge_sq_norms.clone(),
             factorings: self.factorings,
+            dual_steps: self.dual_steps,
+            in_dual: !self.is_primal_feasible,
         }
     }
 }

@@ -6,7 +6,8 @@ use std::hash::{DefaultHasher, Hash, Hasher};
 
 use crate::answer::{Answer, Named, Outcome, Rejected, StartNumber, State};
 use crate::families::{
-    bad_number_kind, factorings, BAD_NUMBERS, FREE_KINDS, LARGEST, SHORT_KINDS, TURNING,
+    bad_number_kind, factorings, of_both_kinds, BAD_NUMBERS, DUAL_PLACES, FREE_KINDS, LARGEST,
+    SHORT_KINDS, TURNING,
 };
 use crate::gate;
 use crate::limits;
@@ -14,7 +15,7 @@ use crate::plan::Plan;
 use crate::shown::{Correction, Options};
 
 /// The answers of the table. 02: 6 and 22 are no longer given.
-pub const NUMBERS: [u8; 14] = [0, 1, 2, 3, 4, 5, 6, 7, 20, 21, 22, 23, 24, 25];
+pub const NUMBERS: [u8; 15] = [0, 1, 2, 3, 4, 5, 6, 7, 20, 21, 22, 23, 24, 25, 26];
 
 /// The answers of the table that no plan gets.
 const GONE: [u8; 2] = [6, 22];
@@ -78,6 +79,9 @@ impl Survey {
                 self.count("runs with dropped rows");
             }
             self.add_free(plan, answer, state);
+            if state.dual_steps > 0 || state.in_dual {
+                self.add_dual(plan, answer, state);
+            }
         }
         if let Some((family, _)) = family(plan) {
             self.count(format!("family {}", family));
@@ -100,6 +104,74 @@ impl Survey {
         self.count(format!("factored, answer {}", number));
         if number == 25 && factorings(answer) > 1 {
             self.count("25 after a factor");
+        }
+    }
+
+    /// Runs that begin with dual steps, or stop in the first.
+    fn add_dual(&mut self, plan: &Plan, answer: &Answer, state: &State) {
+        let number = answer.outcome.number();
+        let kinds = match of_both_kinds(answer) {
+            true => "both kinds of step",
+            false => "dual steps alone",
+        };
+        self.count(format!("{}, answer {}", kinds, number));
+        match answer.outcome {
+            Outcome::Infeasible { .. } => self.count(match answer.steps {
+                0 => "26 after no step",
+                1 => "26 after 1 step",
+                2..=19 => "26 after 2 to 19 steps",
+                _ => "26 after 20 steps or more",
+            }),
+            Outcome::NotFinite { named, .. } if state.in_dual => {
+                self.count(format!("23 by {} in a dual step", named.name()))
+            }
+            Outcome::Spent | Outcome::Singular if state.in_dual => {
+                self.count(format!("{} in a dual step", number))
+            }
+            _ => {}
+        }
+        if !of_both_kinds(answer) && state.factorings > 0 {
+            self.count(format!("factored in dual steps, answer {}", number));
+        }
+        if plan.rows == limits::ROWS && plan.columns == limits::COLUMNS {
+            self.count("dual steps, 96 rows and 128 columns");
+        }
+        if plan.rows == 1 && plan.columns == 1 {
+            self.count("dual steps, 1 row and 1 column");
+        }
+        if matches!(family(plan), Some(("dual", _))) {
+            self.add_first_dual(plan, answer);
+        }
+    }
+
+    /// Where the first dual step has a tie of the leaving row, and where the dual steps leave the
+    /// objective as it was. A budget of 0 leaves the start.
+    fn add_first_dual(&mut self, plan: &Plan, answer: &Answer) {
+        let first = gate::solve(
+            &Plan {
+                budget: 0,
+                ..plan.clone()
+            },
+            Options::default(),
+        );
+        let Some(start) = &first.state else { return };
+        let row_ops = start.kept.iter().map(|&row| plan.ops[row]);
+        let outside: Vec<f64> = start
+            .bval
+            .iter()
+            .zip(row_ops)
+            .map(|(&slack, op)| match op {
+                0 => -slack,
+                1 => slack.abs(),
+                _ => slack,
+            })
+            .collect();
+        let most = outside.iter().copied().fold(0.0, f64::max);
+        if outside.iter().filter(|&&past| past == most).count() > 1 {
+            self.count("dual steps from a tie of the leaving row");
+        }
+        if answer.steps > 0 && first.objective.to_bits() == answer.objective.to_bits() {
+            self.count("dual steps that leave the objective");
         }
     }
 
@@ -187,7 +259,7 @@ impl Survey {
             let count = self.get(&name);
             targets.push((name, least, count));
         };
-        for number in [20, 21, 23, 24, 25] {
+        for number in [20, 21, 23, 24, 25, 26] {
             at_least(100, format!("{} after 3 or more steps", number));
         }
         for kind in BAD_NUMBERS {
@@ -225,6 +297,25 @@ impl Survey {
             (1_000, "family damaged"),
             (1_000, "family free"),
             (400, "family refactor"),
+            (5_000, "family dual"),
+            (2_000, "dual steps alone, answer 0"),
+            (100, "dual steps alone, answer 24"),
+            (200, "26 after no step"),
+            (200, "26 after 1 step"),
+            (200, "26 after 2 to 19 steps"),
+            (100, "26 after 20 steps or more"),
+            (200, "21 in a dual step"),
+            (40, "25 in a dual step"),
+            (100, "both kinds of step, answer 0"),
+            (30, "both kinds of step, answer 20"),
+            (20, "both kinds of step, answer 21"),
+            (30, "both kinds of step, answer 24"),
+            (40, "factored in dual steps, answer 0"),
+            (10, "factored in dual steps, answer 26"),
+            (50, "dual steps, 96 rows and 128 columns"),
+            (100, "dual steps, 1 row and 1 column"),
+            (200, "dual steps from a tie of the leaving row"),
+            (200, "dual steps that leave the objective"),
         ] {
             at_least(least, name.into());
         }
@@ -232,6 +323,9 @@ impl Survey {
             if !UNREACHED.contains(&named) {
                 at_least(20, format!("23 by {}", named.name()));
             }
+        }
+        for named in DUAL_PLACES {
+            at_least(50, format!("23 by {} in a dual step", named.name()));
         }
         // In no row nothing stops a free column that enters: 20.
         for (name, price) in TURNING {
@@ -304,6 +398,15 @@ fn hash_of(plan: &Plan) -> u64 {
     hasher.finish()
 }
 
+/// Which steps a run had, where dual ones are among them.
+fn dual_kind(answer: &Answer) -> &'static str {
+    match &answer.state {
+        Some(_) if of_both_kinds(answer) => ", both kinds",
+        Some(state) if state.dual_steps > 0 || state.in_dual => ", dual",
+        _ => "",
+    }
+}
+
 /// Picks the plans of the fixed list: of each family, of each kind of answer, the first few that
 /// are short. A 23, a 25 and a run with a factor may be long.
 #[derive(Default)]
@@ -337,7 +440,13 @@ impl Fixed {
             Outcome::FalseEmptyRow { .. } => "5".to_string(),
             Outcome::Rejected(Rejected::Value(_)) => "24 by a value".to_string(),
             Outcome::Rejected(Rejected::Row(_)) => "24 by a row".to_string(),
-            outcome => format!("{:?} {}", outcome, answer.steps.min(3)),
+            Outcome::Infeasible { .. } => format!("26 {}", answer.steps.min(3)),
+            outcome => format!(
+                "{:?} {}{}",
+                outcome,
+                answer.steps.min(3),
+                dual_kind(&answer)
+            ),
         };
         let (most_taken, longest) = match answer.outcome.number() {
             _ if factorings(&answer) > 0 => (1, usize::MAX),

@@ -121,6 +121,11 @@ fn the_second_solver_agrees() {
         );
         assert_eq!(ours.outcome, fresh.outcome);
         assert_eq!(families::factorings(&ours), families::factorings(&fresh));
+        let dual = |answer: &Answer| {
+            let state = answer.state.as_ref();
+            state.map(|state| (state.dual_steps, state.in_dual))
+        };
+        assert_eq!(dual(&ours), dual(&fresh), "{}", plan.id);
         compared += 1;
     });
     assert!(compared > 120_000);
@@ -146,7 +151,7 @@ fn differences_as_kept() {
 /// recalc_obj_coeffs from 0.0 changes no bit, and no plan reads a stale helper place.
 #[test]
 fn corrections_that_no_plan_shows() {
-    let wanted = |family: &str| ["plain", "ties", "huge", "wild", "long"].contains(&family);
+    let wanted = |family: &str| ["plain", "ties", "huge", "wild", "long", "dual"].contains(&family);
     families::make(3, &wanted, &mut |plan| {
         let ours = line(&plan, Options::default());
         for correction in [Correction::Recalc, Correction::StaleHelper] {
@@ -251,6 +256,111 @@ fn a_25_leaves_the_state_before_the_step() {
         seen += 1;
     });
     assert!(seen >= 100, "{}", seen);
+}
+
+/// Makes the plans of the family "dual" whose runs have a state.
+fn dual_runs(seed: u64, take: &mut dyn FnMut(Plan, Answer, State)) {
+    families::make(seed, &|family| family == "dual", &mut |plan| {
+        let answer = gate::solve(&plan, Options::default());
+        if let Some(state) = answer.state.clone() {
+            take(plan, answer, state);
+        }
+    });
+}
+
+/// 26 leaves the state of the last whole step: it is what a budget of the steps taken leaves, and its
+/// row is outside its bounds by more than EPS there.
+#[test]
+fn a_26_leaves_the_state_before_the_step() {
+    let mut seen = 0;
+    dual_runs(11, &mut |plan, answer, state| {
+        let Outcome::Infeasible { row } = answer.outcome else {
+            return;
+        };
+        let spent = gate::solve(
+            &Plan {
+                budget: answer.steps,
+                ..plan.clone()
+            },
+            Options::default(),
+        );
+        assert_eq!(spent.outcome, Outcome::Spent, "{}", plan.id);
+        assert_eq!(spent.objective.to_bits(), answer.objective.to_bits());
+        let (lower, upper) = bounds(&plan, &state, state.basic[row]);
+        let val = state.bval[row];
+        assert!(val < lower - 1e-8 || val > upper + 1e-8, "{}", plan.id);
+        assert_eq!(spent.state, Some(state), "{}", plan.id);
+        seen += 1;
+    });
+    assert!(seen >= 1_000, "{}", seen);
+}
+
+/// Bounds of a column or of a kept row's slack.
+fn bounds(plan: &Plan, state: &State, var: usize) -> (f64, f64) {
+    let columns = plan.columns as usize;
+    if var < columns {
+        return (plan.lower[var], plan.upper[var]);
+    }
+    match plan.ops[state.kept[var - columns]] {
+        0 => (0.0, f64::INFINITY),
+        1 => (0.0, 0.0),
+        _ => (f64::NEG_INFINITY, 0.0),
+    }
+}
+
+/// 02: 7 "exactly when a slack is outside and the start isn't dual feasible". Where it isn't outside by
+/// more than EPS no dual step is taken.
+#[test]
+fn a_start_that_is_outside_is_refused_or_has_dual_steps() {
+    let x_at_least = |rhs: f64, cost: f64| {
+        small_plan(|plan| {
+            plan.cost[0] = cost;
+            plan.ops[0] = 2;
+            plan.rhs[0] = rhs;
+        })
+    };
+    assert_eq!(number_of(&x_at_least(1.0, 1.0)), 0);
+    assert_eq!(number_of(&x_at_least(1.0, 0.0)), 0);
+    assert_eq!(number_of(&x_at_least(1.0, -1.0)), 7);
+    assert_eq!(number_of(&x_at_least(5e-324, -1.0)), 7);
+    assert_eq!(number_of(&x_at_least(0.0, -1.0)), 20);
+    for (rhs, steps) in [(5e-324, 0), (1e-8, 0), (1.0000001e-8, 1), (1.0, 1)] {
+        let answer = gate::solve(&x_at_least(rhs, 1.0), Options::default());
+        assert_eq!(answer.steps, steps, "{}", rhs);
+        // small_plan's tolerance is 0.0.
+        let number = if steps == 0 { 24 } else { 0 };
+        assert_eq!(answer.outcome.number(), number, "{}", rhs);
+    }
+}
+
+/// Where the shown dual steps, with their own factorisation and no primal steps after them, end Optimal
+/// too, the objective is the same to 1e-9 of its size; and where they find no entering column, so do
+/// ours.
+#[test]
+fn dual_steps_agree_with_the_shown_text() {
+    let mut both = [0; 2];
+    let mut shown = Options::showing(Correction::Reset);
+    assert!(shown.show("after-dual"));
+    dual_runs(12, &mut |plan, answer, state| {
+        let theirs = gate::solve(&plan, shown);
+        // Prices of about EPS: what the primal steps after them gain is small, or they end in 20.
+        if families::of_both_kinds(&answer) || state.dual_steps == 0 {
+            return;
+        }
+        match (answer.outcome, theirs.outcome) {
+            (Outcome::Optimal, Outcome::Optimal) => {
+                let apart = (answer.objective - theirs.objective).abs();
+                let size = answer.objective.abs().max(1.0);
+                assert!(apart <= 1e-9 * size, "{}", plan.id);
+                both[0] += 1;
+            }
+            (Outcome::Infeasible { .. }, Outcome::Infeasible { .. }) => both[1] += 1,
+            (Outcome::Optimal, Outcome::Infeasible { .. })
+            | (Outcome::Infeasible { .. }, Outcome::Optimal) => panic!("{}", plan.id),
+            _ => {}
+        }
+    });
+    assert!(both[0] > 2_000 && both[1] > 500, "{:?}", both);
 }
 
 /// One column x from 0.0 up with cost 1.0 and one row x <= 1.0, changed.

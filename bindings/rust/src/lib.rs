@@ -6,8 +6,8 @@ finding the minimum (or maximum) of a linear function of a set of continuous var
 subject to linear equality and inequality constraints.
 
 The solver is the part of [minilp](https://crates.io/crates/minilp) 0.2.2 that a gateway uses, the
-primal simplex from a feasible slack start, ported and proved to follow its written rules
-(document 01), step by step and bit by bit. It adds a step budget, a final check, and an audit
+simplex from a slack start that is feasible or dual feasible, ported and proved to follow its written
+rules (documents 01 and 02), step by step and bit by bit. It adds a step budget, a final check, and an audit
 sheet in whole numbers that bounds how much cheaper any other plan could be.
 
 | module | for whom |
@@ -46,13 +46,13 @@ Change `use minilp::…` to `use tevalumi::…`. What differs:
 | minilp 0.2.2 | here |
 |---|---|
 | any size | at most 128 variables, 96 constraints and 2,048 terms, else error 1 |
-| any start | each constraint must hold where the variables start (below), else error 7 |
+| any start | each constraint holds where the variables start (below), or each variable starts at the bound that its objective coefficient prefers, else error 7 |
 | runs until it is done | at most [`Problem::set_budget`] steps (10,000 unless set), else error 21 |
 | no check of the result | every value and constraint is checked within [`Problem::set_tolerance`] (1e-6 unless set), else error 24 |
 | refactors the basis as soon as its exchanges have as many entries as it, and panics where it can't | refactors when a store of 256 exchanges and 4,096 entries is full; where it can't, error 25 |
 | NaN, numbers above 1e12 and overflow go on | errors 2 and 23 |
 | a variable with no bounds enters at any reduced cost: one with coefficient 0 in no constraint can be called unbounded | it enters only where its reduced cost is at least 1e-8 in size, as every variable does |
-| `Error::Infeasible`, `Error::Unbounded` | the same, and a third case: [`Error::Other`] with every other number. [`Status::CrossedBounds`] (4) and [`Status::FalseEmptyRow`] (5) are `Infeasible`; a problem that is refused with [`Status::SlackOutside`] (7) may be |
+| `Error::Infeasible`, `Error::Unbounded` | the same, and a third case: [`Error::Other`] with every other number. [`Status::CrossedBounds`] (4), [`Status::FalseEmptyRow`] (5) and [`Status::Infeasible`] (26) are `Infeasible`; a problem that is refused with [`Status::SlackOutside`] (7) may be |
 | `add_constraint` panics where a variable stands twice or is of a larger problem | [`Problem::solve`] gives error 3 and names the constraint |
 | `Solution::add_constraint` goes on from the solution | [`Solution::add_constraint`] solves the longer problem anew |
 | `MpsFile` | [`MpsFile`], with `constant` beside its fields |

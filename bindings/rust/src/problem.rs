@@ -305,9 +305,9 @@ impl Problem {
     /// # Errors
     ///
     /// Will return an error for every [`Status`] but [`Optimal`](Status::Optimal): if the problem
-    /// is over a limit or doesn't hold where its variables start, if the objective value is
-    /// unbounded, if the budget or the eta store is spent, if a number isn't finite, or if the
-    /// final check rejects the values.
+    /// is over a limit or has a start that neither kind of step begins at, if the constraints can't
+    /// be satisfied, if the objective value is unbounded, if the budget is spent, if a number isn't
+    /// finite, if a basis can't be factored, or if the final check rejects the values.
     pub fn solve(&self) -> Result<Solution, Error> {
         Ok(self.answer()?)
     }
@@ -323,7 +323,7 @@ impl Problem {
 
     /// As [`answer`](Problem::answer), in a workspace that can be used again and again.
     ///
-    /// After errors 20 to 25 the workspace holds the state after the last whole step.
+    /// After errors 20 to 26 the workspace holds the state after the last whole step.
     ///
     /// # Errors
     ///
@@ -415,7 +415,7 @@ impl Failure {
         self.answer.status
     }
 
-    /// Document 01's number: 1 to 7 or 20 to 25.
+    /// Document 01's number: 1 to 7 or 20 to 26.
     pub fn number(&self) -> u8 {
         self.answer.status.number()
     }
@@ -496,8 +496,9 @@ impl std::error::Error for Failure {}
 /// ```
 #[derive(Clone, Debug, PartialEq)]
 pub enum Error {
-    /// Constraints can't simultaneously be satisfied: numbers 4 (a lower bound above its upper bound)
-    /// and 5 (a constraint without terms that is false).
+    /// Constraints can't simultaneously be satisfied: numbers 4 (a lower bound above its upper bound),
+    /// 5 (a constraint without terms that is false) and 26 (no variable can mend a constraint, as far as
+    /// coefficients of at least 1e-8 in size say).
     Infeasible,
     /// The objective function is unbounded: number 20.
     Unbounded,
@@ -508,7 +509,7 @@ pub enum Error {
 impl From<Failure> for Error {
     fn from(failure: Failure) -> Error {
         match failure.status() {
-            Status::CrossedBounds | Status::FalseEmptyRow => Error::Infeasible,
+            Status::CrossedBounds | Status::FalseEmptyRow | Status::Infeasible => Error::Infeasible,
             Status::Unbounded => Error::Unbounded,
             _ => Error::Other(failure),
         }
@@ -645,8 +646,8 @@ impl Solution {
     ///
     /// This method will consume the solution and not return it in case of error. See also
     /// examples of specifying the left-hand side in the docs for the [`Problem::add_constraint`]
-    /// method. The updated problem is solved anew, not from this solution on, so the constraint has to
-    /// hold where the variables start, as every constraint has to.
+    /// method. The updated problem is solved anew, not from this solution on, so that its start is the
+    /// problem's, not this solution.
     ///
     /// ```
     /// # use tevalumi::*;

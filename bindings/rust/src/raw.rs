@@ -95,7 +95,7 @@ pub mod ops {
 
 /// What a solve ends with: document 01's numbers.
 ///
-/// 1 to 7 are refusals: no lent cell has changed. 20 to 25 leave the values alone, and the
+/// 1 to 7 are refusals: no lent cell has changed. 20 to 26 leave the values alone, and the
 /// workspace holds the state after the last whole step.
 #[derive(Clone, Copy, Debug, PartialEq, Eq, Hash)]
 pub enum Status {
@@ -117,13 +117,13 @@ pub enum Status {
     /// 6: a start value, the objective's sum or a start norm isn't finite. No longer given: numbers up
     /// to 1e12 don't reach it.
     StartNotFinite = 6,
-    /// 7: a row's slack starts outside its bounds, so the slack start isn't feasible. The plan
-    /// may have a solution all the same.
+    /// 7: a row's slack starts outside its bounds, and a column has no bound on the side that its cost
+    /// prefers, so the start isn't dual feasible either. The plan may have a solution all the same.
     SlackOutside = 7,
     /// 20: the objective falls without end, as far as coefficients of at least 1e-8 in size say: a
     /// smaller one stops nothing.
     Unbounded = 20,
-    /// 21: the budget is spent and a column would still enter.
+    /// 21: the budget is spent, and a column would still enter or a row leave.
     Spent = 21,
     /// 22: the eta store has no room for the next column. No longer given: the basis is factored
     /// instead.
@@ -135,11 +135,15 @@ pub enum Status {
     /// 25: the basis after an exchange can't be factored: every remaining entry of some column is under
     /// EPS (1e-8) in size.
     Singular = 25,
+    /// 26: no column can enter for the row that is to leave in a dual step: none has a coefficient of at
+    /// least EPS (1e-8) in size there and room for the move. As far as such coefficients say, no values
+    /// keep every row and bound.
+    Infeasible = 26,
 }
 
 impl Status {
     /// Every status, in the order of its number.
-    pub const ALL: [Status; 14] = [
+    pub const ALL: [Status; 15] = [
         Status::Optimal,
         Status::BadSize,
         Status::BadNumber,
@@ -154,6 +158,7 @@ impl Status {
         Status::NotFinite,
         Status::Rejected,
         Status::Singular,
+        Status::Infeasible,
     ];
 
     /// Document 01's number.
@@ -183,13 +188,14 @@ impl Status {
             Status::CrossedBounds => "a lower bound is above its upper bound",
             Status::FalseEmptyRow => "a row without entries is false",
             Status::StartNotFinite => "a number of the start isn't finite",
-            Status::SlackOutside => "a row isn't kept at the start, and this solver only begins at plans that keep every row",
+            Status::SlackOutside => "a row isn't kept at the start, and a column has no bound on the side that its cost prefers: this solver begins where every row is kept, or where every column has one",
             Status::Unbounded => "unbounded: no bound and no row's coefficient of at least 1e-8 in size stops a column that makes the plan cheaper",
             Status::Spent => "the step budget is spent",
             Status::NoRoom => "the eta store is full",
             Status::NotFinite => "a number of a step isn't finite",
             Status::Rejected => "the final check rejects the values",
             Status::Singular => "the basis after an exchange can't be factored: every remaining entry of some column is under EPS",
+            Status::Infeasible => "the solver finds no column that could mend a row: none that has room to move has a coefficient of at least 1e-8 in size there",
         }
     }
 }
@@ -212,7 +218,8 @@ pub enum Place {
     Row(usize),
     /// Status 24: the value with the largest excess. Columns come first, then the kept rows' slacks.
     Value(usize),
-    /// Status 24: the row that the values miss by the largest excess, counted among the kept rows.
+    /// Status 24: the row that the values miss by the largest excess; status 26: the row that no column can
+    /// mend, whose basic variable is out of its bounds. Counted among the kept rows.
     KeptRow(usize),
 }
 
@@ -294,7 +301,7 @@ pub struct PlanRef<'a> {
 
 /// The memory of a solve: four arrays, room for every plan within the limits. [`sections`] says where what stands.
 ///
-/// It is some 376 KB, of which 297 KB are the factor's, and it can stand in a `static`:
+/// It is some 377 KB, of which 297 KB are the factor's, and it can stand in a `static`:
 ///
 /// ```
 /// use std::sync::Mutex;
@@ -304,12 +311,12 @@ pub struct PlanRef<'a> {
 /// # assert!(WORK.lock().unwrap().kept_rows() == 0);
 /// ```
 ///
-/// After answers 0 and 20 to 25 it holds the state after the last whole step.
+/// After answers 0 and 20 to 26 it holds the state after the last whole step.
 #[derive(Clone, Debug)]
 pub struct Workspace {
     /// Variables, places, flags, the eta store's rows and starts, the kept rows, and the counts.
     pub numbers: [usize; sections::NUMBERS],
-    /// Values, prices, norms, the eta store's coefficients, and the objective.
+    /// Values, prices, norms, the eta store's coefficients, the dual norms, and the objective.
     pub doubles: [f64; sections::DOUBLES],
     /// The factor's pivot rows, starts and rows, where there is one.
     pub factor_numbers: [usize; sections::FACTOR_NUMBERS],

@@ -42,8 +42,10 @@ pub const PRICES: Range<usize> = after(&NB_VAR_VALS, 128);
 pub const NORMS: Range<usize> = after(&PRICES, 128);
 /// In `doubles`: the coefficient of each eta entry.
 pub const ETA_COEFFS: Range<usize> = after(&NORMS, 4_096);
+/// In `doubles`: the dual norm of each kept row, by which the leaving row of a dual step is scored.
+pub const DUAL_NORMS: Range<usize> = after(&ETA_COEFFS, 96);
 /// In `doubles`: the running objective.
-pub const OBJECTIVE: Range<usize> = after(&ETA_COEFFS, 1);
+pub const OBJECTIVE: Range<usize> = after(&DUAL_NORMS, 1);
 /// The cells of `doubles`.
 pub const DOUBLES: usize = OBJECTIVE.end;
 

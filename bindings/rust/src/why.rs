@@ -31,8 +31,13 @@
 //! they stand in is the reason. Where a fraction would grow too large, doubles say which rows to
 //! look at, and the exact search is made over these alone; where that is too large as well, the
 //! doubles are rounded. What is answered has been tested in whole numbers, as the sheet tests it.
+//! [`reason_after`] begins where a run of the solver ended in 26.
+
+mod basis;
 
 use std::cmp::Ordering;
+
+pub use basis::reason_after;
 
 use crate::raw::limits;
 use crate::sheet::Figures;

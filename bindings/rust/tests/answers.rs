@@ -143,7 +143,8 @@ fn reaching(status: Status) -> Problem {
             problem
         }
         Status::StartNotFinite | Status::NoRoom => unreachable!("no longer given"),
-        Status::SlackOutside => one_column(1.0, (0.0, INF), &[(1.0, GE, 1.0)]),
+        // 0, where it starts, breaks the row, and its cost prefers the bound that it hasn't.
+        Status::SlackOutside => one_column(-1.0, (0.0, INF), &[(1.0, GE, 1.0)]),
         Status::Unbounded => one_column(-1.0, (0.0, INF), &[(-1.0, LE, 4.0)]),
         Status::Spent => {
             let mut problem = n1();
@@ -153,6 +154,7 @@ fn reaching(status: Status) -> Problem {
         Status::NotFinite => growing(),
         Status::Rejected => nearly(0.0),
         Status::Singular => near_singular(),
+        Status::Infeasible => one_column(1.0, (0.0, 1.0), &[(1.0, LE, 5.0), (1.0, GE, 2.0)]),
     }
 }
 
@@ -204,10 +206,13 @@ fn every_number_is_reached_by_the_raw_call() {
 #[test]
 fn numbers_and_sentences_are_told_apart() {
     let numbers: Vec<u8> = Status::ALL.iter().map(|status| status.number()).collect();
-    assert_eq!(numbers, [0, 1, 2, 3, 4, 5, 6, 7, 20, 21, 22, 23, 24, 25]);
+    assert_eq!(
+        numbers,
+        [0, 1, 2, 3, 4, 5, 6, 7, 20, 21, 22, 23, 24, 25, 26]
+    );
     let sentences: BTreeSet<&str> = Status::ALL.iter().map(|status| status.sentence()).collect();
     assert_eq!(sentences.len(), Status::ALL.len());
-    for number in (8..20).chain(26..40) {
+    for number in (8..20).chain(27..40) {
         assert_eq!(Status::from_number(number), None);
     }
 }
@@ -356,15 +361,88 @@ fn places_are_said_in_the_callers_numbers() {
     assert_eq!((outside.constraint(), outside.variable()), (Some(0), None));
     assert!(outside.to_string().ends_with(" (constraint 0)"));
 
-    // The first that doesn't hold at 4 and 0, where the costs want them.
+    // The first that doesn't hold at 4 and 0, where the costs want them; the third has no such bound.
     let mut second = minimise();
     let x = second.add_var(-1.0, (0.0, 4.0));
     let y = second.add_var(1.0, (0.0, INF));
+    let _ = second.add_var(-1.0, (0.0, INF));
     second.add_constraint([(x, 1.0), (y, 1.0)], LE, 4.0);
     second.add_constraint([(x, 1.0), (y, -1.0)], LE, 3.0);
     second.add_constraint([(y, 1.0)], GE, 1.0);
     let outside = error(&second);
     assert_eq!((outside.number(), outside.constraint()), (7, Some(1)));
+
+    // Behind a dropped row, kept row 1 is constraint 2.
+    let mut behind = minimise();
+    let x = behind.add_var(1.0, (0.0, 1.0));
+    behind.add_constraint(LinearExpr::empty(), EQ, 0.0);
+    behind.add_constraint([(x, 1.0)], LE, 5.0);
+    behind.add_constraint([(x, 1.0)], GE, 2.0);
+    let none = error(&behind);
+    assert_eq!(none.place(), Place::KeptRow(1));
+    assert_eq!((none.constraint(), none.variable()), (Some(2), None));
+    assert_eq!((none.number(), none.excess()), (26, 0.0));
+    assert!(none
+        .to_string()
+        .ends_with(" at least 1e-8 in size there (constraint 2)"));
+}
+
+/// Amounts between 0 and what is wanted start at what is wanted, which is more than there is: dual steps.
+#[test]
+fn more_is_wanted_than_there_is() {
+    let mut problem = Problem::new(OptimizationDirection::Maximize);
+    let wanted = [(3.0, 50.0), (2.0, 300.0), (5.0, 750.0)];
+    let vars = wanted.map(|(worth, most)| problem.add_var(worth, (0.0, most)));
+    problem.add_constraint(vars.map(|var| (var, 1.0)), LE, 900.0);
+    let solution = problem.solve().unwrap();
+    assert_eq!(solution.objective(), 4100.0);
+    assert_eq!(vars.map(|var| solution[var]), [50.0, 100.0, 750.0]);
+    assert_eq!((solution.steps(), solution.slack(0)), (1, Some(0.0)));
+    assert_eq!(
+        (solution.multiplier(0), solution.price(vars[2])),
+        (2.0, 3.0)
+    );
+
+    problem.set_budget(0);
+    let spent = error(&problem);
+    assert_eq!((spent.number(), spent.objective()), (21, 4500.0));
+}
+
+/// N4's first: "becomes Optimal 1 after 1 step".
+#[test]
+fn a_dual_step_leaves_both_kinds_of_norm() {
+    let mut work = Workspace::new();
+    let n4 = one_column(1.0, (0.0, INF), &[(2.0, GE, 2.0)]);
+    let solution = n4.solve_in(&mut work).unwrap();
+    assert_eq!((solution.objective(), solution.steps()), (1.0, 1));
+    // 1 over the pivot's square, and 1 and it as much.
+    assert_eq!(work.doubles[sections::DUAL_NORMS][0], 0.25);
+    assert_eq!(work.doubles[sections::NORMS][0], 1.25);
+
+    let mut work = Workspace::new();
+    let failure = reaching(Status::Infeasible)
+        .solve_in(&mut work)
+        .unwrap_err();
+    assert_eq!(
+        (failure.number(), failure.steps(), failure.objective()),
+        (26, 1, 2.0)
+    );
+    // The state after the step: the column stands in kept row 1, above its bound.
+    assert_eq!(work.numbers[sections::BASIC_VARS][..2], [1, 0]);
+    assert_eq!(work.doubles[sections::BASIC_VAR_VALS][..2], [3.0, 2.0]);
+    assert_eq!(work.numbers[sections::COUNTS][4], 26);
+}
+
+/// A coefficient under EPS counts as 0: b could be 1e9, and 26 is given.
+#[test]
+fn a_row_that_only_a_tiny_coefficient_could_mend() {
+    let mut problem = minimise();
+    let a = problem.add_var(1.0, (0.0, 1.0));
+    let b = problem.add_var(1.0, (0.0, INF));
+    problem.add_constraint([(a, 1e9), (b, 1.0)], GE, 2e9);
+    let failure = error(&problem);
+    assert_eq!((failure.number(), failure.constraint()), (26, Some(0)));
+    assert!(failure.to_string().contains("1e-8"), "{failure}");
 }
 
 #[test]
@@ -654,7 +732,11 @@ fn a_refusal_changes_no_cell_and_a_solve_keeps_the_tails() {
     let past_first = |cells: std::ops::Range<usize>| cells.start + 1..cells.end;
     let kept = &marked.numbers[past_first(sections::KEPT)];
     assert!(kept.iter().all(|&cell| cell == 77));
-    for section in [sections::NB_VAR_VALS, sections::ETA_COEFFS] {
+    for section in [
+        sections::NB_VAR_VALS,
+        sections::ETA_COEFFS,
+        sections::DUAL_NORMS,
+    ] {
         let cells = &marked.doubles[past_first(section)];
         assert!(cells.iter().all(|&cell| cell == 77.0));
     }
@@ -745,7 +827,7 @@ fn whatever_is_put_in_is_answered() {
         }
     }
     // The rest needs plans that are made for it; see above.
-    for number in [0, 2, 3, 4, 5, 7, 20] {
+    for number in [0, 2, 3, 4, 5, 7, 20, 26] {
         assert!(seen.contains(&number), "{number} of {seen:?}");
     }
 }

@@ -166,6 +166,13 @@ fn errors_by_name() {
     let mut outside = problem.clone();
     outside.add_constraint(&[(x, 1.0), (y, 1.0)], ComparisonOp::Ge, 3.0);
     assert_eq!(named(&outside), "7");
+    let mut none = Problem::new(OptimizationDirection::Minimize);
+    let z = none.add_var(1.0, (0.0, f64::INFINITY));
+    none.add_constraint(&[(z, 1.0)], ComparisonOp::Ge, 3.0);
+    assert_eq!(named(&none), "solved");
+    none.add_constraint(&[(z, 1.0)], ComparisonOp::Le, 2.0);
+    assert_eq!(named(&none), "infeasible");
+    assert_eq!(none.answer().unwrap_err().number(), 26);
     let mut twice = problem.clone();
     twice.add_constraint(&[(x, 1.0), (x, 1.0)], ComparisonOp::Le, 3.0);
     assert_eq!(named(&twice), "3");

@@ -4,9 +4,11 @@ mod common;
 
 use common::Rng;
 use tevalumi::raw::limits::ROWS;
+use tevalumi::raw::Workspace;
 use tevalumi::sheet::{Figures, Sheet};
-use tevalumi::why::{proposal, reason, Reason};
+use tevalumi::why::{proposal, reason, reason_after, Reason};
 use tevalumi::ComparisonOp::{self, Eq, Ge, Le};
+use tevalumi::{OptimizationDirection, Place, Problem};
 
 /// The sheet's own sums with all costs 0: right signs, no absent bound needed, and the floor.
 fn floor(plan: &Figures, mults: &[i64]) -> i128 {
@@ -37,7 +39,11 @@ fn floor(plan: &Figures, mults: &[i64]) -> i128 {
 
 /// The multipliers of a reason, tested; none where the search gave up.
 fn shown(plan: &Figures) -> Option<Vec<i64>> {
-    let mults = match reason(plan) {
+    tested(plan, reason(plan))
+}
+
+fn tested(plan: &Figures, found: Reason) -> Option<Vec<i64>> {
+    let mults = match found {
         Reason::Multipliers(mults) => mults,
         Reason::GivenUp => return None,
         Reason::SomePlan => panic!("no amounts keep {plan:?}"),
@@ -303,6 +309,20 @@ impl Made {
     }
 }
 
+/// A plan of one of four sizes, and the number of its core.
+fn made(seed: u64) -> (usize, Figures) {
+    let mut rng = Rng(seed);
+    let core = seed as usize % CORES.len();
+    let (rows, columns) = match seed / 4 % 4 {
+        0 => (rng.between(1, 4), rng.between(1, 6)),
+        1 => (rng.between(2, 12), rng.between(2, 16)),
+        2 => (rng.between(8, 30), rng.between(8, 50)),
+        _ => (rng.between(30, 63), rng.between(50, 128)),
+    };
+    let plan = Made::of(rng, CORES[core], rows as usize, columns as usize);
+    (core, plan)
+}
+
 /// Of plans of every size that can't be kept by the way they were made, nearly all get their reason.
 /// `TEVALUMI_WHY` says how many are tried.
 #[test]
@@ -311,18 +331,84 @@ fn made_plans_get_their_reason() {
     let tried: u64 = tried.map_or(200, |count| count.parse().expect("a number"));
     let mut found = [0; 4];
     for seed in 0..tried {
-        let mut rng = Rng(seed);
-        let core = seed as usize % CORES.len();
-        let (rows, columns) = match seed / 4 % 4 {
-            0 => (rng.between(1, 4), rng.between(1, 6)),
-            1 => (rng.between(2, 12), rng.between(2, 16)),
-            2 => (rng.between(8, 30), rng.between(8, 50)),
-            _ => (rng.between(30, 63), rng.between(50, 128)),
-        };
-        let plan = Made::of(rng, CORES[core], rows as usize, columns as usize);
+        let (core, plan) = made(seed);
         found[core] += u64::from(shown(&plan).is_some());
     }
     let all: u64 = found.iter().sum();
     println!("{all} of {tried} plans got their reason: {found:?} of {CORES:?}");
     assert!(all * 100 >= tried * 90);
+}
+
+/// The plan as the solver has it, with costs that prefer bounds that are there, so that dual steps begin.
+fn preferring(plan: &Figures, rng: &mut Rng) -> Problem {
+    let mut problem = Problem::new(OptimizationDirection::Minimize);
+    let mut vars = vec![];
+    for (lower, upper) in plan.lowers.iter().zip(&plan.uppers) {
+        let (least, most) = (
+            -9 * i64::from(upper.is_some()),
+            9 * i64::from(lower.is_some()),
+        );
+        let low = lower.map_or(f64::NEG_INFINITY, |low| low as f64);
+        let high = upper.map_or(f64::INFINITY, |high| high as f64);
+        vars.push(problem.add_var(rng.between(least, most) as f64, (low, high)));
+    }
+    for i in 0..plan.rows {
+        let cells = &plan.coefs[i * plan.columns..][..plan.columns];
+        let terms = vars.iter().zip(cells).filter(|(_, &cell)| cell != 0);
+        let terms: Vec<_> = terms.map(|(&var, &cell)| (var, cell as f64)).collect();
+        problem.add_constraint(terms, plan.ops[i], plan.rhs[i] as f64);
+    }
+    problem
+}
+
+/// A run that ends in 26 leaves its reason: nearly all of them are shown. `TEVALUMI_WHY` says how many are tried.
+#[test]
+fn runs_that_end_in_26_get_their_reason() {
+    let tried = std::env::var("TEVALUMI_WHY").ok();
+    let tried: u64 = tried.map_or(200, |count| count.parse().expect("a number"));
+    let mut work = Workspace::new();
+    let (mut ended, mut found) = (0, 0);
+    for seed in 0..tried {
+        let (_, plan) = made(seed);
+        let problem = preferring(&plan, &mut Rng(seed));
+        let failure = problem.solve_in(&mut work).unwrap_err();
+        // Some have an empty row that is false, or too many entries.
+        if failure.status().is_refusal() {
+            continue;
+        }
+        let Place::KeptRow(row) = failure.place() else {
+            panic!("{failure}");
+        };
+        assert_eq!(failure.number(), 26);
+        ended += 1;
+        found += u64::from(tested(&plan, reason_after(&plan, &work, row)).is_some());
+    }
+    println!("{found} of {ended} runs that end in 26 get their reason");
+    assert!(ended * 2 >= tried && found * 100 >= ended * 95);
+}
+
+/// Memory that isn't a run's over this plan says nothing: the plan is looked at as without it.
+#[test]
+fn memory_of_another_run() {
+    let two = plan(&[&[1, 1], &[1, 1]], &[(Ge, 5), (Le, 3)], &[UP, UP]);
+    let mut work = Workspace::new();
+    let wanted = Some(vec![1024, -1024]);
+    assert_eq!(tested(&two, reason_after(&two, &work, 0)), wanted);
+    let failure = preferring(&two, &mut Rng(1))
+        .solve_in(&mut work)
+        .unwrap_err();
+    assert_eq!(failure.place(), Place::KeptRow(1));
+    for row in [0, 1, 2, usize::MAX] {
+        assert_eq!(tested(&two, reason_after(&two, &work, row)), wanted);
+    }
+    for cell in 0..work.numbers.len() {
+        let was = work.numbers[cell];
+        for now in [0, 1, 4, 97, usize::MAX] {
+            work.numbers[cell] = now;
+            assert_eq!(tested(&two, reason_after(&two, &work, 1)), wanted);
+        }
+        work.numbers[cell] = was;
+    }
+    let some = plan(&[&[1, 1], &[1, 1]], &[(Ge, 5), (Le, 9)], &[UP, UP]);
+    assert_eq!(reason_after(&some, &work, 1), Reason::SomePlan);
 }

@@ -12,7 +12,7 @@ use std::process::ExitCode;
 
 use oracle::answer::{Answer, Outcome};
 use oracle::exchange::{answer_line, tri_answer_line, Extras, Item, Reader};
-use oracle::families::factorings;
+use oracle::families::{factorings, of_both_kinds};
 use oracle::plan::Plan;
 use oracle::shown::{Correction, Options};
 use oracle::tri::{Tri, TriAnswer};
@@ -213,7 +213,8 @@ fn plans() -> Result<List, String> {
 
 /// Number, sort of place, what its reason is, whether it arose on a flip, steps up to 4, for a 2 whether
 /// it is 02's, whether a column is left at neither bound with a price of about EPS or less, where 02's
-/// filter decides, and how often the basis was factored, up to 2.
+/// filter decides, how often the basis was factored, up to 2, and whether the run had dual steps, or was
+/// to have one, and both kinds.
 type Kind = (
     u8,
     String,
@@ -223,6 +224,7 @@ type Kind = (
     bool,
     bool,
     usize,
+    (bool, bool),
 );
 
 fn plan_kind(plan: &Plan, answer: &Answer) -> Kind {
@@ -241,6 +243,10 @@ fn plan_kind(plan: &Plan, answer: &Answer) -> Kind {
             places.any(|(&flags, price)| flags == 0 && price.abs() < 2e-8)
         }),
         factorings(answer).min(2),
+        (
+            (answer.state.as_ref()).is_some_and(|state| state.dual_steps > 0 || state.in_dual),
+            of_both_kinds(answer),
+        ),
     )
 }
 

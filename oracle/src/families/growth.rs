@@ -5,12 +5,12 @@
 //! first; so the columns enter in the order of the scores, and every step but the last one or two
 //! moves nothing. docs/DECISIONS.md, "23's places", says why no plan is simpler.
 
-use super::{power_of_two, Draft, EQ, INF, LE};
+use super::{power_of_two, Draft, EQ, GE, INF, LE};
 use crate::answer::Named;
 use crate::rng::Rng;
 
 /// A little over EPS.
-const PIVOT: f64 = 1.0 / (1 << 26) as f64;
+pub(super) const PIVOT: f64 = 1.0 / (1 << 26) as f64;
 
 /// A chain of rows in which numbers grow. Each column has its pivot in a row and a large entry, which
 /// takes that row's slack away from its bound, in the next. Only the last column has a cost. When it
@@ -45,12 +45,17 @@ impl Cascade {
             .fold(number, |grown, factor| grown * (factor / self.pivot))
     }
 
-    /// Begins at a row that is there; the end row.
+    /// Begins at a row that is there; the end row, a new one.
     pub(super) fn put(&self, draft: &mut Draft, first: usize, score: f64) -> usize {
+        self.put_to(draft, first, None, score)
+    }
+
+    fn put_to(&self, draft: &mut Draft, first: usize, end: Option<usize>, score: f64) -> usize {
         let mut row = first;
         for (step, &factor) in self.factors.iter().enumerate() {
-            let next = draft.empty_row(LE);
             let last = step + 1 == self.factors.len();
+            let given = end.filter(|_| last);
+            let next = given.unwrap_or_else(|| draft.empty_row(LE));
             let cost = if last { -score * factor } else { 0.0 };
             draft.column_in(cost, INF, &[(row, self.pivot), (next, -factor)]);
             row = next;
@@ -63,7 +68,7 @@ impl Cascade {
 /// sees nothing there, and what is left is rounding. The column solve and the row solve take the
 /// products in different orders, and few bits make the one or the other exact: see `few_bits`.
 #[derive(Clone, Copy)]
-struct Cancel {
+pub(super) struct Cancel {
     first: f64,
     second: f64,
     by_first: f64,
@@ -75,7 +80,7 @@ impl Cancel {
     /// With few bits, so that the row solve of a number with few bits comes to 0.0 exactly. The second
     /// product is far smaller than the first: then what is left has many bits, and what is left of
     /// that isn't 0.0 either.
-    fn few_bits(rng: &mut Rng) -> Cancel {
+    pub(super) fn few_bits(rng: &mut Rng) -> Cancel {
         let mut bits = || (65 + rng.below(62)) as f64 / 128.0;
         let (first, second) = (-bits(), -bits() / 1024.0);
         let (by_first, by_second) = (bits(), bits() / 1024.0);
@@ -95,7 +100,7 @@ impl Cancel {
     }
 
     /// What the row solve leaves of a multiple.
-    fn left_of_multiple(&self, multiple: f64) -> f64 {
+    pub(super) fn left_of_multiple(&self, multiple: f64) -> f64 {
         let (first, second) = (-(self.by_first * multiple), -(self.by_second * multiple));
         -(self.first * first + self.back * multiple + self.second * second)
     }
@@ -118,6 +123,26 @@ impl Cancel {
         to
     }
 
+    /// As `put`, for dual steps: from a row whose slack gets outside, so that the three columns enter in
+    /// turn. The second row's slack starts outside by `past`, and then so does the end row's, a Le row's,
+    /// by a little; what comes from the first row comes to 0 there too.
+    pub(super) fn put_dual(&self, draft: &mut Draft, from: usize, past: f64) -> usize {
+        let first = draft.empty_row(GE);
+        let to = draft.empty_row(LE);
+        let second = draft.empty_row(GE);
+        draft.rows[second].rhs = past;
+        let column = [
+            (from, 1.0),
+            (first, self.first),
+            (to, self.back),
+            (second, self.second),
+        ];
+        draft.column_in(0.0, INF, &column);
+        draft.column_in(0.0, INF, &[(first, 1.0), (to, self.by_first)]);
+        draft.column_in(0.0, INF, &[(second, 1.0), (to, self.by_second)]);
+        to
+    }
+
     /// What a column of cost 0.0 with -entry in the first row comes to cost by these three: with this
     /// cost it doesn't enter.
     fn price_of(&self, entry: f64, score: f64) -> f64 {
@@ -126,7 +151,7 @@ impl Cancel {
 }
 
 /// 12 bits.
-fn few_bits(rng: &mut Rng) -> f64 {
+pub(super) fn few_bits(rng: &mut Rng) -> f64 {
     (2_049 + 2 * rng.below(1_024)) as f64 / 2_048.0
 }
 
@@ -134,38 +159,45 @@ fn many_bits(rng: &mut Rng) -> f64 {
     1.0 + rng.unit()
 }
 
-/// The place that a draft is made for, and whether it is reached on a flip.
-type NamedDraft = ((Named, bool), Draft);
+/// The sort of step in which a place is reached.
+#[derive(Clone, Copy, Debug, PartialEq)]
+pub(super) enum Within {
+    Exchange,
+    Flip,
+    Dual,
+}
 
-/// A draft for each place that can be named.
-pub(super) fn drafts(rng: &mut Rng) -> Vec<NamedDraft> {
-    vec![
-        ((Named::Norm, false), norm_draft(rng)),
-        ((Named::Price, false), price_draft(rng)),
-        ((Named::Row, false), row_draft(rng)),
-        ((Named::Objective, true), flipped_objective_draft(rng)),
-        (
-            (Named::Column, false),
-            hidden_draft(rng, Named::Column, false),
-        ),
-        (
-            (Named::Helper, false),
-            hidden_draft(rng, Named::Helper, false),
-        ),
-        ((Named::Basic, true), hidden_draft(rng, Named::Basic, true)),
-        (
-            (Named::Quotient, false),
-            hidden_draft(rng, Named::Quotient, false),
-        ),
-        (
-            (Named::Objective, false),
-            hidden_draft(rng, Named::Objective, false),
-        ),
-        (
-            (Named::Basic, false),
-            hidden_draft(rng, Named::Basic, false),
-        ),
-    ]
+/// A place that can be named.
+pub(super) type Place = (Named, Within);
+
+pub(super) const PLACES: [Place; 12] = [
+    (Named::Norm, Within::Exchange),
+    (Named::Price, Within::Exchange),
+    (Named::Row, Within::Exchange),
+    (Named::Objective, Within::Flip),
+    (Named::Column, Within::Exchange),
+    (Named::Helper, Within::Exchange),
+    (Named::Basic, Within::Flip),
+    (Named::Quotient, Within::Exchange),
+    (Named::Objective, Within::Exchange),
+    (Named::Basic, Within::Exchange),
+    (Named::Tau, Within::Exchange),
+    (Named::DualNorm, Within::Exchange),
+];
+
+/// A draft that is made for this place.
+pub(super) fn draft(rng: &mut Rng, (named, within): Place) -> Draft {
+    match (named, within) {
+        (_, Within::Dual) => super::dual_growth::draft(rng, named),
+        (Named::Norm, _) => norm_draft(rng),
+        (Named::Price, _) => price_draft(rng),
+        (Named::Row, _) => row_draft(rng, 180),
+        // Of less size: the row is finite, its product with the end row's numbers isn't.
+        (Named::Tau, _) => row_draft(rng, 100),
+        (Named::DualNorm, _) => dual_norm_draft(rng),
+        (Named::Objective, Within::Flip) => flipped_objective_draft(rng),
+        _ => hidden_draft(rng, named, within == Within::Flip),
+    }
 }
 
 /// One cascade of a little over half the exponents.
@@ -174,6 +206,18 @@ fn norm_draft(rng: &mut Rng) -> Draft {
     let first = draft.empty_row(LE);
     let (bits, steps) = (514 + rng.below(40) as i32, 9 + rng.below(8) as i32);
     Cascade::new(bits, steps, many_bits(rng)).put(&mut draft, first, 1.0);
+    draft
+}
+
+/// Two cascades to one end row: the squares of both are within the largest double, each in the norm of
+/// a slack of its own, and the end row's dual norm is their sum.
+fn dual_norm_draft(rng: &mut Rng) -> Draft {
+    let mut draft = Draft::new();
+    let end = draft.empty_row(LE);
+    for score in [1.0, 0.5] {
+        let first = draft.empty_row(LE);
+        Cascade::new(511, 9, 1.45 + 0.5 * rng.unit()).put_to(&mut draft, first, Some(end), score);
+    }
     draft
 }
 
@@ -194,7 +238,7 @@ fn price_draft(rng: &mut Rng) -> Draft {
 /// A row solve from the end row. What two `Cancel`s leave, each enlarged by a cascade, stands in no norm,
 /// since no row that was pivoted on before has more than few bits. The last column's pivot is in the
 /// end row.
-fn row_draft(rng: &mut Rng) -> Draft {
+fn row_draft(rng: &mut Rng, bits: i32) -> Draft {
     let (nearer, farther, near, far) = loop {
         let (nearer, farther) = (Cancel::few_bits(rng), Cancel::few_bits(rng));
         let near = Cascade::new(500, 8, few_bits(rng));
@@ -207,7 +251,7 @@ fn row_draft(rng: &mut Rng) -> Draft {
     };
     let mut draft = Draft::new();
     let first = draft.empty_row(LE);
-    let row = Cascade::new(180, 3, 1.0).put(&mut draft, first, 1.0);
+    let row = Cascade::new(bits, 3, 1.0).put(&mut draft, first, 1.0);
     let row = nearer.put(&mut draft, row, power_of_two(-4));
     let row = near.put(&mut draft, row, power_of_two(-8));
     let row = farther.put(&mut draft, row, power_of_two(-12));

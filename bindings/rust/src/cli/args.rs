@@ -78,7 +78,7 @@ usage: tevalumi solve FILE    solve a plan and print its values
        tevalumi COMMAND --help
 
 exit status: 0 Optimal; 1 refused (answers 1 to 7; a change of the sheet: 11 to 16, 35 to 37);
-             3 not solved (answers 20 to 25); 4 an audit shows no gap;
+             3 not solved (answers 20 to 26); 4 an audit shows no gap;
              2 the command line or a file is wrong, or what was to be written isn't
 ";
 
@@ -91,8 +91,9 @@ cost) and where each stands, and the rows with activity, right side, slack and m
 At most 128 columns, 96 rows and 2,048 entries.
 
 The run begins with each column at the bound that its cost wants: below 0 the upper one, else the
-lower one; the other where that is infinite, 0 where both are. A plan with a row that isn't kept
-there is refused with 7, though it may have a solution.
+lower one; the other where that is infinite, 0 where both are. Where a row isn't kept there and a
+column has no bound on the side that its cost wants, the plan is refused with 7, though it may have
+a solution.
 
 formats: MPS, free or fixed, as GLPK, Clp and HiGHS write it; CPLEX-LP; the project's own text
          (docs/EXCHANGE.md); a plan that `tevalumi keep` wrote; each of them packed by gzip, where
@@ -116,7 +117,7 @@ in MPS: a negative UP without a lower bound means no lower bound; bounds of 1e20
         none; a range becomes two rows; N rows after the first are left out; the objective's right
         side is a constant with its sign turned (in files of glpsol, as glpsol does, not turned)
 
-exit status: 0 Optimal; 1 refused (answers 1 to 7); 3 not solved (answers 20 to 25);
+exit status: 0 Optimal; 1 refused (answers 1 to 7); 3 not solved (answers 20 to 26);
              2 the command line or the file is wrong
 ";
 
@@ -136,7 +137,7 @@ options: --format, --max, --min, --relax, --budget, --tol, --max-size, --json, -
          `tevalumi solve`
 
 exit status: 0 the sheet shows a gap; 4 it shows none; 1 refused (answers 1 to 7); 3 not solved
-             (answers 20 to 25); 2 the command line or the file is wrong, or the plan isn't in
+             (answers 20 to 26); 2 the command line or the file is wrong, or the plan isn't in
              whole numbers
 ";
 

@@ -51,6 +51,12 @@ impl Solved {
         ends
     }
 
+    /// The variable that stands in a kept row, and its value.
+    pub fn basic(&self, row: usize) -> (usize, f64) {
+        let var = self.work.numbers[sections::BASIC_VARS][row];
+        (var, self.work.doubles[sections::BASIC_VAR_VALS][row])
+    }
+
     /// Each row's multiplier, as minimised: minus the price of its slack, 0 for a dropped row.
     pub fn multipliers(&self, plan: &Plan) -> Vec<f64> {
         let mut mults = vec![0.0; plan.rows];
@@ -143,6 +149,7 @@ fn cut(
         "etaptr" => (true, sections::ETA_STARTS.len()),
         "etaidx" => (true, sections::ETA_ROWS.len()),
         "etaval" => (false, sections::ETA_COEFFS.len()),
+        "dnorm" => (false, rows),
         "counts" => (true, sections::COUNTS.len()),
         "obj" => (false, sections::OBJECTIVE.len()),
         _ => return,

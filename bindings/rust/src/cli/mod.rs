@@ -256,7 +256,7 @@ impl Case<'_> {
     }
 
     fn unsolved(&self) -> Told {
-        let looked = why::look(self.plan).ok();
+        let looked = why::look(self.plan, &self.solved).ok();
         let head = report::head(self.plan, &self.solved, false);
         match looked.filter(|looked| looked.exit() == 0) {
             Some(why) => {
@@ -281,7 +281,7 @@ impl Case<'_> {
     }
 
     fn why(&self) -> Result<Told, Outcome> {
-        let looked = why::look(self.plan).map_err(|what| self.not_whole(what))?;
+        let looked = why::look(self.plan, &self.solved).map_err(|what| self.not_whole(what))?;
         let text = report::title(self.plan) + &looked.text(self.plan);
         let told = self.told(text, &looked.as_json(), looked.exit());
         Ok(self.with_page(told, || looked.page(self.plan)))

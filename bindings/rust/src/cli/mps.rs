@@ -71,11 +71,17 @@ struct Row {
 #[derive(Default)]
 struct Set {
     first: Option<String>,
+    last: String,
     others: usize,
 }
 
 impl Set {
-    fn takes(&mut self, name: &str) -> bool {
+    /// In fixed columns a line that names no set belongs to the one of the line before, as GLPK reads it.
+    fn takes(&mut self, name: &str, layout: Layout) -> bool {
+        if layout == Layout::Free || !name.is_empty() {
+            self.last = name.to_string();
+        }
+        let name = self.last.as_str();
         let taken = self.first.get_or_insert_with(|| name.to_string()) == name;
         self.others += usize::from(!taken);
         taken
@@ -283,7 +289,14 @@ impl Reader {
         if self.marker(at, line)? {
             return Ok(());
         }
-        let (name, pairs) = self.pairs(at, line)?;
+        let (head, pairs) = self.pairs(at, line)?;
+        // In fixed columns a line without a name goes on with the column before, as GLPK reads it.
+        let before = self.draft.columns.last().map(|column| column.name.clone());
+        let name = match before {
+            Some(before) if head.is_empty() => before,
+            _ => head.to_string(),
+        };
+        let name = name.as_str();
         if name.is_empty() {
             return Err(Fault::expected(
                 at,
@@ -380,7 +393,7 @@ impl Reader {
         } else {
             &mut self.rhs_set
         };
-        if !sets.takes(set) {
+        if !sets.takes(set, self.layout) {
             return Ok(());
         }
         for (name, number) in pairs {
@@ -411,7 +424,7 @@ impl Reader {
                 Some(field(line, 24, 36)).filter(|text| !text.is_empty()),
             ),
         };
-        if !self.bound_set.takes(set) {
+        if !self.bound_set.takes(set, self.layout) {
             return Ok(());
         }
         let place = self.column_places.get(name).copied();

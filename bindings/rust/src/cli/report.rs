@@ -7,7 +7,7 @@ use super::html::{Bar, Page};
 use super::plan::{counted, Plan, EQ, GE, LE};
 use super::show::{bits, json, number, quoted, Side, Table};
 
-/// The exit status: 0 Optimal, 1 for refusals 1 to 7, 3 for 20 to 25.
+/// The exit status: 0 Optimal, 1 for refusals 1 to 7, 3 for 20 to 26.
 pub fn exit(status: Status) -> u8 {
     match status {
         Status::Optimal => 0,
@@ -391,8 +391,9 @@ pub fn sentence(plan: &Plan, solved: &Solved) -> String {
             compared(plan, 0.0, i)
         ),
         (Status::SlackOutside, _) => format!(
-            "refused: {}, and this solver begins only where every row is kept. There may be a plan all the same.",
-            broken_at_start(plan).unwrap_or_else(|| "a row isn't kept at the start".to_string())
+            "refused: {}, and {}: this solver begins where every row is kept, or where every column has such a bound. There may be a plan all the same.",
+            broken_at_start(plan).unwrap_or_else(|| "a row isn't kept at the start".to_string()),
+            unbounded_start(plan)
         ),
         (Status::StartNotFinite, _) => {
             "refused: a start value, the start's cost or a norm isn't finite."
@@ -412,7 +413,7 @@ pub fn sentence(plan: &Plan, solved: &Solved) -> String {
             "NotFinite: a number of the next step isn't finite.".to_string()
         }
         (Status::Spent, _) => format!(
-            "Spent: {} taken, as many as the budget has, and a column would still enter.",
+            "Spent: {} taken, as many as the budget has, and another would follow.",
             counted(plan.budget, "step was", "steps were")
         ),
         (Status::Rejected, Place::Value(v)) => match v.checked_sub(plan.columns) {
@@ -432,7 +433,40 @@ pub fn sentence(plan: &Plan, solved: &Solved) -> String {
             kept_name(plan, solved, k),
             largest(solved)
         ),
+        (Status::Infeasible, Place::KeptRow(k)) => format!(
+            "Infeasible: the solver finds no column that could mend row {}, {}: none that has room to move has a coefficient of at least {EPS:e} in size there.",
+            kept_name(plan, solved, k),
+            out_of_bounds(plan, solved, k)
+        ),
         (status, _) => format!("{}.", status.sentence()),
+    }
+}
+
+/// What is out of its bounds in a kept row: `where column x stands at 2, above its upper bound 1`.
+fn out_of_bounds(plan: &Plan, solved: &Solved, row: usize) -> String {
+    let (var, value) = solved.basic(row);
+    match var.checked_sub(plan.columns) {
+        None => {
+            let (lower, upper) = (plan.lowers[var], plan.uppers[var]);
+            let (side, bound) = match value < lower {
+                true => ("below its lower", lower),
+                false => ("above its upper", upper),
+            };
+            format!(
+                "where column {} stands at {}, {side} bound {}",
+                plan.column_name(var),
+                number(value),
+                number(bound)
+            )
+        }
+        Some(k) => {
+            let i = solved.kept.get(k).copied().unwrap_or(k);
+            let broken = compared(plan, plan.rhs[i] - value, i);
+            match k == row {
+                true => format!("which is broken ({broken})"),
+                false => format!("where row {} is broken ({broken})", plan.row_name(i)),
+            }
+        }
     }
 }
 
@@ -579,6 +613,22 @@ fn line(lines: &[usize], at: usize) -> String {
         None | Some(0) => String::new(),
         Some(line) => format!(" (line {line})"),
     }
+}
+
+/// The first column with no bound on the side that its cost prefers. Only for the sentence: the library
+/// has settled that there is one.
+fn unbounded_start(plan: &Plan) -> String {
+    let side = |j: usize| match plan.costs[j] {
+        cost if cost < 0.0 && plan.uppers[j] == f64::INFINITY => Some("upper"),
+        cost if cost > 0.0 && plan.lowers[j] == f64::NEG_INFINITY => Some("lower"),
+        _ => None,
+    };
+    let told = |j: usize| {
+        let name = plan.column_name(j);
+        side(j).map(|side| format!("column {name} has no {side} bound, which its cost prefers"))
+    };
+    let none = || "a column has no bound on the side that its cost prefers".to_string();
+    (0..plan.columns).find_map(told).unwrap_or_else(none)
 }
 
 /// The first row that the start breaks, by 01's rule for the start. Only for the sentence: the

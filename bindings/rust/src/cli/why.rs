@@ -1,11 +1,13 @@
 //! Why a plan has no solution, as the sheet has it. The multipliers are looked for by the crate and
 //! need no trust: what is said is the sheet's verdict.
 
+use tevalumi::raw::{Place, Status};
 use tevalumi::sheet::{Sheet, Verdict};
-use tevalumi::why::{proposal, reason, Reason};
+use tevalumi::why::{proposal, reason, reason_after, Reason};
 use tevalumi::ComparisonOp;
 
 use super::audit::{figures, Costs};
+use super::engine::Solved;
 use super::html::{Bar, Page};
 use super::plan::Plan;
 use super::show::{of_1024, quoted, Side, Table};
@@ -22,9 +24,14 @@ pub enum Looked {
 }
 
 /// The error is a sentence that names the first number that doesn't fit the sheet.
-pub fn look(plan: &Plan) -> Result<Looked, String> {
+pub fn look(plan: &Plan, solved: &Solved) -> Result<Looked, String> {
     let figures = figures(plan, Costs::Zero)?;
-    let mults = match reason(&figures) {
+    let answer = &solved.answer;
+    let reason = match (answer.status, answer.place) {
+        (Status::Infeasible, Place::KeptRow(row)) => reason_after(&figures, &solved.work, row),
+        _ => reason(&figures),
+    };
+    let mults = match reason {
         Reason::Multipliers(mults) => mults,
         Reason::SomePlan => return Ok(Looked::SomePlan),
         Reason::GivenUp => return Ok(Looked::NotShown),

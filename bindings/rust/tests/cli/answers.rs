@@ -148,6 +148,89 @@ fn where_eps_decides() {
     }
 }
 
+/// 26 names the row, what is out of its bounds there, and EPS. Where a sheet shows nothing, no word is said
+/// of there being no plan: b could be 1e9, but for its coefficient of 1e-9 beside a.
+#[test]
+fn a_row_that_nothing_mends() {
+    let tiny = mps(
+        " G r\n",
+        " a c 1 r 1e9\n b c 1 r 1\n",
+        " RHS r 2e9\n",
+        " UP B a 1\n",
+    );
+    for words in [["solve", "t.mps"], ["audit", "t.mps"]] {
+        let told = run(&words, &tiny);
+        let (_, status) = told.out.split_once('\n').unwrap();
+        assert_eq!(status, "\
+status     26, Infeasible: the solver finds no column that could mend row r, where column a stands at 2, above its upper bound 1: none that has room to move has a coefficient of at least 1e-8 in size there.
+objective  2 after the last whole step, no result
+steps      1
+");
+        assert_eq!(told.exit, 3);
+    }
+    let told = run(&["solve", "t.mps", "--json"], &tiny);
+    let wanted =
+        "\"status\":26,\"name\":\"Infeasible\",\"sentence\":\"Infeasible: the solver finds";
+    assert!(told.out.contains(wanted), "{}", told.out);
+    let wanted = ",\"place\":{\"kind\":\"row\",\"row\":0,\"name\":\"r\"},";
+    assert!(told.out.contains(wanted), "{}", told.out);
+    assert!(
+        told.out.ends_with(",\"objective\":2.0,\"steps\":1}\n"),
+        "{}",
+        told.out
+    );
+
+    // A row that is broken where the columns start, and a column below its lower bound.
+    let below = mps(" L r\n", " x c 1 r 1\n", " RHS r 3\n", " LO B x 5\n");
+    let told = run(&["solve", "t.mps"], &below);
+    assert!(
+        told.out
+            .contains("could mend row r, which is broken (5 <= 3): none"),
+        "{}",
+        told.out
+    );
+    let below = mps(
+        " L r\n",
+        " x c -1 r 1\n",
+        " RHS r 3\n",
+        " LO B x 5\n UP B x 9\n",
+    );
+    let told = run(&["solve", "t.mps"], &below);
+    assert!(
+        told.out.contains(
+            "could mend row r, where column x stands at 3, below its lower bound 5: none"
+        ),
+        "{}",
+        told.out
+    );
+}
+
+/// What is wanted is more than there is: amounts between 0 and what is wanted, and one row.
+#[test]
+fn more_is_wanted_than_there_is() {
+    let lp = b"Maximize\n worth: 3 a + 2 b + 5 c\nSubject To\n air: a + b + c <= 900\nBounds\n a <= 50\n b <= 300\n c <= 750\nEnd\n";
+    let told = run(&["solve", "t.lp"], lp);
+    let wanted = "\
+status     0, Optimal: no column would make the plan better, and the final check accepts it.
+objective  4100
+steps      1
+
+column  value  lower  upper  cost  price  stands
+a          50      0     50     3      1  at upper
+b         100      0    300     2      0  basic
+c         750      0    750     5      3  at upper
+
+row  activity      right side  slack  multiplier  stands
+air       900  <=         900      0           2  at upper
+";
+    assert!(told.out.ends_with(wanted), "{}", told.out);
+    let told = run(&["audit", "t.lp"], lp);
+    assert!(told.out.contains("\ngap        0.0\n"), "{}", told.out);
+    let told = run(&["solve", "t.lp", "--budget", "0"], lp);
+    let wanted = "21, Spent: 0 steps were taken, as many as the budget has, and another would follow.\nobjective  4500 after";
+    assert!(told.out.contains(wanted), "{}", told.out);
+}
+
 /// Every refusal that a file can reach, with its place by name.
 #[test]
 fn refusals() {
@@ -169,8 +252,12 @@ fn refusals() {
             "5, refused: row empty has no entries, and 0 <= -1 is false.",
         ),
         (
-            mps(" G r\n", column, " RHS r 1\n", ""),
-            "7, refused: row r is broken at the start (0 >= 1), and this solver begins only where every row is kept. There may be a plan all the same.",
+            mps(" G r\n", " x c -1 r 1\n", " RHS r 1\n", ""),
+            "7, refused: row r is broken at the start (0 >= 1), and column x has no upper bound, which its cost prefers: this solver begins where every row is kept, or where every column has such a bound. There may be a plan all the same.",
+        ),
+        (
+            mps(" L r\n", " x c 0 r 1\n y c 1 r -1\n", " RHS r -1\n", " LO B x 2\n FR B y\n"),
+            "7, refused: row r is broken at the start (2 <= -1), and column y has no lower bound, which its cost prefers: ",
         ),
     ] {
         let told = run(&["solve", "t.mps"], &file);
@@ -489,14 +576,14 @@ No plan exists, whole or fractional.
 fn an_audit_says_why() {
     let told = run(&["audit", "t.mps"], &too_little_air());
     assert!(
-        told.out.contains("\nstatus     7, refused: row north"),
+        told.out.contains("\nstatus     26, Infeasible: the solver finds no column that could mend row air, which is broken (27 <= 15): none that has room to move has a coefficient of at least 1e-8 in size there.\nobjective  18 after the last whole step, no result\nsteps      2\n"),
         "{}",
         told.out
     );
     assert!(told
         .out
         .ends_with("less than the floor.\nNo plan exists, whole or fractional.\n"));
-    assert_eq!(told.exit, 1);
+    assert_eq!(told.exit, 3);
     let told = run(&["audit", "t.mps", "--json"], &too_little_air());
     assert!(told.out.contains("\"verdict\":\"none exists\""));
 
@@ -514,7 +601,7 @@ fn an_audit_says_why() {
 #[test]
 fn no_reason() {
     // 7 all the same: the start is no plan, but 1 is.
-    let some = mps(" G r\n", " x c 1 r 1\n", " RHS r 1\n", "");
+    let some = mps(" G r\n", " x c -1 r 1\n", " RHS r 1\n", "");
     let told = run(&["why", "t.mps"], &some);
     let wanted = "\
 plan       t: 1 column, 1 row, 1 entry, minimise
@@ -536,7 +623,7 @@ Some amounts, whole or fractional, keep every row and bound.
     let told = run(&["why", "t.mps"], &halves);
     assert_eq!(told.err, "tevalumi: t.mps: plan t isn't in whole numbers within the sheet's limits: the coefficient of column x in row r is 0.5\n");
     let told = run(&["audit", "t.mps"], &halves);
-    assert_eq!(told.exit, 1);
+    assert_eq!(told.exit, 3);
 }
 
 #[test]

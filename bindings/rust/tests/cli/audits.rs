@@ -289,9 +289,10 @@ fn equalities_as_far_as_they_go() {
     println!("audits, with equalities: {counts:?}");
     assert_eq!(counts.solved, plans);
     assert!(counts.gaps * 10 >= counts.solved * 7, "{counts:?}");
-    // Refused with 7 unless the solver finds a start of its own, and then judged like the others.
+    // Every row is broken at the start: dual steps.
     let counts = counted(covering_from_nothing, plans, plans as u64);
     println!("audits, covering from nothing: {counts:?}");
+    assert_eq!(counts.solved, plans);
     assert!(counts.gaps * 100 >= counts.solved * 99, "{counts:?}");
 }
 

@@ -2,6 +2,7 @@
 
 use crate::cli::plan::{Fault, Plan, EQ, GE, LE};
 use crate::cli::source::{read, Format};
+use crate::run;
 
 const INF: f64 = f64::INFINITY;
 
@@ -132,6 +133,55 @@ fn fixed_names_with_blanks() {
     assert_eq!(plan.row_names, ["AIR ONE", "AIR ONE", "LOW END", "SAME"]);
     assert_eq!(plan.name, "BLANK NAMES");
     assert_eq!(plan.rhs, [30.0, -5.0, -4.0, 0.0]);
+}
+
+/// In fixed columns a name that is left out is that of the line before: a column's, or a set's.
+#[test]
+fn fixed_names_left_out() {
+    let text = "\
+NAME          LEFT OUT
+ROWS
+ N  COST
+ L  AIR
+ L  MAST
+COLUMNS
+    NORTH     COST              -6.0   AIR                2.0
+              MAST               1.0
+    SOUTH     COST              -2.0
+              AIR                1.0   MAST               1.0
+RHS
+    RHS1      AIR                9.0
+              MAST               7.0
+    RHS2      AIR               99.0
+              MAST              77.0
+BOUNDS
+ UP BND1      NORTH              4.0
+ LO           NORTH              1.0
+ UP           SOUTH              5.0
+ENDATA
+";
+    let plan = plan(text);
+    assert_eq!(plan.column_names, ["NORTH", "SOUTH"]);
+    assert_eq!((plan.costs, plan.rhs), (vec![-6.0, -2.0], vec![9.0, 7.0]));
+    assert_eq!((plan.lowers, plan.uppers), (vec![1.0, 0.0], vec![4.0, 5.0]));
+    assert_eq!(
+        (plan.cols, plan.coeffs),
+        (vec![0, 1, 0, 1], vec![2.0, 1.0, 1.0, 1.0])
+    );
+    assert!(plan.notes[0].contains("RHS"), "{:?}", plan.notes);
+
+    // Nothing stands before it.
+    let first = text.replace("    NORTH     COST", "              COST");
+    let told = run(
+        &["solve", "t.mps", "--format", "fixed-mps"],
+        first.as_bytes(),
+    );
+    assert!(
+        told.err
+            .contains(":7: expected a column's name, then rows and numbers"),
+        "{}",
+        told.err
+    );
 }
 
 #[test]

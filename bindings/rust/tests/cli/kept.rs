@@ -98,8 +98,12 @@ fn a_kept_plan_is_solved_and_audited_as_the_plan_was() {
 fn why_reads_it_too() {
     // No plan exists, so it isn't solved and nothing is kept.
     let (told, files) = run(&["keep", "plan.mps", "-o", "plan.tev"], LITTLE);
-    assert_eq!((told.exit, files.len()), (1, 0));
-    assert!(told.out.contains("status     7, refused"), "{}", told.out);
+    assert_eq!((told.exit, files.len()), (3, 0));
+    assert!(
+        told.out.contains("status     26, Infeasible"),
+        "{}",
+        told.out
+    );
     let told = crate::run(&["why", "plan.tev"], &kept(TUNNELS));
     assert_eq!(told.exit, 3);
     assert!(told
