@@ -1,5 +1,5 @@
-//! The proved library beside the oracle's solver: the same 200 plans and 100 longer ones, both release
-//! builds, called in one process on memory that is prepared beforehand.
+//! The proved library beside the oracle's solver: the same 200 plans, 100 longer ones and 100 that begin
+//! with dual steps, both release builds, called in one process on memory that is prepared beforehand.
 //!
 //! | call | what it does |
 //! |---|---|
@@ -52,6 +52,7 @@ fn mode() -> Result<Mode, String> {
 fn run(mode: Mode) -> Result<ExitCode, String> {
     let mut plans = plans::gateway();
     plans.extend(plans::long());
+    plans.extend(plans::dual());
     let (mut races, mut failed) = (vec![], 0);
     for plan in &plans {
         match Race::new(plan) {
@@ -81,8 +82,13 @@ fn run(mode: Mode) -> Result<ExitCode, String> {
     for race in &races {
         println!("{}", race.line());
     }
-    let (gateway, long) = races.split_at(plans::COUNT);
-    for (name, races) in [("the gateway's plans", gateway), ("the longer plans", long)] {
+    let (gateway, others) = races.split_at(plans::COUNT);
+    let (long, dual) = others.split_at(plans::LONG_COUNT);
+    for (name, races) in [
+        ("the gateway's plans", gateway),
+        ("the longer plans", long),
+        ("the plans with dual steps", dual),
+    ] {
         println!("\n{name}:");
         summary(races, rounds);
     }

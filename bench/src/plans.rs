@@ -1,5 +1,5 @@
 //! 200 seeded plans of the gateway's sizes, and 100 longer ones: units that want radio milliseconds, and
-//! rows that share them out.
+//! rows that share them out. And 100 whose start isn't feasible, so that they begin with dual steps.
 
 use oracle::limits;
 use oracle::plan::Plan;
@@ -7,6 +7,7 @@ use oracle::rng::Rng;
 
 pub const COUNT: usize = 200;
 pub const LONG_COUNT: usize = 100;
+pub const DUAL_COUNT: usize = 100;
 const SEED: u64 = 2_026;
 
 /// 10 to 64 rows, 20 to 128 columns, 5 to 20 % dense.
@@ -36,8 +37,69 @@ pub fn long() -> Vec<Plan> {
     plans
 }
 
-fn plan(id: String, rows: usize, columns: usize, percent: usize, rng: &mut Rng) -> Plan {
-    let mut plan = Plan {
+/// 10 to 64 rows, 20 to 128 columns, 5 to 20 % dense. In turn: rows that ask for something that costs, and
+/// columns with a most, all worth having, that the rows have no room for.
+pub fn dual() -> Vec<Plan> {
+    let mut rng = Rng::named(SEED, "dual");
+    let next = |number| {
+        let (rows, columns) = (rng.between(10, 64), rng.between(20, 128));
+        let percent = rng.between(5, 20);
+        let asks = number % 2 == 0;
+        dual_plan(
+            format!("dual.{number}"),
+            rows,
+            columns,
+            percent,
+            asks,
+            &mut rng,
+        )
+    };
+    (0..DUAL_COUNT).map(next).collect()
+}
+
+fn dual_plan(
+    id: String,
+    rows: usize,
+    columns: usize,
+    percent: usize,
+    asks: bool,
+    rng: &mut Rng,
+) -> Plan {
+    let mut plan = sized(id, rows, columns);
+    for _ in 0..columns {
+        let cost = 1.0 + rng.unit() * 30.0;
+        plan.cost.push(if asks { cost } else { -cost });
+        plan.lower.push(0.0);
+        plan.upper.push(if asks {
+            f64::INFINITY
+        } else {
+            rng.between(1, 60) as f64
+        });
+    }
+    for _ in 0..rows {
+        let owner = rng.below(columns);
+        let mut sum = 0.0;
+        for column in 0..columns {
+            if rng.below(100) < percent || owner == column {
+                let coef = rng.between(1, 40) as f64 + rng.unit();
+                plan.cols.push(column as u64);
+                plan.coef.push(coef);
+                sum += coef * if asks { 1.0 } else { plan.upper[column] };
+            }
+        }
+        // The start gives 0 of what is asked; or it takes all of `sum`, of which there is room for a part.
+        let share = 0.2 + 0.6 * rng.unit();
+        plan.ops.push(if asks { 2 } else { 0 });
+        plan.rhs.push(sum * share);
+        plan.starts.push(plan.cols.len() as u64);
+    }
+    plan.entries = plan.cols.len() as u64;
+    plan
+}
+
+/// A plan of these sizes without columns and rows.
+fn sized(id: String, rows: usize, columns: usize) -> Plan {
+    Plan {
         id,
         columns: columns as u64,
         rows: rows as u64,
@@ -45,7 +107,11 @@ fn plan(id: String, rows: usize, columns: usize, percent: usize, rng: &mut Rng) 
         tolerance: 1e-6,
         starts: vec![0],
         ..Plan::default()
-    };
+    }
+}
+
+fn plan(id: String, rows: usize, columns: usize, percent: usize, rng: &mut Rng) -> Plan {
+    let mut plan = sized(id, rows, columns);
     let mut start = vec![];
     for _ in 0..columns {
         // Most columns are reports worth sending, with or without a most; some only cost.

@@ -1042,12 +1042,15 @@ fn named_by(answer: &Answer) -> Option<growth::Place> {
 /// Plans made for each place of document 01's order that a 23 can name. survey::UNREACHED has the
 /// others.
 fn named(rng: &mut Rng, sink: &mut Sink) {
+    // Where another place comes first, others are drawn, by a generator of their own.
+    let mut again = Rng::named(rng.clone().next(), "again");
     let dual_places = DUAL_PLACES.map(|named| (named, Within::Dual));
-    for places in [&growth::PLACES[..], &dual_places] {
+    for places in [&growth::PLACES[..], &growth::DUAL_NORMS, &dual_places] {
         for &place in (0..100).flat_map(|_| places) {
-            // With some of the numbers another place comes first.
-            let mut drafts = (0..100).map(|_| growth::draft(rng, place));
-            let draft = drafts.find(|draft| named_by(&answer(draft)) == Some(place));
+            let others = (0..100).map(|_| growth::draft(&mut again, place));
+            let draft = std::iter::once(growth::draft(rng, place))
+                .chain(others)
+                .find(|draft| named_by(&answer(draft)) == Some(place));
             sink.draft(&draft.expect("a draft reaches its place"));
         }
     }

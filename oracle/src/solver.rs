@@ -369,11 +369,7 @@ impl Solver {
         }
 
         // ours: for every plan "primal steps until no column enters".
-        let shown_end = self.is_dual_feasible
-            && (self.options.shows(Correction::AfterDual)
-                // The shown filter has no say at a start that is feasible both ways.
-                || self.options.shows(Correction::FreeFilter) && self.steps == 0);
-        if !shown_end {
+        if !self.is_dual_feasible || !self.options.shows(Correction::AfterDual) {
             // ours: recalc_obj_coeffs is left out. With "Sums start at 0.0" it changes no bit here.
             if !self.is_dual_feasible && self.options.shows(Correction::SumStart) {
                 self.recalc_obj_coeffs(-0.0);
@@ -493,13 +489,13 @@ impl Solver {
                     // Choose only among non-basic vars that can be changed
                     // with objective decreasing.
                     // ours, 02: "a column at neither bound enters only if its price's size is at
-                    // least EPS".
+                    // least EPS". The switch has a say only where the shown text takes primal steps.
                     let is_free = !var_state.at_min && !var_state.at_max;
+                    let is_shown =
+                        self.options.shows(Correction::FreeFilter) && !self.is_dual_feasible;
                     if (var_state.at_min && obj_coeff > -EPS)
                         || (var_state.at_max && obj_coeff < EPS)
-                        || (is_free
-                            && obj_coeff.abs() < EPS
-                            && !self.options.shows(Correction::FreeFilter))
+                        || (is_free && obj_coeff.abs() < EPS && !is_shown)
                     {
                         None
                     } else {

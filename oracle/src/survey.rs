@@ -422,9 +422,10 @@ impl Fixed {
             // The families "short", "number", "largest" and "free" go through their kinds in turn.
             Outcome::BadSize if family == "short" => format!("1, {}", index % SHORT_KINDS),
             Outcome::BadNumber if family == "number" => bad_number_kind(index).to_string(),
-            Outcome::BadNumber if family == "overflow" => {
-                format!("2, once {:?}", of_any_size(plan))
-            }
+            Outcome::BadNumber if family == "overflow" => match of_any_size(plan) {
+                Outcome::Infeasible { .. } => "2, once 26".to_string(),
+                once => format!("2, once {:?}", once),
+            },
             outcome if family == "largest" && outcome != Outcome::BadNumber => {
                 LARGEST[index % LARGEST.len()].to_string()
             }

@@ -340,6 +340,8 @@ fn infeasible(rng: &mut Rng, sink: &mut Sink) {
     }
 }
 
+type Draw = fn(&mut Rng) -> Draft;
+
 /// Primal steps after dual ones, to each answer that is found.
 fn both_kinds(rng: &mut Rng, sink: &mut Sink) {
     for _ in 0..400 {
@@ -348,7 +350,7 @@ fn both_kinds(rng: &mut Rng, sink: &mut Sink) {
     for _ in 0..200 {
         sink.draft(&thin(rng));
     }
-    let drafts: [(usize, u8, fn(&mut Rng) -> Draft); 4] = [
+    let drafts: [(usize, u8, Draw); 4] = [
         (150, 0, faint),
         (40, 0, thin),
         (40, 20, thin),

@@ -170,7 +170,7 @@ pub(super) enum Within {
 /// A place that can be named.
 pub(super) type Place = (Named, Within);
 
-pub(super) const PLACES: [Place; 12] = [
+pub(super) const PLACES: [Place; 10] = [
     (Named::Norm, Within::Exchange),
     (Named::Price, Within::Exchange),
     (Named::Row, Within::Exchange),
@@ -181,6 +181,10 @@ pub(super) const PLACES: [Place; 12] = [
     (Named::Quotient, Within::Exchange),
     (Named::Objective, Within::Exchange),
     (Named::Basic, Within::Exchange),
+];
+
+/// What the dual norms add.
+pub(super) const DUAL_NORMS: [Place; 2] = [
     (Named::Tau, Within::Exchange),
     (Named::DualNorm, Within::Exchange),
 ];
