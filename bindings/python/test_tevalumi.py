@@ -140,7 +140,8 @@ class Sections(unittest.TestCase):
             words = line.replace("(", "").replace(")", "").split()
             if words[:1] == ["#define"] and len(words) > 2:
                 places[words[1]] = int(words[2]) if len(words) == 3 else places[words[2]] + int(words[4])
-        for name in ("NB_VARS", "KEPT", "COUNTS", "NUMBERS", "PRICES", "DOUBLES", "FACTOR_NUMBERS", "FACTOR_COEFFS"):
+        names = "NB_VARS FLAGS KEPT COUNTS NUMBERS PRICES DOUBLES FACTOR_NUMBERS FACTOR_COEFFS"
+        for name in names.split():
             self.assertEqual(getattr(tevalumi, f"_{name}"), places[f"TEVALUMI_{name}"], name)
 
 
@@ -298,11 +299,48 @@ class Files(unittest.TestCase):
             self.assertEqual((told["objective"], told["steps"]), (solution.objective, solution.steps))
             self.assertEqual([column["value"] for column in told["columns"]], solution.values)
             self.assertEqual([row["slack"] for row in told["rows"]], solution.slacks)
-            status, out, _ = twin(file)
-            self.assertEqual(status, 0)
-            lines = [line.split() for line in out.splitlines()]
-            for column in told["columns"]:
-                self.assertIn([column["name"], tevalumi._shown(column["value"])], lines)
+            self.assertEqual([column["stands"] for column in told["columns"]], solution.stands)
+            self.assertEqual([row["stands"] for row in told["rows"]], solution.row_stands)
+            self.assertEqual(twin(file), (0, program("solve", file), ""))
+
+    @unittest.skipUnless(PROGRAM, "no program is named")
+    def test_the_twin_says_what_eps_decides(self):
+        rest = "COLUMNS\n x c -9e-9 r 1\n y c {} s 1\nRHS\n R r 1e9 s 1\nBOUNDS\n FR B y\nENDATA\n"
+        with tempfile.TemporaryDirectory() as folder:
+            for sense, cost, says in (
+                ("MIN", "0", "that of column x, -9e-9, counts as 0; no other would make the plan cheaper"),
+                ("MIN", "-2e-9", "that of column x, -9e-9, counts as 0, and 1 other does too; no other"),
+                ("MAX", "0", "0, Optimal: no column would make the plan better"),
+                ("MAX", "2e-9", "that of column y, 2e-9, counts as 0; no other would make the plan better"),
+            ):
+                file = Path(folder) / "small.mps"
+                head = f"NAME small\nOBJSENSE {sense}\nROWS\n N c\n L r\n L s\n"
+                file.write_text(head + rest.format(cost))
+                status, out, _ = twin(file)
+                self.assertEqual((status, out), (0, program("solve", file)))
+                self.assertIn(says, out)
+
+    def test_an_audit_without_a_gap(self):
+        with tempfile.TemporaryDirectory() as folder:
+            file = Path(folder) / "half.mps"
+            file.write_text("NAME half\nROWS\n N c\n E r\nCOLUMNS\n x c 1 r 2\nRHS\n R r 3\nENDATA\n")
+            status, out, err = twin("--audit", file)
+        self.assertEqual((status, err), (4, ""))
+        found = "The whole amounts that were found aren't a plan (1 row is broken)"
+        self.assertTrue(out.endswith(f"{found}, so the sheet says nothing about other plans.\n"))
+
+    def test_what_the_twin_can_not_write(self):
+        words = [sys.executable, "-m", "tevalumi", PLANS / "night-as-priced.mps"]
+        settings = {"cwd": Path(__file__).parent, "stderr": subprocess.PIPE, "text": True, "check": False}
+        with open("/dev/full", "w", encoding="utf-8") as full:
+            told = subprocess.run(words, stdout=full, **settings)
+        says = "tevalumi: standard output: can't be written: No space left on device\n"
+        self.assertEqual((told.returncode, told.stderr), (2, says))
+        reader, writer = os.pipe()
+        os.close(reader)
+        told = subprocess.run(words, stdout=writer, **settings)
+        os.close(writer)
+        self.assertEqual((told.returncode, told.stderr), (0, ""))
 
     @unittest.skipUnless(PROGRAM, "no program is named")
     def test_the_program_judges_alike(self):
@@ -338,7 +376,8 @@ class Files(unittest.TestCase):
     def test_the_twin_shows_a_sheet(self):
         status, out, err = twin("--audit", PLANS / "two-tunnels.mps")
         self.assertEqual((status, err), (0, ""))
-        self.assertTrue(out.endswith("No plan, whole or fractional, is cheaper than this one by more than 3.0.\n"))
+        none = "no plan, whole or fractional, is cheaper by more than 3.0"
+        self.assertTrue(out.endswith(f"This whole plan, which costs -24, is the cheapest one to within 3.0: {none}.\n"))
         self.assertIn("air         8  <=           9        -3.0\n", out)
         self.assertIn("north        4      0   none    -6    0.0\n", out)
 

@@ -14,8 +14,8 @@ A problem is built column by column and row by row, or handed over as lists (or 
 The audit sheet says in whole numbers how much better another plan could be:
 
 >>> sheet = problem.audit()
->>> sheet.amounts, sheet.verdict().sentence
-([4, 0], 'No plan, whole or fractional, is cheaper than this one by more than 3.0.')
+>>> sheet.amounts, sheet.verdict().sentence[:69]
+([4, 0], 'This whole plan, which costs -24, is the cheapest one to within 3.0: ')
 >>> sheet.set_amount(south, 1)
 >>> sheet.verdict().gap
 Fraction(1, 1)
@@ -54,6 +54,9 @@ FILE = 217 * BLOCK
 
 _OPS = {"<=": 0, "=": 1, "==": 1, ">=": 2}
 _SIGNS = ["<=", "=", ">="]
+# Where a variable stands by its flag, and a row that isn't basic by its comparison.
+_STANDS = ["free", "at lower", "at upper", "fixed"]
+_ROW_STANDS = ["at upper", "fixed", "at lower"]
 
 _SENTENCES = {
     1: "a size is over its limit or an array is too short",
@@ -173,7 +176,7 @@ _RESULTS = {
 }
 
 # The state's sections, as tevalumi.h has them.
-_NB_VARS, _KEPT, _COUNTS, _NUMBERS = 96, 5185, 5281, 5288
+_NB_VARS, _FLAGS, _KEPT, _COUNTS, _NUMBERS = 96, 448, 5185, 5281, 5288
 _PRICES, _DOUBLES = 224, 4673
 _FACTOR_NUMBERS, _FACTOR_COEFFS = 18820, 18336
 
@@ -399,13 +402,16 @@ class _Run:
     def solution(self) -> Solution:
         columns, turned = self.columns, self.problem._turned
         prices = [0.0] * (columns + len(self.kept))
+        stands, row_stands = ["basic"] * len(prices), ["basic"] * self.rows
         for place in range(columns):
-            prices[self.numbers[_NB_VARS + place]] = self.doubles[_PRICES + place]
+            var = self.numbers[_NB_VARS + place]
+            prices[var], stands[var] = self.doubles[_PRICES + place], _STANDS[self.numbers[_FLAGS + place]]
         slacks: list[Optional[float]] = [None] * self.rows
         multipliers = [0.0] * self.rows
         for k, row in enumerate(self.kept):
             slacks[row] = self.values[columns + k]
             multipliers[row] = turned(0.0 - prices[columns + k])
+            row_stands[row] = "basic" if stands[columns + k] == "basic" else _ROW_STANDS[self.ops[row]]
         return Solution(
             problem=self.problem,
             objective=self.objective(),
@@ -415,6 +421,8 @@ class _Run:
             slacks=slacks,
             prices=[turned(price) for price in prices[:columns]],
             multipliers=multipliers,
+            stands=stands[:columns],
+            row_stands=row_stands,
         )
 
     def sheet(self) -> Sheet:
@@ -443,6 +451,7 @@ class Solution:
 
     `slacks` is what each row has left (None for a row without terms), `prices` how much the objective moves for each
     unit by which a column is moved from its value, `multipliers` for each unit by which a right side is raised.
+    `stands` says of each column, and `row_stands` of each row, whether it is basic, at lower, at upper, fixed or free.
     """
 
     problem: Problem
@@ -453,6 +462,8 @@ class Solution:
     slacks: list[Optional[float]]
     prices: list[float]
     multipliers: list[float]
+    stands: list[str]
+    row_stands: list[str]
 
     def __getitem__(self, column: Union[int, str]) -> float:
         return self.values[self.problem.column_names.index(column) if isinstance(column, str) else column]
@@ -478,16 +489,35 @@ class Verdict:
     gap: Optional[Fraction]
     sentence: str
 
-    @staticmethod
-    def _of(kind: int, value: int) -> Verdict:
-        name = ["not a plan", "no floor", "gap", "none exists"][kind]
-        sentence = [
-            "These amounts are no plan: a row is broken or an amount is out of its bounds.",
-            "These amounts are a plan, but the multipliers say nothing about cheaper ones.",
-            f"No plan, whole or fractional, is cheaper than this one by more than {_of_1024(value)}.",
-            "No plan exists, whole or fractional.",
-        ][kind]
-        return Verdict(name, Fraction(value, 1024) if kind == 2 else None, sentence)
+
+def _sentence(sheet: Sheet, kind: str, gap: str, problem: Optional[Problem] = None) -> str:
+    """What a verdict says, as the program says it; in the words of the problem's direction, if there is one."""
+    costs, cheapest, cheaper, cost = "costs", "cheapest", "cheaper", sheet.cost
+    if problem and problem.maximise:
+        costs, cheapest, cheaper, cost = "is worth", "best", "worth more", -sheet.cost
+    without = f" without the constant {_shown(problem.constant)}" if problem and problem.constant else ""
+    this = f"This whole plan, which {costs} {cost}{without},"
+    broken, out, signs, absent = sheet.counts
+    if kind == "gap" and gap == "0.0":
+        return f"{this} is the {cheapest} one: no plan, whole or fractional, is {cheaper}."
+    if kind == "gap":
+        none = f"no plan, whole or fractional, is {cheaper} by more than {gap}"
+        return f"{this} is the {cheapest} one to within {gap}: {none}."
+    if kind == "no floor":
+        faults = [(signs, "multiplier has the wrong sign", "multipliers have the wrong sign")]
+        faults += [(absent, "price needs a bound that is absent", "prices need a bound that is absent")]
+        says = f"so it doesn't say by how much another could be {cheaper}"
+        return f"{this} keeps every row and bound, but the sheet has no floor ({_listed(faults)}), {says}."
+    if kind == "not a plan":
+        faults = [(broken, "row is broken", "rows are broken")]
+        faults += [(out, "amount is out of its bounds", "amounts are out of their bounds")]
+        says = "so the sheet says nothing about other plans"
+        return f"The whole amounts that were found aren't a plan ({_listed(faults)}), {says}."
+    return "No plan exists, whole or fractional."
+
+
+def _listed(counts: Iterable[tuple[int, str, str]]) -> str:
+    return " and ".join(_counted(*count) for count in counts if count[0])
 
 
 class Sheet:
@@ -544,7 +574,9 @@ class Sheet:
         """What the sheet says: is there a cheaper plan, and by how much at most?"""
         told: _Verdict = _call("verdict", self._rows, self._columns, *self._figures, *self._kept)
         _refused(told.status)
-        return Verdict._of(told.kind, told.value)
+        kind = ["not a plan", "no floor", "gap", "none exists"][told.kind]
+        gap = Fraction(told.value, 1024) if kind == "gap" else None
+        return Verdict(kind, gap, _sentence(self, kind, _of_1024(told.value)))
 
     def edit(self, kind: int, row: int, column: int, number: int) -> None:
         """One edit by document 01's kind, 1 to 9; `set_amount` and the others say it by name."""
@@ -945,12 +977,24 @@ def _head(problem: Problem, status: str, objective: str = "", steps: int = 0) ->
     return out + (f"objective  {objective}\nsteps      {steps}\n" if objective else "")
 
 
+def _bound(bound: float) -> str:
+    return "none" if math.isinf(bound) else _shown(bound)
+
+
 def _solved(problem: Problem, solution: Solution) -> str:
     """What `tevalumi solve` prints of an optimal plan."""
-    columns = [(name, _shown(value)) for name, value in zip(problem.column_names, solution)]
-    rows = [(name, _shown(slack)) for name, slack in zip(problem.row_names, solution.slacks) if slack is not None]
-    out = "\n" + _table(("column", "value"), "<>", columns) if columns else ""
-    return out + ("\n" + _table(("row", "slack"), "<>", rows) if rows else "")
+    bounds = (map(_bound, side) for side in (problem.lowers, problem.uppers))
+    prices = (map(_shown, side) for side in (problem.costs, solution.prices))
+    columns = list(zip(problem.column_names, map(_shown, solution), *bounds, *prices, solution.stands))
+    activities = (sum((coeff * solution[column] for column, coeff in row), 0.0) for row in problem.rows)
+    slacks = (right if slack is None else slack for slack, right in zip(solution.slacks, problem.rhs))
+    signs = (_SIGNS[_op(op)] for op in problem.ops)
+    sums = (map(_shown, side) for side in (problem.rhs, slacks, solution.multipliers))
+    rows = list(zip(problem.row_names, map(_shown, activities), signs, *sums, solution.row_stands))
+    heads = ("column", "value", "lower", "upper", "cost", "price", "stands")
+    out = "\n" + _table(heads, "<>>>>><", columns) if columns else ""
+    heads = ("row", "activity", "", "right side", "slack", "multiplier", "stands")
+    return out + ("\n" + _table(heads, "<><>>><", rows) if rows else "")
 
 
 def _audited(problem: Problem, sheet: Sheet) -> str:
@@ -960,10 +1004,8 @@ def _audited(problem: Problem, sheet: Sheet) -> str:
     bounds = ([str(bound) if bound is not None else "none" for bound in side] for side in (sheet.lowers, sheet.uppers))
     prices = (_of_1024(int(price * 1024)) for price in sheet.prices)
     columns = zip(problem.column_names, map(str, sheet.amounts), *bounds, map(str, sheet.costs), prices)
-    verdict, sentence = sheet.verdict(), sheet.verdict().sentence
-    sign, cost, floor, better = (1, "cost", "floor", "cheaper")
-    if problem.maximise:
-        sign, cost, floor, better = (-1, "worth", "ceiling", "worth more")
+    verdict, gap = sheet.verdict(), ""
+    sign, cost, floor = (-1, "worth", "ceiling") if problem.maximise else (1, "cost", "floor")
     out = "\n" + _table(("row", "activity", "", "right side", "multiplier"), "<><>>", rows)
     out += "\n" + _table(("column", "amount", "lower", "upper", "cost", "price"), "<>>>>>", columns)
     out += f"\n{cost:<9}  {sign * sheet.cost}\n"
@@ -971,44 +1013,76 @@ def _audited(problem: Problem, sheet: Sheet) -> str:
         out += f"{floor:<9}  {_of_1024(int(sign * sheet.floor * 1024))}\n"
         gap = _of_1024(int(verdict.gap * 1024))
         out += f"gap        {gap}\n"
-        sentence = f"No plan, whole or fractional, is {better} than this one"
-        sentence += f" by more than {gap}." if verdict.gap else "."
     if problem.constant:
         out += f"The constant {_shown(problem.constant)} is in none of these; every plan has it alike.\n"
     if problem.maximise:
         out += "In the tables costs and prices have their signs turned, because the sheet minimises.\n"
-    return f"{out}\n{sentence}\n"
+    return f"{out}\n{_sentence(sheet, verdict.kind, gap, problem)}\n"
+
+
+def _optimal(problem: Problem, solution: Solution) -> str:
+    """The sentence of an optimal plan. It names what counts as 0 only because its price is under EPS."""
+    better = "better" if problem.maximise else "cheaper"
+    excess = f"; the largest excess is {solution.excess!r}" if solution.excess else ""
+    names = [f"column {name}" for name in problem.column_names] + [f"row {name}" for name in problem.row_names]
+    prices = solution.prices + [0.0 - multiplier for multiplier in solution.multipliers]
+    # A row at its upper limit has its slack at the lower one.
+    slacks = [{"at upper": "at lower", "at lower": "at upper"}.get(stands, stands) for stands in solution.row_stands]
+    gains = {"at lower": lambda price: price < 0, "at upper": lambda price: price > 0, "free": bool}
+    small = [
+        f"that of {name}, {_shown(price)}, counts as 0"
+        for name, price, stands in zip(names, prices, solution.stands + slacks)
+        if stands in gains and gains[stands](problem._turned(price))
+    ]
+    if not small:
+        return f"Optimal: no column would make the plan {better}, and the final check accepts it{excess}."
+    more = f", and {_counted(len(small) - 1, 'other does', 'others do')} too" if len(small) > 1 else ""
+    rest = f"no other would make the plan {better}, and the final check accepts it{excess}."
+    return f"Optimal but for prices under 1e-8 in size: {small[0]}{more}; {rest}"
+
+
+def _told(words: Sequence[str]) -> tuple[int, str, str]:
+    """The exit status, and what goes to standard output and standard error."""
+    options = [word for word in words if word.startswith("--")]
+    files = [word for word in words if not word.startswith("--")]
+    if len(files) != 1 or set(options) - {"--audit", "--relax"}:
+        return 2, "", "usage: python3 -m tevalumi [--audit] [--relax] FILE\n"
+    try:
+        _library()
+        problem = read(files[0], "--relax" in options)
+    except (FileError, Error, OSError) as error:
+        return 2, "", f"tevalumi: {error}\n"
+    try:
+        solution = problem.solve()
+        out = _head(problem, f"0, {_optimal(problem, solution)}", _shown(solution.objective), solution.steps)
+        if "--audit" not in options:
+            return 0, out + _solved(problem, solution), ""
+        sheet = problem.audit()
+        return 0 if sheet.verdict().gap is not None else 4, out + _audited(problem, sheet), ""
+    except Error as error:
+        number, _, sentence = str(error).partition(": ")
+        objective = f"{_shown(error.objective)} after the last whole step, no result" if error.number >= 20 else ""
+        out = _head(problem, f"{number}, {sentence}.", objective, error.steps)
+        return 2 if error.number == 12 else 1 if error.number < 20 else 3, out, ""
 
 
 def main(words: Sequence[str]) -> int:
     """`python3 -m tevalumi [--audit] [--relax] FILE`: solves the plan in FILE, and with --audit shows its sheet.
 
-    The exit status is the program's: 0 Optimal, 1 refused, 3 not solved, 2 a wrong command line or file.
+    The exit status is the program's: 0 Optimal, 1 refused, 3 not solved, 4 an audit that shows no gap, 2 a wrong
+    command line or file, or a disk that is full. A reader that has gone away is no fault.
     """
-    options = [word for word in words if word.startswith("--")]
-    files = [word for word in words if not word.startswith("--")]
-    if len(files) != 1 or set(options) - {"--audit", "--relax"}:
-        print("usage: python3 -m tevalumi [--audit] [--relax] FILE", file=sys.stderr)
-        return 2
+    status, out, err = _told(words)
+    print(err, end="", file=sys.stderr)
     try:
-        _library()
-        problem = read(files[0], "--relax" in options)
-    except (FileError, Error, OSError) as error:
-        print(f"tevalumi: {error}", file=sys.stderr)
-        return 2
-    try:
-        solution = problem.solve()
-        better = "better" if problem.maximise else "cheaper"
-        excess = f"; the largest excess is {solution.excess!r}" if solution.excess else ""
-        status = f"0, Optimal: no column would make the plan {better}, and the final check accepts it{excess}."
-        shown = _audited(problem, problem.audit()) if "--audit" in options else _solved(problem, solution)
-        print(_head(problem, status, _shown(solution.objective), solution.steps) + shown, end="")
-        return 0
-    except Error as error:
-        number, _, sentence = str(error).partition(": ")
-        objective = f"{_shown(error.objective)} after the last whole step, no result" if error.number >= 20 else ""
-        print(_head(problem, f"{number}, {sentence}.", objective, error.steps), end="")
-        return 2 if error.number == 12 else 1 if error.number < 20 else 3
+        print(out, end="", flush=True)
+    except OSError as error:
+        # What is left goes nowhere, so that Python's own end doesn't write it again.
+        os.dup2(os.open(os.devnull, os.O_WRONLY), sys.stdout.fileno())
+        if not isinstance(error, BrokenPipeError):
+            print(f"tevalumi: standard output: can't be written: {error.strerror}", file=sys.stderr)
+            return 2
+    return status
 
 
 if __name__ == "__main__":

@@ -233,7 +233,7 @@ exit status: 0 done; else as for `tevalumi what-if`
 
 pub const HELP_NIGHT: &str = "\
 usage: tevalumi night [OPTIONS] FILE
-       tevalumi night [--ascii] [--sheets] [--html FILE]
+       tevalumi night [--ascii] [--sheets] [--html FILE] [--json]
 
 With FILE: solves and audits that plan and tells which unit gets how much of what it wants. Columns
 are named GROUP.UNIT, such as alarm.A01 and soil.A01. A column wants as much as its upper bound, or
@@ -249,7 +249,8 @@ options:
   --ascii      draw the bars with # and .
   --sheets     print the audit sheets in full, as `tevalumi audit` would
   --html FILE  write one page to keep or print
-  with FILE also --format, --max, --min, --relax, --budget, --tol, --max-size and --json, as for
+  --json       print one JSON object a plan, on one line
+  with FILE also --format, --max, --min, --relax, --budget, --tol and --max-size, as for
   `tevalumi solve`
 
 exit status: as for `tevalumi audit`; 4 too where the plan isn't in whole numbers; 2 too where no
@@ -328,6 +329,7 @@ fn night(args: &[OsString]) -> Result<Command, Usage> {
         match arg.to_str() {
             Some("--ascii") => bundled.ascii = true,
             Some("--sheets") => bundled.sheets = true,
+            Some("--json") => bundled.json = true,
             Some("--html") => {
                 let file = rest.next().ok_or("expected a file behind --html")?;
                 bundled.html.clone_from(file);

@@ -92,9 +92,26 @@ fn bundled(request: &Request, files: &dyn Files) -> Outcome {
     };
     let page = (!request.html.is_empty()).then(|| page.finish());
     match put(&request.html, page, files) {
+        Ok(()) if request.json => bundled_json(request, files),
         Ok(()) => said(story),
         Err(outcome) => outcome,
     }
+}
+
+/// Its two plans as `night FILE --json` tells each; they have no file's name, and the page is written.
+fn bundled_json(request: &Request, files: &dyn Files) -> Outcome {
+    let mut plans = Vec::new();
+    for text in [night::AS_PRICED, night::ALARMS_FIRST] {
+        match source::read(text.as_bytes(), source::Format::FreeMps, false) {
+            Ok(read) => plans.extend(read),
+            Err(fault) => return wrong(source::told("a bundled plan", fault)),
+        }
+    }
+    let request = Request {
+        html: OsString::new(),
+        ..request.clone()
+    };
+    answer("", plans, &request, Task::Night, files)
 }
 
 /// Puts a page or a list in its file, where one is asked for.

@@ -163,10 +163,19 @@ impl Progress {
 
     /// The clock is looked at once in so many lines.
     pub fn line(&mut self, line: usize) {
-        if line & 16_383 == 0 && Instant::now() >= self.next {
-            let _ = writeln!(io::stderr(), "tevalumi: reading, {line} lines so far");
-            self.next = Instant::now() + Progress::EVERY;
+        if line & 16_383 == 0 {
+            let said = self.said(line, Instant::now()).unwrap_or_default();
+            let _ = write!(io::stderr(), "{said}");
         }
+    }
+
+    /// What is said at this time, where a second has gone by.
+    pub fn said(&mut self, line: usize, now: Instant) -> Option<String> {
+        if now < self.next {
+            return None;
+        }
+        self.next = now + Progress::EVERY;
+        Some(format!("tevalumi: reading, {line} lines so far\n"))
     }
 }
 

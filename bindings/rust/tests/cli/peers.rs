@@ -138,7 +138,7 @@ pub fn there(program: &str) -> bool {
     let wanted = std::env::var("TEVALUMI_PEERS").is_ok_and(|v| v == "1");
     assert!(found || !wanted, "{program} isn't there");
     if !found {
-        println!("{program} isn't there: its files aren't compared");
+        println!("{program} isn't there: what needs it isn't tried");
     }
     found
 }

@@ -2,9 +2,10 @@
 
 use std::fs::{self, File};
 use std::process::{Command, Stdio};
+use std::time::{Duration, Instant};
 
 use crate::cli::plan::{Fault, Plan};
-use crate::cli::source::{read, Format};
+use crate::cli::source::{read, Format, Progress};
 use crate::program::program;
 
 const TUNNELS: &str = include_str!("../../plans/two-tunnels.mps");
@@ -216,6 +217,21 @@ fn packed_and_large_files() {
         .2
         .contains("expected 1 to 4000 (MB)"));
     fs::remove_dir_all(&folder).expect("removed");
+}
+
+/// A line a second, and none in the first one.
+#[test]
+fn how_far_a_long_file_is_read() {
+    let mut progress = Progress::new();
+    // A little later than the reading began, so that a second from then is more than its first one.
+    let start = Instant::now();
+    let mut said =
+        |lines, tenths: u64| progress.said(lines, start + Duration::from_millis(100 * tenths));
+    assert_eq!(said(1, 5), None);
+    let ten = said(10, 10).expect("a second has gone by");
+    assert_eq!(ten, "tevalumi: reading, 10 lines so far\n");
+    assert_eq!((said(11, 10), said(12, 19)), (None, None));
+    assert!(said(20, 20).is_some_and(|text| text.contains(" 20 lines")));
 }
 
 /// Reading takes a few times the file's size at most, whatever stands in it. The plans are far over the

@@ -1,6 +1,6 @@
 //! `tevalumi night FILE`: one's own night.
 
-use crate::run;
+use crate::{kept, run};
 
 const NIGHT: &[u8] = include_bytes!("../../plans/night-as-priced.mps");
 const ALARMS: &[u8] = include_bytes!("../../plans/night-alarms-first.mps");
@@ -38,6 +38,28 @@ fn the_answer_in_three_lines() {
         "{}",
         first.out
     );
+}
+
+/// The bundled night as JSON: an object for each of its plans, as `night FILE` has it but for the file's name.
+#[test]
+fn the_bundled_night_as_json() {
+    let own = |text: &[u8]| {
+        let told = run(&["night", "n.mps", "--json"], text);
+        told.out.replace("\"file\":\"n.mps\"", "\"file\":\"\"")
+    };
+    let wanted = own(NIGHT) + &own(ALARMS);
+    assert!(wanted.starts_with("{\"version\":2,\"file\":\"\",\"plan\":\"night-as-priced\","));
+    assert_eq!(wanted.lines().count(), 2);
+    let told = run(&["night", "--json"], b"");
+    assert_eq!(
+        (told.exit, told.out.as_str(), told.err.as_str()),
+        (0, wanted.as_str(), "")
+    );
+    // With a page too, which is the story's.
+    let (told, files) = kept::run(&["night", "--json", "--html", "page.html"], b"");
+    assert_eq!((told.exit, told.out), (0, wanted));
+    let (_, story) = kept::run(&["night", "--html", "page.html"], b"");
+    assert_eq!((files.len(), &files), (1, &story));
 }
 
 #[test]
