@@ -135,7 +135,7 @@ fn show_kept(
     cells(b, 1);
     words::text(b" counts");
     cells(counts, 4);
-    let v = sheet::verdict(
+    let v = sheet_verdict::verdict(
         rows,
         columns,
         coefs,

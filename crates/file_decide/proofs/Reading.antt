@@ -26,7 +26,7 @@ use Rattle.file_walk.specs.Stop.{stopAt, stoodAt}
 use Rattle.file_walk.specs.declared.Stop.{Stop}
 use Rattle.file_open.specs.Places.{placesOf, planAt, Whole}
 use Rattle.file_open.proofs.Payload.{inner, shape-end, walk-payload, plan-payload}
-use Rattle.file.proofs.Writing.{sized-plan}
+use Rattle.file_decide.proofs.Writing.{sized-plan}
 
 -- ---- the blocks behind the first: a refusal has a number
 stray-number : {known : ℕ → Bool} {b : List ℕ} {n : ℕ} → StraySays known b n → n ≡ 0 → ⊥

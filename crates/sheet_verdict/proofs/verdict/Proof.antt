@@ -1,4 +1,4 @@
--- `sheet::verdict` meets its contract. Assumes nothing.
+-- `sheet_verdict::verdict` meets its contract. Assumes nothing.
 use mathlib.Core.Path.{_≡_, sym, ap, ap₂, _∙_}
 use mathlib.Core.Bool.{Bool, true, false, _&&_}
 use Prim.Native.Nat.{ℕ}
@@ -16,8 +16,8 @@ use Rattle.sheet_rules.specs.declared.Verdict.the-variants.{Gap}
 use Rattle.sheet_rules.proofs.Tests.{sizes-decide, kept-decides}
 use Rattle.sheet_tests.proofs.Tells.{kept-sized}
 use Rattle.sheet_terms.proofs.Machine.{result, E, num, mul, exact, fit, sub}
-use Rattle.sheet.proofs.verdict.Statement.{statement}
-use Rattle.sheet.proofs.verdict.Tie as tie
+use Rattle.sheet_verdict.proofs.verdict.Statement.{statement}
+use Rattle.sheet_verdict.proofs.verdict.Tie as tie
 
 -- the way back from each test to the one before it
 abbrev start : tie.Else1 → tie.Start

@@ -1,13 +1,13 @@
--- `file_journal::undo` meets its contract. Assumes nothing.
+-- `file_journal_undo::undo` meets its contract. Assumes nothing.
 use mathlib.Core.Path.{refl}
 use Prim.Native.Nat.{_+_, _-_, _*_, _/_, _≤_}
 use native.Mathlib.Omega.{arith}
 use lib.ListN.{length}
 use Rattle.sheet_rules.specs.Sheet.{Sheet, planOf, keptOf, sheetOf}
-use Rattle.sheet.proofs.Laws.{edited-so}
-use Rattle.file_journal.proofs.Laws.{last-in, some, passed-test, has-entry, back-accepted, undoes-new, undoes-old}
-use Rattle.file_journal.proofs.undo.Statement.{statement}
-use Rattle.file_journal.proofs.undo.Tie as tie
+use Rattle.sheet_store_apply.proofs.Laws.{edited-so}
+use Rattle.file_journal_decide.proofs.Laws.{last-in, some, passed-test, has-entry, back-accepted, undoes-new, undoes-old}
+use Rattle.file_journal_undo.proofs.undo.Statement.{statement}
+use Rattle.file_journal_undo.proofs.undo.Tie as tie
 
 abbrev sheet : tie.Start → Sheet
 sheet s =

@@ -1,12 +1,12 @@
--- `file::first_refusal` meets its contract. Assumes nothing.
+-- `file_decide::first_refusal` meets its contract. Assumes nothing.
 use mathlib.Core.Path.{_≡_}
 use native.Mathlib.Omega.{arith}
 use lib.ListN.{length-take}
 use borrow.Author.Needs.{needs}
 use Rattle.file_rules.specs.PlanFile.{planKind}
 use Rattle.file_block.proofs.Laws.{says-cut}
-use Rattle.file.proofs.first_refusal.Statement.{statement}
-use Rattle.file.proofs.first_refusal.Tie as tie
+use Rattle.file_decide.proofs.first_refusal.Statement.{statement}
+use Rattle.file_decide.proofs.first_refusal.Tie as tie
 
 returns : tie.Need-returns
 returns c = says-cut planKind _ _ _ (rw length-take (omega arith))

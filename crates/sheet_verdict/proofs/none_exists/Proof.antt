@@ -1,9 +1,9 @@
--- `sheet::none_exists` meets its contract. Assumes nothing.
+-- `sheet_verdict::none_exists` meets its contract. Assumes nothing.
 use borrow.Author.Needs.{needs}
 use Rattle.sheet_rules.specs.Verdict.{noneExists}
 use Rattle.sheet_terms.proofs.Machine.{result}
-use Rattle.sheet.proofs.none_exists.Statement.{statement}
-use Rattle.sheet.proofs.none_exists.Tie as tie
+use Rattle.sheet_verdict.proofs.none_exists.Statement.{statement}
+use Rattle.sheet_verdict.proofs.none_exists.Tie as tie
 
 all-within-requires : tie.Need-all-within-requires
 all-within-requires c κs = search needs

@@ -1,9 +1,9 @@
--- `file_journal::undo_refusal` meets its contract. Assumes nothing.
+-- `file_journal_decide::undo_refusal` meets its contract. Assumes nothing.
 use Rattle.sheet_rules.specs.Sheet.{Sheet, planOf, keptOf, sheetOf}
-use Rattle.file_journal.proofs.Laws.{last-in, undo-first, undo-none, undo-last}
+use Rattle.file_journal_decide.proofs.Laws.{last-in, undo-first, undo-none, undo-last}
 use borrow.Author.Needs.{needs}
-use Rattle.file_journal.proofs.undo_refusal.Statement.{statement}
-use Rattle.file_journal.proofs.undo_refusal.Tie as tie
+use Rattle.file_journal_decide.proofs.undo_refusal.Statement.{statement}
+use Rattle.file_journal_decide.proofs.undo_refusal.Tie as tie
 
 abbrev sheet : tie.Start → Sheet
 sheet s = sheetOf (planOf (s .args .rows) (s .args .columns) (s .args .coefs .now) (s .args .costs .now) (s .args .lowers .now) (s .args .uppers .now) (s .args .lower-marks .now) (s .args .upper-marks .now) (s .args .rhs .now) (s .args .ops .now) (s .args .amounts .now) (s .args .mults .now)) (keptOf (s .args .r .now) (s .args .d .now) (s .args .c .now) (s .args .b .now) (s .args .counts .now))

@@ -1,4 +1,4 @@
--- `file::write_refusal` meets its contract: each return by its law. Assumes nothing.
+-- `file_decide::write_refusal` meets its contract: each return by its law. Assumes nothing.
 use mathlib.Core.Path.{_≡_, sym, ap, _∙_}
 use mathlib.Core.Bool.{true}
 use Prim.Native.Nat.{ℕ, _+_, _*_, _≤_}
@@ -14,9 +14,9 @@ use Rattle.file_rules.proofs.File.{fits}
 use Rattle.file_open.specs.Places.{placesOf}
 use Rattle.file_open.specs.declared.Places.{Places}
 use Rattle.file_open.proofs.Laws.{end-few}
-use Rattle.file.proofs.Writing.{sized-plan, says-sizes, says-short, says-number, says-crossed, says-fine}
-use Rattle.file.proofs.write_refusal.Statement.{statement}
-use Rattle.file.proofs.write_refusal.Tie as tie
+use Rattle.file_decide.proofs.Writing.{sized-plan, says-sizes, says-short, says-number, says-crossed, says-fine}
+use Rattle.file_decide.proofs.write_refusal.Statement.{statement}
+use Rattle.file_decide.proofs.write_refusal.Tie as tie
 
 abbrev given : tie.Start → Plan
 given s = planOf (s .args .rows) (s .args .columns) (s .args .coefs .now) (s .args .costs .now) (s .args .lowers .now) (s .args .uppers .now) (s .args .lower-marks .now) (s .args .upper-marks .now) (s .args .rhs .now) (s .args .ops .now) (s .args .amounts .now) (s .args .mults .now)

@@ -1,11 +1,11 @@
--- `file::plan_sized` meets its contract. Assumes nothing.
+-- `file_decide::plan_sized` meets its contract. Assumes nothing.
 use mathlib.Core.Path.{_≡_, sym}
 use borrow.Author.Tests.{leb-true}
 use Rattle.doubles.proofs.Loops.{both-true}
 use Rattle.sheet_tests.proofs.Tells.{cells-fit}
-use Rattle.file.proofs.Writing.{sized-is}
-use Rattle.file.proofs.plan_sized.Statement.{statement}
-use Rattle.file.proofs.plan_sized.Tie as tie
+use Rattle.file_decide.proofs.Writing.{sized-is}
+use Rattle.file_decide.proofs.plan_sized.Statement.{statement}
+use Rattle.file_decide.proofs.plan_sized.Tie as tie
 
 mul-cells : tie.Need-mul-cells
 mul-cells c = let e = both-true _ _ (c .if1 .taken) in cells-fit _ _ (leb-true _ _ (e .0)) (leb-true _ _ (e .1))

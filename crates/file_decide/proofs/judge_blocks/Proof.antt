@@ -1,4 +1,4 @@
--- `file::judge_blocks` meets its contract: each return by its law. Assumes nothing.
+-- `file_decide::judge_blocks` meets its contract: each return by its law. Assumes nothing.
 use mathlib.Core.Path.{_≡_, sym, _∙_}
 use mathlib.Core.Bool.{true}
 use native.Mathlib.Omega.{arith}
@@ -6,9 +6,9 @@ use borrow.Author.Needs.{needs}
 use borrow.Author.Tests.{not-true, not-false}
 use Rattle.sheet_rules.specs.Opening.{numbersFine}
 use Rattle.file_open.specs.Places.{planAt}
-use Rattle.file.proofs.Reading.{Stood, stood, blocks-refused, blocks-number, blocks-crossed, blocks-held}
-use Rattle.file.proofs.judge_blocks.Statement.{statement}
-use Rattle.file.proofs.judge_blocks.Tie as tie
+use Rattle.file_decide.proofs.Reading.{Stood, stood, blocks-refused, blocks-number, blocks-crossed, blocks-held}
+use Rattle.file_decide.proofs.judge_blocks.Statement.{statement}
+use Rattle.file_decide.proofs.judge_blocks.Tie as tie
 
 walk-blocks-requires : tie.Need-walk-blocks-requires
 walk-blocks-requires c κs = search needs

@@ -1,4 +1,4 @@
--- `file::judge` meets its contract: each return by its law. Assumes nothing.
+-- `file_decide::judge` meets its contract: each return by its law. Assumes nothing.
 use mathlib.Core.Path.{_≡_, sym, ap, _∙_}
 use mathlib.Core.Bool.{Bool, true, false}
 use native.Mathlib.Omega.{arith}
@@ -8,9 +8,9 @@ use Rattle.sheet_rules.specs.Sheet.{Plan, planOf}
 use Rattle.file_rules.specs.PlanFile.{planSized, resized, sizedBy}
 use Rattle.file_rules.specs.Calls.{readingOf}
 use Rattle.file_rules.proofs.File.{fits}
-use Rattle.file.proofs.Reading.{first, first-whole, first-refused, first-sized}
-use Rattle.file.proofs.judge.Statement.{statement}
-use Rattle.file.proofs.judge.Tie as tie
+use Rattle.file_decide.proofs.Reading.{first, first-whole, first-refused, first-sized}
+use Rattle.file_decide.proofs.judge.Statement.{statement}
+use Rattle.file_decide.proofs.judge.Tie as tie
 
 abbrev lent : tie.Start → Plan
 lent s = planOf 0 0 (s .args .coefs .now) (s .args .costs .now) (s .args .lowers .now) (s .args .uppers .now) (s .args .lower-marks .now) (s .args .upper-marks .now) (s .args .rhs .now) (s .args .ops .now) (s .args .amounts .now) (s .args .mults .now)

@@ -1,12 +1,12 @@
--- `file_journal::keep_refusal` meets its contract. Assumes nothing.
+-- `file_journal_decide::keep_refusal` meets its contract. Assumes nothing.
 use mathlib.Core.Path.{refl, sym, _∙_}
 use native.Mathlib.Omega.{arith}
 use Rattle.sheet_rules.specs.Sheet.{Sheet, planOf, keptOf, sheetOf}
 use Rattle.sheet_rules.specs.Edit.{editRefusal}
-use Rattle.file_journal.proofs.Laws.{else-first, else-then, has-room, is-full}
+use Rattle.file_journal_decide.proofs.Laws.{else-first, else-then, has-room, is-full}
 use borrow.Author.Needs.{needs}
-use Rattle.file_journal.proofs.keep_refusal.Statement.{statement}
-use Rattle.file_journal.proofs.keep_refusal.Tie as tie
+use Rattle.file_journal_decide.proofs.keep_refusal.Statement.{statement}
+use Rattle.file_journal_decide.proofs.keep_refusal.Tie as tie
 
 abbrev sheet : tie.Start → Sheet
 sheet s = sheetOf (planOf (s .args .rows) (s .args .columns) (s .args .coefs .now) (s .args .costs .now) (s .args .lowers .now) (s .args .uppers .now) (s .args .lower-marks .now) (s .args .upper-marks .now) (s .args .rhs .now) (s .args .ops .now) (s .args .amounts .now) (s .args .mults .now)) (keptOf (s .args .r .now) (s .args .d .now) (s .args .c .now) (s .args .b .now) (s .args .counts .now))
