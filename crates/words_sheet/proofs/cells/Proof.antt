@@ -1,9 +1,9 @@
--- `replay_sheets::cells` is safe and ends. Assumes nothing.
+-- `words_sheet::cells` is safe and ends. Assumes nothing.
 use Prim.Native.Nat.{_-_}
 use lib.ListN.{length}
 use borrow.Author.Needs.{needs}
-use Rattle.replay_sheets.proofs.cells.Statement.{statement}
-use Rattle.replay_sheets.proofs.cells.Tie as tie
+use Rattle.words_sheet.proofs.cells.Statement.{statement}
+use Rattle.words_sheet.proofs.cells.Tie as tie
 
 abbrev Inv-loop : tie.InvT-loop
 Inv-loop list n k₀ k = Unit {0}
