@@ -1,4 +1,2 @@
--- The calls, by their definitions.
-pub mod Writing
-pub mod Reading
+-- The calls, by what they promise.
 pub mod Meaning

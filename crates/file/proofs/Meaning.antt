@@ -25,8 +25,8 @@ use Rattle.file_rules.specs.declared.Reading.{Reading}
 use Rattle.file_rules.specs.declared.Reading.the-variants.{Held, Refused as Reading·Refused}
 use Rattle.file_rules.proofs.File.{Changed, reads-written, one-file, byte-changed}
 use Rattle.file_open.specs.Places.{planAt}
-use Rattle.file.proofs.Writing.{and-true, Accepted, accepted}
-use Rattle.file.proofs.Reading.{Gives, held}
+use Rattle.file_decide.proofs.Writing.{and-true, Accepted, accepted}
+use Rattle.file_decide.proofs.Reading.{Gives, held}
 
 -- ---- any two results are equal
 pub writes-alike : (p : Plan) (out : List ℕ) (a b : Writing) (x y : List ℕ) → Writes p out a x → Writes p out b y → (a ≡ b) × (x ≡ y)

@@ -5,11 +5,9 @@ use lib.IntN.{ℤ}
 use Rattle.sheet_rules.specs.Sheet.{Sheet, Kept, sheetOf, fresh, overKept}
 use Rattle.sheet_rules.specs.Opening.{opening, opened}
 use Rattle.sheet_rules.specs.Edit.{applied, editRefusal, edit}
-use Rattle.sheet_rules.specs.Words.{Today}
 use Rattle.sheet_rules.specs.Promises.{Opens, Edits}
 use Rattle.sheet_rules.specs.declared.Edit.{Edit}
-use Rattle.sheet_rules.proofs.Exact.{edit-so, left-new, left-old}
-use Rattle.sheet_change_moves.specs.After.{Ready}
+use Rattle.sheet_rules.proofs.Exact.{left-new, left-old}
 
 module _ (s : Sheet) where
   pub opens-new : (r : ℕ) (k : Kept) → r ≡ opening s → r ≡ 0 → k ≡ overKept (fresh (s .plan)) (s .kept) → Opens s r (sheetOf (s .plan) k)
@@ -19,12 +17,6 @@ module _ (s : Sheet) where
   pub opens-old : (r : ℕ) → r ≡ opening s → (r ≡ 0 → ⊥) → Opens s r s
   unfolding opened
   opens-old r e h = record { answers = e; left = sym (left-old (opening s) _ s (λ q. h (e ∙ q))) }
-
--- what an edit that is not refused is ready for
-pub edited-so : (s : Sheet) (e : Edit) → editRefusal s e ≡ 0 → Ready s e × Today e
-edited-so s e w =
-    let h = edit-so s e w in
-    (record { sized = h .0 .sized; index = h .0 .index; number = h .1; sound = h .3 }, h .0 .today)
 
 -- v is the number handed in, as the machine hands it on
 module _ (s : Sheet) (k i j : ℕ) (v z : ℤ) (is : v ≡ z) where

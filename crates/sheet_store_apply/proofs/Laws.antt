@@ -6,13 +6,21 @@ use Rattle.doubles.specs.Limits.{maxR, maxD}
 use Rattle.doubles.specs.Lists.{over}
 use Rattle.doubles.specs.Loop.{table}
 use Rattle.sheet_rules.specs.Sheet.{Sheet, keptOf, sheetOf, overKept}
-use Rattle.sheet_rules.specs.Edit.{movedR, movedD, moved}
+use Rattle.sheet_rules.specs.Edit.{editRefusal, movedR, movedD, moved}
+use Rattle.sheet_rules.specs.Words.{Today}
 use Rattle.sheet_rules.specs.declared.Edit.{Edit}
+use Rattle.sheet_rules.proofs.Exact.{edit-so}
 use Rattle.sheet_terms.specs.Small.{Small}
 use Rattle.sheet_change_moves.specs.After.{Ready, totalsAfter}
 use Rattle.sheet_change_moves.specs.declared.Totals.{Totals}
 use Rattle.sheet_change_after.specs.Change.{PlanReady}
 use Rattle.sheet_store_put.specs.Cells.{cellsOf}
+
+-- what an edit that is not refused is ready for
+pub edited-so : (s : Sheet) (e : Edit) → editRefusal s e ≡ 0 → Ready s e × Today e
+edited-so s e w =
+    let h = edit-so s e w in
+    (record { sized = h .0 .sized; index = h .0 .index; number = h .1; sound = h .3 }, h .0 .today)
 
 module _ (s : Sheet) (e : Edit) where
   pub activities-asks : Ready s e → PlanReady (s .plan) e × Small maxR (s .plan .rows) (s .kept .R)

@@ -104,7 +104,7 @@ pub extern "C" fn tevalumi_journal_undo(
         (keptOf (now (r .exit)) (now (d .exit)) (now (c .exit)) (now (b .exit)) (now (counts .exit))))
         (now (journal .exit))) ⌝ }
 {
-    file_journal::undo(
+    file_journal_undo::undo(
         rows,
         columns,
         coefs,

@@ -329,7 +329,7 @@ pub extern "C" fn tevalumi_verdict(
         (now (ops .entry)) (now (amounts .entry)) (now (mults .entry)))
         (keptOf (now (r .entry)) (now (d .entry)) (now (c .entry)) (now (b .entry)) (now (counts .entry))))) ⌝ }
 {
-    let v = sheet::verdict(
+    let v = sheet_verdict::verdict(
         rows,
         columns,
         coefs,

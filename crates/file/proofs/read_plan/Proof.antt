@@ -3,8 +3,8 @@ use mathlib.Core.Path.{_≡_, sym, _∙_}
 use borrow.Author.Needs.{needs}
 use Rattle.sheet_rules.specs.Sheet.{Plan, planOf}
 use Rattle.file_rules.specs.PlanFile.{resized}
-use Rattle.file.proofs.Writing.{sized-plan}
-use Rattle.file.proofs.Reading.{held, reads-held, reads-refused}
+use Rattle.file_decide.proofs.Writing.{sized-plan}
+use Rattle.file_decide.proofs.Reading.{held, reads-held, reads-refused}
 use Rattle.file.proofs.read_plan.Statement.{statement}
 use Rattle.file.proofs.read_plan.Tie as tie
 

@@ -5,7 +5,7 @@ use borrow.Author.Needs.{needs}
 use Rattle.sheet_rules.specs.Sheet.{Plan, planOf}
 use Rattle.file_rules.specs.Calls.{writeRefusal}
 use Rattle.file_plan.proofs.Laws.{small-count}
-use Rattle.file.proofs.Writing.{roomy, writes-refused, writes-done}
+use Rattle.file_decide.proofs.Writing.{roomy, writes-refused, writes-done}
 use Rattle.file.proofs.write_plan.Statement.{statement}
 use Rattle.file.proofs.write_plan.Tie as tie
 

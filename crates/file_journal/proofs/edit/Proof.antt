@@ -4,10 +4,10 @@ use Rattle.sheet_rules.specs.Sheet.{Sheet, planOf, keptOf, sheetOf}
 use Rattle.sheet_rules.specs.Edit.{editRefusal}
 use Rattle.sheet_rules.specs.declared.Edit.{Edit}
 use Rattle.sheet_terms.proofs.Machine.{word, of-word}
-use Rattle.sheet.proofs.Laws.{edited-so}
+use Rattle.sheet_store_apply.proofs.Laws.{edited-so}
 use Rattle.file_journal_rules.specs.Lent.{lent}
 use Rattle.file_journal_entry.proofs.Laws.{plan-sized, index-of}
-use Rattle.file_journal.proofs.Laws.{accepted, push-asks, keeps-new, keeps-old, handed}
+use Rattle.file_journal_decide.proofs.Laws.{accepted, push-asks, keeps-new, keeps-old, handed}
 use Rattle.file_journal.proofs.edit.Statement.{statement}
 use Rattle.file_journal.proofs.edit.Tie as tie
 

@@ -2,7 +2,7 @@
 use mathlib.Core.Path.{_≡_, refl}
 use Rattle.sheet_rules.specs.Sheet.{Sheet, planOf, keptOf, sheetOf}
 use Rattle.sheet_rules.specs.Edit.{editRefusal}
-use Rattle.sheet.proofs.Laws.{edited-so}
+use Rattle.sheet_store_apply.proofs.Laws.{edited-so}
 use Rattle.file_journal_take.proofs.Laws.{entry-accepted, fed-new, fed-old}
 use Rattle.file_journal_take.proofs.feed_entry.Statement.{statement}
 use Rattle.file_journal_take.proofs.feed_entry.Tie as tie

@@ -3,7 +3,8 @@ use mathlib.Core.Path.{refl, sym, _∙_}
 use Rattle.sheet_rules.specs.Sheet.{Sheet, planOf, keptOf, sheetOf}
 use Rattle.sheet_rules.specs.declared.Edit.{Edit}
 use Rattle.sheet_terms.proofs.Machine.{word, of-word}
-use Rattle.sheet.proofs.Laws.{edited-so, edits-new, edits-old}
+use Rattle.sheet_store_apply.proofs.Laws.{edited-so}
+use Rattle.sheet.proofs.Laws.{edits-new, edits-old}
 use Rattle.sheet.proofs.edit.Statement.{statement}
 use Rattle.sheet.proofs.edit.Tie as tie
 

@@ -2,7 +2,7 @@
 use Rattle.sheet_rules.specs.Sheet.{planOf, keptOf, sheetOf}
 use Rattle.sheet_terms.proofs.Machine.{of-word}
 use Rattle.file_journal_rules.specs.Lent.{lent}
-use Rattle.file_journal.proofs.Laws.{handed}
+use Rattle.file_journal_decide.proofs.Laws.{handed}
 use Rattle.tevalumi.proofs.journals.tevalumi_journal_edit.Statement.{statement}
 use Rattle.tevalumi.proofs.journals.tevalumi_journal_edit.Tie as tie
 

@@ -1,0 +1,3 @@
+-- The calls, by their definitions.
+pub mod Writing
+pub mod Reading

@@ -1,2 +1,0 @@
--- The journal's calls.
-pub mod Laws

@@ -1,0 +1,2 @@
+-- What the journal's calls ask and leave.
+pub mod Laws
