@@ -1,6 +1,6 @@
-// The solves of a step: the entering column, the row of an exchange and its helper.
-// From minilp 0.2.2, src/solver.rs, BasisSolver, calc_col_coeffs, calc_row_coeffs and update_primal_sq_norms,
-// Apache-2.0, changed: the vectors are lent arrays, fresh at entry, the factor and the etas are lent arrays too, and no
+// The solves of a step: the entering column, the leaving row, and the helper and tau of the norms.
+// From minilp 0.2.2, src/solver.rs, BasisSolver, calc_col_coeffs, calc_row_coeffs, update_primal_sq_norms and
+// update_dual_sq_norms, Apache-2.0, changed: the vectors are lent arrays, fresh at entry, the factor and the etas are lent arrays too, and no
 // factor stands for the identity.
 ghost use mathlib.Core.Path.{_≡_};
 ghost use mathlib.Core.Bool.{Bool};
@@ -12,13 +12,13 @@ ghost use Rattle.doubles.specs.Limits.{places};
 ghost use Rattle.sparse.specs.Scattered.{sv, blank, putAt, Within, relisted, Fresh};
 ghost use Rattle.rules.specs.Plan.{Problem, nOf, mOf};
 ghost use Rattle.rules.specs.Parts.{rowed, etasOf, factoredOf};
-ghost use Rattle.rules.specs.Basis.{factorSolve, factorSolveTransp, solveEtasTransp, colCoeffs, rowCoeffsOf, helperOf};
+ghost use Rattle.rules.specs.Basis.{factorSolve, factorSolveTransp, colCoeffs, invRow, tauOf, helperOf};
 ghost use Rattle.rules.specs.Basis as Basis;
 ghost use Rattle.rules.specs.Invariant.{FactorFits, Vector};
 ghost use Rattle.basis_columns.specs.Columns.{ByColumns};
 ghost use Rattle.basis_columns.specs.Loading.{columnOn, ColumnLent};
 ghost use Rattle.basis_etas.specs.Store.{Readable};
-ghost use Rattle.basis_solves.specs.Lent.{mapped, RowSolve};
+ghost use Rattle.basis_solves.specs.Lent.{mapped, Transposed, RowSolve};
 
 // The factor, or the identity.
 fn factor_solve(
@@ -137,12 +137,8 @@ fn solve_transp(
     eta_coeffs: &[f64],
     eta_count: usize,
 ) -> usize
-    requires { ⌜ FactorFits m (factoredOf factored 0 (now «factor_numbers») (now «factor_coeffs»)) ⌝ }
-    requires { ⌜ Vector m (sv (now values) (now marks) (now list) count)
-        × Readable (etasOf (now leaving) (now «eta_starts») (now «eta_rows») (now «eta_coeffs»)) «eta_count» ⌝ }
-    requires { ⌜ Vector m (solveEtasTransp
-        (etasOf (now leaving) (now «eta_starts») (now «eta_rows») (now «eta_coeffs»)) «eta_count»
-        (sv (now values) (now marks) (now list) count)) ⌝ }
+    requires { ⌜ Transposed m (etasOf (now leaving) (now «eta_starts») (now «eta_rows») (now «eta_coeffs»)) «eta_count»
+        (factoredOf factored 0 (now «factor_numbers») (now «factor_coeffs»)) (sv (now values) (now marks) (now list) count) ⌝ }
     ensures { λ r. ⌜ ((k : ℕ) → sv (now (values .exit)) (now (marks .exit)) (now (list .exit)) r ≡ Basis.solveTransp m
         (factoredOf factored k (now («factor_numbers» .entry)) (now («factor_coeffs» .entry)))
         (etasOf (now (leaving .entry)) (now («eta_starts» .entry)) (now («eta_rows» .entry))
@@ -172,8 +168,8 @@ fn solve_transp(
     )
 }
 
-// The row of an exchange, with the maps before it: the unit vector of the leaving row, solved, and the rows combined.
-pub fn row_coeffs(
+// inv_basis_row_coeffs: the unit vector of the leaving row, solved, on a fresh vector.
+pub fn inv_row(
     values: &mut [f64; doubles::PLACES],
     marks: &mut [bool; doubles::PLACES],
     list: &mut [usize; doubles::PLACES],
@@ -185,34 +181,24 @@ pub fn row_coeffs(
     eta_rows: &[usize],
     eta_coeffs: &[f64],
     eta_count: usize,
-    n: usize,
-    var_states: &[usize],
-    starts: &[usize],
-    cols: &[usize],
-    coeffs: &[f64],
-    kept: &[usize],
+    m: usize,
     row: usize,
 ) -> usize
     requires { ⌜ Fresh (sv (now values) (now marks) (now list) 0) × (row < places) ⌝ }
-    requires { ⌜ RowSolve (rowed n (now starts) (now cols) (now coeffs) (now kept)) (length (now «var_states»))
-        (etasOf (now leaving) (now «eta_starts») (now «eta_rows») (now «eta_coeffs»)) «eta_count»
+    requires { ⌜ Transposed m (etasOf (now leaving) (now «eta_starts») (now «eta_rows») (now «eta_coeffs»)) «eta_count»
         (factoredOf factored 0 (now «factor_numbers») (now «factor_coeffs»)) (putAt blank row f1) ⌝ }
-    ensures { λ c. ⌜ ((k : ℕ) → sv (now (values .exit)) (now (marks .exit)) (now (list .exit)) c ≡ rowCoeffsOf
-        (rowed n (now (starts .entry)) (now (cols .entry)) (now (coeffs .entry)) (now (kept .entry)))
-        (mapped (now («var_states» .entry)) (etasOf (now (leaving .entry)) (now («eta_starts» .entry))
-        (now («eta_rows» .entry)) (now («eta_coeffs» .entry))) «eta_count»
+    ensures { λ c. ⌜ ((P : Problem) (k : ℕ) → mOf P ≡ m → sv (now (values .exit)) (now (marks .exit)) (now (list .exit)) c
+        ≡ invRow P (mapped [] (etasOf (now (leaving .entry)) (now («eta_starts» .entry)) (now («eta_rows» .entry))
+        (now («eta_coeffs» .entry))) «eta_count»
         (factoredOf factored k (now («factor_numbers» .entry)) (now («factor_coeffs» .entry)))) row) ⌝ }
 {
-    let mut y = [0.0; doubles::PLACES];
-    let mut y_marks = [false; doubles::PLACES];
-    let mut y_list = [0usize; doubles::PLACES];
-    let unit = sparse::put_at(&mut y, &mut y_marks, &mut y_list, 0, row, 1.0);
-    let c = solve_transp(
-        &mut y,
-        &mut y_marks,
-        &mut y_list,
+    let unit = sparse::put_at(values, marks, list, 0, row, 1.0);
+    solve_transp(
+        values,
+        marks,
+        list,
         unit,
-        kept.len(),
+        m,
         factored,
         factor_numbers,
         factor_coeffs,
@@ -221,20 +207,54 @@ pub fn row_coeffs(
         eta_rows,
         eta_coeffs,
         eta_count,
-    );
-    basis_rows::combine(
+    )
+}
+
+// 02, Ask 8: tau, the row solve's result listed anew on a fresh vector, then solved as a column is.
+pub fn tau(
+    values: &mut [f64; doubles::PLACES],
+    marks: &mut [bool; doubles::PLACES],
+    list: &mut [usize; doubles::PLACES],
+    from: &[f64; doubles::PLACES],
+    from_list: &[usize; doubles::PLACES],
+    from_count: usize,
+    factored: bool,
+    factor_numbers: &[usize],
+    factor_coeffs: &[f64],
+    leaving: &[usize],
+    eta_starts: &[usize],
+    eta_rows: &[usize],
+    eta_coeffs: &[f64],
+    eta_count: usize,
+    m: usize,
+) -> usize
+    requires { ⌜ Fresh (sv (now values) (now marks) (now list) 0) × («from_count» ≤ places) × Within places «from_count»
+        (now «from_list») ⌝ }
+    requires { ⌜ Vector m (relisted (sv (now from) [] (now «from_list») «from_count»))
+        × Readable (etasOf (now leaving) (now «eta_starts») (now «eta_rows») (now «eta_coeffs»)) «eta_count»
+        × FactorFits m (factoredOf factored 0 (now «factor_numbers») (now «factor_coeffs»)) ⌝ }
+    ensures { λ c. ⌜ ((P : Problem) (k : ℕ) (b : List Bool) → mOf P ≡ m → sv (now (values .exit)) (now (marks .exit))
+        (now (list .exit)) c ≡ tauOf P
+        (mapped [] (etasOf (now (leaving .entry)) (now («eta_starts» .entry)) (now («eta_rows» .entry))
+        (now («eta_coeffs» .entry))) «eta_count»
+        (factoredOf factored k (now («factor_numbers» .entry)) (now («factor_coeffs» .entry))))
+        (sv (now (from .entry)) b (now («from_list» .entry)) «from_count»)) ⌝ }
+{
+    let listed = sparse::relist(values, marks, list, from, from_list, from_count);
+    solve(
         values,
         marks,
         list,
-        &y,
-        &y_list,
-        c,
-        n,
-        var_states,
-        starts,
-        cols,
-        coeffs,
-        kept,
+        listed,
+        m,
+        factored,
+        factor_numbers,
+        factor_coeffs,
+        leaving,
+        eta_starts,
+        eta_rows,
+        eta_coeffs,
+        eta_count,
     )
 }
 

@@ -15,7 +15,7 @@ use Rattle.doubles.proofs.Loops.{keeps, both-true}
 use Rattle.sparse.specs.Scattered.{Sv}
 use Rattle.rules.specs.Plan.{State}
 use Rattle.rules.specs.Basis.{Tail, tail, writeTurn, writeColumn, pushEta, etaUsed, etaFits}
-use Rattle.state.specs.Packed.{section, packed, Sized, etaLeavingAt, etaStartsAt, etaRowsAt, keptAt, etaCoeffsAt, objectiveAt}
+use Rattle.state.specs.Packed.{section, packed, Sized, etaLeavingAt, etaStartsAt, etaRowsAt, keptAt, etaCoeffsAt, dualNormsAt}
 use Rattle.state.proofs.Sections.{section-at, section-tail, written, tail-lent}
 use Rattle.state.proofs.Moves.{as-lent, in-etaLeaving, in-etaStarts, in-etaRows, in-etaCoeffs}
 use Rattle.basis_store.specs.Room.{Room, columnPushed}
@@ -42,20 +42,20 @@ module _ (c : Sv) (row : ℕ) (pivot : Float) (n : ℕ) (N : List ℕ) (D : List
   pub used-fits : used + c .pat .count ≤ etaEntries
   used-fits = omega (arith, used-is, room)
 
-  module _ (t : Tail) (e : t ≡ writeColumn c row pivot (tail (section (etaRowsAt + used) (keptAt - (etaRowsAt + used)) N) (section (etaCoeffsAt + used) (objectiveAt - (etaCoeffsAt + used)) D)))
+  module _ (t : Tail) (e : t ≡ writeColumn c row pivot (tail (section (etaRowsAt + used) (keptAt - (etaRowsAt + used)) N) (section (etaCoeffsAt + used) (dualNormsAt - (etaCoeffsAt + used)) D)))
       (rows-kept : length (t .rows) ≡ length (section (etaRowsAt + used) (keptAt - (etaRowsAt + used)) N))
-      (coeffs-kept : length (t .coeffs) ≡ length (section (etaCoeffsAt + used) (objectiveAt - (etaCoeffsAt + used)) D)) where
+      (coeffs-kept : length (t .coeffs) ≡ length (section (etaCoeffsAt + used) (dualNormsAt - (etaCoeffsAt + used)) D)) where
     abbrev M : List ℕ
     M = putMid (etaRowsAt + used) (keptAt - (etaRowsAt + used)) N (t .rows)
 
-    pub push-is : packed (set (set M (etaLeavingAt + n) row) (etaStartsAt + (n + 1)) (used + c .pat .count)) (putMid (etaCoeffsAt + used) (objectiveAt - (etaCoeffsAt + used)) D (t .coeffs)) ≡ columnPushed c row pivot n (packed N D)
+    pub push-is : packed (set (set M (etaLeavingAt + n) row) (etaStartsAt + (n + 1)) (used + c .pat .count)) (putMid (etaCoeffsAt + used) (dualNormsAt - (etaCoeffsAt + used)) D (t .coeffs)) ≡ columnPushed c row pivot n (packed N D)
     unfolding pushEta
     push-is =
         let h1 = in-etaRows (as-lent N D) (tail-lent etaRowsAt etaEntries N used (keptAt - (etaRowsAt + used)) (t .rows) (omega (arith, used-fits)) (omega (arith, s)) rows-kept) in
-        let h2 = in-etaCoeffs h1 (tail-lent etaCoeffsAt etaEntries D used (objectiveAt - (etaCoeffsAt + used)) (t .coeffs) (omega (arith, used-fits)) (omega (arith, s)) coeffs-kept) in
+        let h2 = in-etaCoeffs h1 (tail-lent etaCoeffsAt etaEntries D used (dualNormsAt - (etaCoeffsAt + used)) (t .coeffs) (omega (arith, used-fits)) (omega (arith, s)) coeffs-kept) in
         let h3 = in-etaLeaving h2 (written etaLeavingAt etaColumns M n row (room .column-room)) in
         let h4 = in-etaStarts h3 (written etaStartsAt (etaColumns + 1) (set M (etaLeavingAt + n) row) (n + 1) (used + c .pat .count) (omega (arith, room))) in
-        h4 .is ∙ rw (e, section-tail etaRowsAt etaEntries used (keptAt - (etaRowsAt + used)) N (omega (arith, used-fits)) (omega (arith, s)), section-tail etaCoeffsAt etaEntries used (objectiveAt - (etaCoeffsAt + used)) D (omega (arith, used-fits)) (omega (arith, s)), used-is)
+        h4 .is ∙ rw (e, section-tail etaRowsAt etaEntries used (keptAt - (etaRowsAt + used)) N (omega (arith, used-fits)) (omega (arith, s)), section-tail etaCoeffsAt etaEntries used (dualNormsAt - (etaCoeffsAt + used)) D (omega (arith, used-fits)) (omega (arith, s)), used-is)
 
 -- ---- after `eta_fits`: the room that `push_eta` asks
 pub fits-room : (s : State) (k : ℕ) → etaFits s k ≡ true → Room (s .ws .etas) (s .etaCount) k

@@ -17,4 +17,4 @@ pub record Room (h : Etas) (n k : ℕ) : Type 0 where
 abbrev pub columnPushed : Sv → ℕ → Float → ℕ → Workspace → Workspace
 columnPushed c row pivot n w =
     workspaceOf (w .basicVars) (w .basicVarVals) (w .nbVars) (w .nbVarVals) (w .prices) (w .norms)
-    (w .flags) (w .varStates) (pushEta c row pivot n (w .etas))
+    (w .dualNorms) (w .flags) (w .varStates) (pushEta c row pivot n (w .etas))

@@ -22,12 +22,12 @@ use Rattle.rules.specs.Answers.{numberOf}
 use Rattle.rules.specs.Solve.{Solved, solved, checkedAnswer, answerOf, valuesAfter, memoryAfter, close}
 use Rattle.rules.specs.Invariant.{ProblemFits, Fits}
 use Rattle.rules.specs.declared.Stop.{Stop}
-use Rattle.rules.specs.declared.Stop.the-variants.{Finished, Spent as Stop·Spent, Unbounded as Stop·Unbounded, NotFinite as Stop·NotFinite, Singular as Stop·Singular}
+use Rattle.rules.specs.declared.Stop.the-variants.{Finished, Spent as Stop·Spent, Unbounded as Stop·Unbounded, NotFinite as Stop·NotFinite, Singular as Stop·Singular, Infeasible as Stop·Infeasible}
 use Rattle.rules.specs.declared.Checked.{Checked}
 use Rattle.rules.specs.declared.Checked.the-variants.{Passed, Value, Row}
 use Rattle.rules.specs.declared.Answer.{Answer}
-use Rattle.rules.specs.declared.Answer.the-variants.{Spent, Unbounded, NotFinite, Singular}
-use Rattle.state.specs.Packed.{section, packed, stateIn, basicVarsAt, nbVarsAt, varStatesAt, flagCellsAt, etaLeavingAt, etaStartsAt, etaRowsAt, keptAt, countsAt, basicVarValsAt, nbVarValsAt, pricesAt, normsAt, etaCoeffsAt, objectiveAt}
+use Rattle.rules.specs.declared.Answer.the-variants.{Spent, Unbounded, NotFinite, Singular, Infeasible}
+use Rattle.state.specs.Packed.{section, packed, stateIn, basicVarsAt, nbVarsAt, varStatesAt, flagCellsAt, etaLeavingAt, etaStartsAt, etaRowsAt, keptAt, countsAt, basicVarValsAt, nbVarValsAt, pricesAt, normsAt, etaCoeffsAt, dualNormsAt, objectiveAt}
 use Rattle.state.specs.Memory.{numbersEnd, doublesEnd, memoryIn, pastOf, handed, answered}
 use Rattle.state.specs.declared.Tally.{Tally}
 use Rattle.state.proofs.Sections.{Changed, lent, written, section-length, section-at}
@@ -69,6 +69,10 @@ module _ (P : Problem) (s : State) where
   unfolding answerOf
   ends-singular q = by-why q
 
+  pub ends-infeasible : {v : Stop} (r : ℕ) → v ≡ Stop·Infeasible r → Infeasible (s .objective) (s .steps) r ≡ answerOf P (ended v s)
+  unfolding answerOf
+  ends-infeasible r q = by-why q
+
 -- ---- what is written over a front
 pub table-whole : (l : List ℕ) → table (length l) (λ i. l # i) ≡ l
 table-whole l =
@@ -103,6 +107,7 @@ answer-part P Stop·Spent s = refl
 answer-part P Stop·Unbounded s = refl
 answer-part P Stop·NotFinite s = refl
 answer-part P Stop·Singular s = refl
+answer-part P (Stop·Infeasible r) s = refl
 
 -- the values that stand in the sections are the workspace's
 pub values-whole : (n : ℕ) (kept : List ℕ) (w : Workspace) (l : List Float) {xs : List Float}
@@ -160,6 +165,7 @@ module _ (a : Answer) (v : List Float) (N M L : List ℕ) (D E : List Float) (F 
         z .before pricesAt maxColumns (omega arith),
         z .before normsAt maxColumns (omega arith),
         z .before etaCoeffsAt etaEntries (omega arith),
+        z .before dualNormsAt maxRows (omega arith),
         y .before keptAt maxRows (omega arith) ∙ x .here,
         y .here ∙ ap g (x .after countsAt countCells (omega arith)),
         z .here,
@@ -212,6 +218,7 @@ module _ (P : Problem) where
   answer-whole Stop·Unbounded s = refl
   answer-whole Stop·NotFinite s = refl
   answer-whole Stop·Singular s = refl
+  answer-whole (Stop·Infeasible r) s = refl
 
   pub close-whole : (m : Memory) (r : Ended) → close (checkedBy P) m r ≡ close P m r
   unfolding close memoryAfter valuesAfter valuesOf

@@ -13,7 +13,7 @@ use Rattle.check_final.specs.Lent.{valuedOf, sizesOf, Valued, Checkable}
 
 -- an objective and a step count
 abbrev pub counted : Float → ℕ → State
-counted o k = stateOf (workspaceOf [] [] [] [] [] [] [] [] noEtas) 0 o k
+counted o k = stateOf (workspaceOf [] [] [] [] [] [] [] [] [] noEtas) 0 o k
 
 -- what the answer is reckoned from can be read
 pub record Answers (P : Problem) (w : Workspace) : Type 0 where

@@ -53,6 +53,11 @@ pub fn number_of(a: rules::Answer) -> usize
             objective: _,
             steps: _,
         } => 25,
+        rules::Answer::Infeasible {
+            objective: _,
+            steps: _,
+            row: _,
+        } => 26,
         rules::Answer::ValueRejected {
             objective: _,
             steps: _,
@@ -152,11 +157,16 @@ fn answer_of(
         rules::Stop::Unbounded => rules::Answer::Unbounded { objective, steps },
         rules::Stop::NotFinite => rules::Answer::NotFinite { objective, steps },
         rules::Stop::Singular => rules::Answer::Singular { objective, steps },
+        rules::Stop::Infeasible(row) => rules::Answer::Infeasible {
+            objective,
+            steps,
+            row,
+        },
     }
 }
 
-// 01: "Status 0 is Optimal and writes values, slacks last. 20 to 24 leave the values array alone", and so does
-// 25.
+// 01: "Status 0 is Optimal and writes values, slacks last. 20 to 24 leave the values array alone", and so do 25
+// and 26.
 fn values_after(status: usize, count: usize, xs: &[f64; doubles::VARS], values: &mut [f64])
     requires { ⌜ (count ≤ vars) × (count ≤ length (now values)) ⌝ }
     ensures { λ _. ⌜ now (values .exit) ≡ elim (eqb status 0)

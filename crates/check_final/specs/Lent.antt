@@ -16,7 +16,7 @@ use Rattle.plan.specs.Kept.{bare, RowReads as Kept·RowReads}
 
 -- where each variable stands, and its value there
 abbrev pub valuedOf : List ℕ → List Float → List Float → Workspace
-valuedOf varStates basicVarVals nbVarVals = workspaceOf [] basicVarVals [] nbVarVals [] [] [] varStates noEtas
+valuedOf varStates basicVarVals nbVarVals = workspaceOf [] basicVarVals [] nbVarVals [] [] [] [] varStates noEtas
 
 -- the sizes alone
 abbrev pub sizesOf : ℕ → List ℕ → Problem

@@ -128,6 +128,11 @@ pub fn solve_answer(a: rules::Answer) -> TevalumiAnswer
         rules::Answer::Spent { objective, steps } => answer(21, objective, steps, 0, 0, 0, 0.0),
         rules::Answer::NotFinite { objective, steps } => answer(23, objective, steps, 0, 0, 0, 0.0),
         rules::Answer::Singular { objective, steps } => answer(25, objective, steps, 0, 0, 0, 0.0),
+        rules::Answer::Infeasible {
+            objective,
+            steps,
+            row,
+        } => answer(26, objective, steps, 5, row, 0, 0.0),
         rules::Answer::ValueRejected {
             objective,
             steps,

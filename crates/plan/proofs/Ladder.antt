@@ -1,12 +1,12 @@
 -- 01: "The lowest number that applies is given": one law for each answer of `first_refusal`, and what the answer is to the whole solve. Assumes nothing.
 use mathlib.Core.Path.{_≡_, refl, sym, ap, _∙_}
-use mathlib.Core.Bool.{Bool, true, false, _&&_}
+use mathlib.Core.Bool.{Bool, true, false, _&&_, _||_}
 use Prim.Native.Nat.{ℕ, _+_, _-_, _≤_}
 use native.Mathlib.Omega.{arith}
 use lib.Dec.{eqb}
 use Rattle.rules.specs.Plan.{Plan, Memory, problemOf}
 use Rattle.rules.specs.Refusals.{sizesFit, planLong, memoryLong, startsRise, passes1, passes2, firstBadRow, firstBadIn, firstCrossed, firstFalse}
-use Rattle.rules.specs.Start.{passes6, passes7}
+use Rattle.rules.specs.Start.{passes6, passes7, dualFeasible}
 use Rattle.rules.specs.Solve.{Solved, solved, orRefuse, close, endOf, solvePlan}
 use Rattle.rules.specs.declared.Answer.{Answer}
 use Rattle.rules.specs.declared.Answer.the-variants.{BadSize, BadNumber, BadEntry, CrossedBounds, FalseEmptyRow, StartNotFinite, SlackOutside}
@@ -105,7 +105,7 @@ module _ (p : Plan) where
 module _ (p : Plan) (m : Memory) where
   -- what follows 5
   abbrev pub fromSix : Solved
-  fromSix = let P = problemOf p in orRefuse (passes6 P) StartNotFinite m (orRefuse (passes7 P) SlackOutside m (close P m (endOf P m)))
+  fromSix = let P = problemOf p in orRefuse (passes6 P) StartNotFinite m (orRefuse (passes7 P || dualFeasible p) SlackOutside m (close P m (endOf P m)))
 
   abbrev pub solvedBy : Refusal → Solved
   solvedBy (By a) = solved a m

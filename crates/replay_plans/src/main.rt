@@ -64,6 +64,15 @@ fn ended(number_and_place: &[u8], objective: f64, steps: usize) -> Shown {
     Shown::State
 }
 
+// 26, with the leaving row.
+fn infeasible(row: usize, objective: f64, steps: usize) -> Shown {
+    words::text(b"26 k:");
+    words::decimal(row as u64);
+    words::double(objective);
+    words::place(steps);
+    Shown::State
+}
+
 // The final check's rejection.
 fn rejected(
     number_and_place: &[u8],
@@ -107,6 +116,11 @@ fn show_answer(answer: Answer) -> Shown {
         Answer::Spent { objective, steps } => ended(b"21 -", objective, steps),
         Answer::NotFinite { objective, steps } => ended(b"23 -", objective, steps),
         Answer::Singular { objective, steps } => ended(b"25 -", objective, steps),
+        Answer::Infeasible {
+            objective,
+            steps,
+            row,
+        } => infeasible(row, objective, steps),
         Answer::ValueRejected {
             objective,
             steps,
@@ -256,12 +270,15 @@ fn show(
     }
     show_state(columns, numbers, doubles);
     show_rest(columns, numbers, doubles);
+    let rows = numbers[state::COUNTS];
     words::text(b" factor");
     if numbers[state::COUNTS + 5] == 0 {
         words::text(b" none");
-        return;
+    } else {
+        show_factor(rows, factor_numbers, factor_coeffs);
     }
-    show_factor(numbers[state::COUNTS], factor_numbers, factor_coeffs);
+    words::text(b" dnorm");
+    words::doubles(&doubles[state::DUAL_NORMS..state::DUAL_NORMS_END], rows);
 }
 
 fn solved(

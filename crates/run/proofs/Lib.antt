@@ -1,2 +1,5 @@
--- Laws of the run, for its proof and for those that run.
+-- Laws of the run, for its proofs and for those that run.
 pub mod Laws
+pub mod Primal
+pub mod Dual
+pub mod Turn

@@ -1,2 +1,3 @@
--- What a run gives.
+-- What a run asks, and what it gives.
 pub mod Ran
+pub mod Lent

@@ -1,16 +1,15 @@
 // From the start's numbers, which have passed 6 and 7, to the end of the run; and a run from any state that fits.
 ghost use mathlib.Core.Path.{_≡_};
-ghost use Prim.Native.Nat.{_-_, _≤_};
+ghost use Prim.Native.Nat.{_≤_};
 ghost use Rattle.doubles.specs.Limits.{maxBudget};
-ghost use Rattle.rules.specs.Step.{runOf};
 ghost use Rattle.state.specs.Packed.{packed, stateIn};
 ghost use Rattle.start.specs.Reckoned as Reckoned;
 ghost use Rattle.step_refactor.specs.Left.{stepped};
-ghost use Rattle.step_refactor.specs.Lent.{Ready};
 ghost use Rattle.run.specs.Ran.{ranBy};
-ghost use Rattle.run_launch.specs.Launched.{launchedOf, firstState, launched, Launches};
+ghost use Rattle.run.specs.Lent.{Running};
+ghost use Rattle.run_launch.specs.Launched.{launchedOf, firstState, goneOn, launched, Launches};
 
-// The matrix by columns, which is made here alone, then the run.
+// The matrix by columns, which is made here alone, then the run: with dual steps first, or with primal ones alone.
 pub fn go_on(
     numbers: &mut [usize],
     doubles: &mut [f64],
@@ -26,14 +25,15 @@ pub fn go_on(
     coeffs: &[f64],
     ops: &[u8],
     kept: &[usize],
+    dual: bool,
 ) -> run::Ran
-    requires { ⌜ Ready n (now lowers) (now uppers) (now starts) (now cols) (now coeffs) (now ops) (now kept)
+    requires { ⌜ Running n (now lowers) (now uppers) (now starts) (now cols) (now coeffs) (now ops) (now kept)
         (now numbers) (now doubles) (now «factor_numbers») (now «factor_coeffs») at ⌝ }
     requires { ⌜ budget ≤ maxBudget ⌝ }
     ensures { λ r. ⌜ ranBy r (now (numbers .exit)) (now (doubles .exit)) (now («factor_numbers» .exit))
-        (now («factor_coeffs» .exit)) ≡ runOf
+        (now («factor_coeffs» .exit)) ≡ goneOn
         (stepped n (now (lowers .entry)) (now (uppers .entry)) (now (starts .entry)) (now (cols .entry))
-        (now (coeffs .entry)) (now (ops .entry)) (now (kept .entry))) (budget - at .steps)
+        (now (coeffs .entry)) (now (ops .entry)) (now (kept .entry))) dual budget
         (stateIn (now (numbers .entry)) (now (doubles .entry)) (now («factor_numbers» .entry))
         (now («factor_coeffs» .entry)) at) ⌝ }
 {
@@ -50,6 +50,27 @@ pub fn go_on(
         &mut crows,
         &mut ccoeffs,
     );
+    if dual {
+        return run::both(
+            numbers,
+            doubles,
+            factor_numbers,
+            factor_coeffs,
+            at,
+            n,
+            lowers,
+            uppers,
+            starts,
+            cols,
+            coeffs,
+            ops,
+            kept,
+            &cstarts,
+            &crows,
+            &ccoeffs,
+            budget,
+        );
+    }
     run::optimize(
         numbers,
         doubles,
@@ -71,8 +92,7 @@ pub fn go_on(
     )
 }
 
-// The first state is written, and the run goes on from it. 01: "If dual feasible, Optimal is reached at once with 0
-// steps (ours), after the final check".
+// The first state is written, and the run goes on from it. 02, Ask 8: "dual steps for starts that are dual feasible".
 pub fn launch(
     numbers: &mut [usize],
     doubles: &mut [f64],
@@ -125,12 +145,7 @@ pub fn launch(
         factored: false,
         factorings: 0,
     };
-    if start_values::dual_feasible(costs, lowers, uppers, n) {
-        return run::Ran {
-            why: rules::Stop::Finished,
-            at,
-        };
-    }
+    let dual = start_values::dual_feasible(costs, lowers, uppers, n);
     go_on(
         numbers,
         doubles,
@@ -146,5 +161,6 @@ pub fn launch(
         coeffs,
         ops,
         kept,
+        dual,
     )
 }

@@ -11,25 +11,29 @@ use mathlib.Core.List.{List}
 use lib.Ieee.{Float, le}
 use Rattle.doubles.specs.Num.{eps, size}
 use Rattle.rules.specs.Plan.{Plan, Memory, State, problemOf, mOf}
-use Rattle.rules.specs.Start.{startState, dualFeasible}
+use Rattle.rules.specs.Start.{startState, dualFeasible, passes7}
 use Rattle.rules.specs.Choose.{choose}
 use Rattle.rules.specs.Basis.{etaUsed}
 use Rattle.rules.specs.Step.{Ended, ended}
 use Rattle.rules.specs.FinalCheck.{valuesOf, finalCheck}
-use Rattle.rules.specs.Answers.{Row as Told, asRow, numberOf}
+use Rattle.rules.specs.Answers.{Row as Told, asRow, numberOf, keptRowAt}
 use Rattle.rules.specs.Solve.{Solved, solved, checkedAnswer, answerOf, close, endOf, solvePlan}
-use Rattle.rules.specs.Conditions.{Gives, NoneBelow, Refusal, reached, Passes, Ends, Line}
+use Rattle.rules.specs.Kinds.{Kind, dual, primal, firstKind}
+use Rattle.rules.specs.Conditions.{Gives, NoneBelow, Refusal, reached, Passes, Checks, NoEntering, Ends, Line}
 use Rattle.rules.specs.Invariant.{Maps, Numbers}
 use Rattle.rules.specs.Steps.{Steps, RunsTo, LentTails, Ran}
 use Rattle.rules.specs.declared.Answer.{Answer}
 use Rattle.rules.specs.declared.Entering.{Entering}
-use Rattle.rules.specs.declared.Choice.the-variants.{Enters}
+use Rattle.rules.specs.declared.Choice.the-variants.{Enters, Nothing}
+use Rattle.rules.specs.declared.Checked.the-variants.{Passed}
 use Rattle.rules.specs.declared.Stop.{Stop}
 use Rattle.state.specs.Memory.{memoryIn, pastOf, Handed, handed, answered}
 use Rattle.state.proofs.Memory.{cells-settle}
 use Rattle.rules.proofs.Refusals.{refusal-exact, refusal-says, six-never}
-use Rattle.rules.proofs.Answers.{at-once, end-exact, answer-exact, unbounded-priced, optimal-writes, values-left}
-use Rattle.rules.proofs.Steps.{steps-same}
+use Rattle.rules.proofs.Answers.{end-exact, answer-exact, unbounded-priced, optimal-writes, values-left}
+use Rattle.rules.proofs.InWords.{infeasible-told, optimal-told}
+use Rattle.rules.proofs.DualStart.{at-once}
+use Rattle.rules.proofs.Steps.{steps-one}
 use Rattle.rules.proofs.Ran.{solved-closes, solved-ran}
 
 -- what the contract of `solve` says of an answer and the memory afterwards
@@ -65,17 +69,17 @@ module _ (p : Plan) (v : List Float) (N : List ℕ) (D : List Float) (F : List �
 abbrev pub NotRefused : Solved → Type 0
 NotRefused r = (numberOf (r .answer) ≡ 0) ⊎ (20 ≤ numberOf (r .answer))
 
--- The state where a run ends, `reached p m`: exactly the one that the rules' own steps lead to from the start within the
--- budget and where the words of an end hold.
+-- The state where a run ends, `reached p m`: exactly the one that the rules' own steps, dual and then primal ones, lead to
+-- from the start within the budget and where the words of an end hold.
 pub last-exactly : (p : Plan) (m : Memory) (t : State)
-    → (t ≡ reached p m) ↔ (RunsTo p m t × ((w : Stop) × Ends (problemOf p) t w))
+    → (t ≡ reached p m) ↔ ((c : Kind) × RunsTo p m c t × ((w : Stop) × Ends (problemOf p) c t w))
 last-exactly p m t =
     let P = problemOf p in
     let f = endOf P m in (
       λ q.
           let h = end-exact P m (f .why) (f .state) .0 refl in
-          subst (λ (s : State). RunsTo p m s × ((w : Stop) × Ends P s w)) (sym q) (h .0, (f .why, h .1)),
-      λ h. ap (λ (x : Ended). x .state) (sym (end-exact P m (h .1 .0) t .1 (h .0, h .1 .1))),
+          subst (λ (s : State). (c : Kind) × RunsTo p m c s × ((w : Stop) × Ends P c s w)) (sym q) (h .0, h .1, (f .why, h .2)),
+      λ h. ap (λ (x : Ended). x .state) (sym (end-exact P m (h .2 .0) t .1 (h .0, h .1, h .2 .1))),
     )
 
 module _ (p : Plan) (m : Memory) (r : Solved) (e : Promised p m r) where
@@ -99,11 +103,11 @@ module _ (p : Plan) (m : Memory) (r : Solved) (e : Promised p m r) where
 
   -- ---- the other answers
 
-  -- 0 and 20 to 25, each with its objective, steps, excess and place, exactly when no refusal is called for and the rules' own
+  -- 0 and 20 to 26, each with its objective, steps, excess and place, exactly when no refusal is called for and the rules' own
   -- steps lead from the start, within the budget, to a state that its line of the table holds of. By `last-exactly` that
   -- is the state `reached p m`, and no other.
   pub answers-exactly : (t : Told) → (t .number ≡ 0) ⊎ (20 ≤ t .number)
-      → (asRow (r .answer) ≡ t) ↔ (NoneBelow 8 p m × ((s : State) × RunsTo p m s × Line (problemOf p) s t))
+      → (asRow (r .answer) ≡ t) ↔ (NoneBelow 8 p m × ((c : Kind) × ((s : State) × RunsTo p m c s × Line (problemOf p) c s t)))
   answers-exactly t h = rw e (answer-exact p m t h)
 
   -- 01: "Status 0 is Optimal and writes values, slacks last": the values of the state that was reached. They have passed
@@ -112,7 +116,21 @@ module _ (p : Plan) (m : Memory) (r : Solved) (e : Promised p m r) where
   pub optimal-passes : numberOf (r .answer) ≡ 0 → Passes p m r
   optimal-passes = subst (λ (x : Solved). numberOf (x .answer) ≡ 0 → Passes p m x) (sym e) (optimal-writes p m)
 
-  -- 01: "20 to 24 leave the values array alone", and so do 25 and refusals
+  -- 0 exactly when the steps lead within the budget to a state among the primal ones, where no column enters and which the
+  -- final check accepts: of a dual feasible start the dual steps have ended before, with no row that leaves
+  pub optimal-exactly : (numberOf (r .answer) ≡ 0)
+      ↔ (NoneBelow 8 p m
+      × ((s : State) × RunsTo p m primal s × (choose (problemOf p) (s .ws) ≡ Nothing)
+      × ((x : Float) × Checks (problemOf p) (valuesOf (problemOf p) (s .ws)) (Passed x))))
+  optimal-exactly = rw e (optimal-told p m)
+
+  -- 02: "A new status 26 says no entering column exists for the leaving row", which is its place: exactly when the dual steps
+  -- lead within the budget to a state where that row leaves and no column can enter for it
+  pub infeasible-exactly : (k : ℕ) → (numberOf (r .answer) ≡ 26) × (asRow (r .answer) .place ≡ keptRowAt k)
+      ↔ (NoneBelow 8 p m × ((s : State) × RunsTo p m dual s × NoEntering (problemOf p) s k))
+  infeasible-exactly k = rw e (infeasible-told p m k)
+
+  -- 01: "20 to 24 leave the values array alone", and so do 25, 26 and refusals
   pub values-stay : ¬ (numberOf (r .answer) ≡ 0) → r .memory .values ≡ m .values
   values-stay = subst (λ (x : Solved). ¬ (numberOf (x .answer) ≡ 0) → x .memory .values ≡ m .values) (sym e) (values-left p m)
 
@@ -139,37 +157,40 @@ module _ (p : Plan) (m : Memory) (r : Solved) (e : Promised p m r) where
     last-only t x =
         let s = startState (problemOf p) m in
         let count : reached p m .steps ≡ t .steps = sym (ran h .steps-told) ∙ x .steps-told in
-        steps-same (problemOf p) s (x .reached .by-steps)
-        (subst (λ (k : ℕ). Steps (problemOf p) s k (reached p m)) count (ran h .reached .by-steps))
+        steps-one (problemOf p) s (x .reached .by-steps)
+        (subst (λ (k : ℕ). Steps (problemOf p) s (firstKind p) (ran h .kind) k (reached p m)) count (ran h .reached .by-steps))
 
     -- the state and why the run ends there settle the answer and every lent cell
-    pub end-settles : (w : Stop) (t : State) → RunsTo p m t → Ends (problemOf p) t w
+    pub end-settles : (c : Kind) (w : Stop) (t : State) → RunsTo p m c t → Ends (problemOf p) c t w
         → r ≡ close (problemOf p) m (ended w t)
-    end-settles w t a b =
+    end-settles c w t a b =
         let none = answers-exactly (asRow (r .answer)) h .0 refl .0 in
-        e ∙ solved-closes p m none ∙ ap (close (problemOf p) m) (end-exact (problemOf p) m w t .1 (a, b))
+        e ∙ solved-closes p m none ∙ ap (close (problemOf p) m) (end-exact (problemOf p) m w t .1 (c, a, b))
 
-    -- 01: "If dual feasible, Optimal is reached at once with 0 steps (ours), after the final check"
-    pub dual-at-once : dualFeasible p ≡ true
+    -- 01: "If dual feasible, Optimal is reached at once with 0 steps (ours), after the final check": so it still is where every
+    -- slack starts within its bounds
+    pub dual-at-once : dualFeasible p ≡ true → passes7 (problemOf p) ≡ true
         → let P = problemOf p in
         let s = startState P m in
         (reached p m ≡ s) × (steps ≡ 0) × (r .answer ≡ checkedAnswer s (finalCheck P (valuesOf P (s .ws))))
     unfolding startState close answerOf
-    dual-at-once d =
+    dual-at-once d inside =
         let P = problemOf p in
-        let q = at-once P m d in
+        let q = at-once P m d inside in
         let start : reached p m ≡ startState P m = ap (λ (x : Ended). x .state) q in
         let ends = end-exact P m _ _ .0 q in (
           start,
           ran h .steps-told ∙ ap (λ (s : State). s .steps) start,
-          ap (λ (x : Solved). x .answer) (end-settles _ _ (ends .0) (ends .1)),
+          ap (λ (x : Solved). x .answer) (end-settles (ends .0) _ _ (ends .1) (ends .2)),
         )
 
     -- 01: "The step count in the answer is the number of steps the rules took", each step the rules' own, and at most the budget
-    pub steps-taken : Steps (problemOf p) (startState (problemOf p) m) steps (reached p m) × (steps ≤ p .budget)
+    pub steps-taken : (c : Kind) × Steps (problemOf p) (startState (problemOf p) m) (firstKind p) c steps (reached p m) × (steps ≤ p .budget)
     steps-taken =
-        subst (λ (k : ℕ). Steps (problemOf p) (startState (problemOf p) m) k (reached p m) × (k ≤ p .budget))
-        (sym (ran h .steps-told)) (ran h .reached .by-steps, ran h .reached .within)
+        let c = ran h .kind in
+        let x = subst (λ (k : ℕ). Steps (problemOf p) (startState (problemOf p) m) (firstKind p) c k (reached p m) × (k ≤ p .budget))
+        (sym (ran h .steps-told)) (ran h .reached .by-steps, ran h .reached .within) in
+        (c, x .0, x .1)
 
     -- demand 2: the two maps are each other's inverse, in the workspace that is handed back
     pub maps-inverse : Maps (problemOf p) (r .memory .ws)

@@ -76,11 +76,11 @@ and-same : {a b c d : Bool} → a ≡ b → c ≡ d → (a && c) ≡ (b && d)
 and-same e f = rw (e, f)
 
 workspace-same : {basicVars nbVars flags flags′ places : List ℕ}
-    {basicVarVals basicVarVals′ nbVarVals nbVarVals′ prices norms norms′ : List Float}
+    {basicVarVals basicVarVals′ nbVarVals nbVarVals′ prices norms norms′ dualNorms : List Float}
     {h : Etas} {o : Float} {F : Factored}
     → basicVarVals ≡ basicVarVals′ → nbVarVals ≡ nbVarVals′ → norms ≡ norms′ → flags ≡ flags′
-    → stateWith (workspaceOf basicVars basicVarVals nbVars nbVarVals prices norms flags places h) 0 o 0 F
-    ≡ stateWith (workspaceOf basicVars basicVarVals′ nbVars nbVarVals′ prices norms′ flags′ places h) 0 o 0 F
+    → stateWith (workspaceOf basicVars basicVarVals nbVars nbVarVals prices norms dualNorms flags places h) 0 o 0 F
+    ≡ stateWith (workspaceOf basicVars basicVarVals′ nbVars nbVarVals′ prices norms′ dualNorms flags′ places h) 0 o 0 F
 workspace-same a b c d = rw (a, b, c, d)
 
 -- the state of numbers in scratch: the workspace that `write_start` leaves, and no factor

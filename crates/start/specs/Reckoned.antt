@@ -4,7 +4,7 @@ use mathlib.Core.List.{List, []}
 use Prim.Native.Nat.{ℕ, _+_}
 use lib.ListN.{length, set}
 use lib.Ieee.{Float}
-use Rattle.doubles.specs.Num.{finite}
+use Rattle.doubles.specs.Num.{finite, f1}
 use Rattle.doubles.specs.Loop.{all, table}
 use Rattle.doubles.specs.Lists.{_!_, _#_, over}
 use Rattle.rules.specs.Plan.{Problem, Workspace, nOf, mOf, slackMin, slackMax}
@@ -48,6 +48,7 @@ written n m costs lowers uppers xs slacks norms w =
       nbVarVals = over (table n (λ j. xs ! j)) (w .nbVarVals);
       prices = over (table n (λ j. costs ! j)) (w .prices);
       norms = over (table n (λ j. norms ! j)) (w .norms);
+      dualNorms = over (table m (λ r. f1)) (w .dualNorms);
       flags = over (table n (startFlags (costed n [] lowers uppers) xs)) (w .flags);
       varStates = over (table (n + m) (λ v. v)) (w .varStates);
       etas = record { leaving = w .etas .leaving; starts = set (w .etas .starts) 0 0; rows = w .etas .rows; coeffs = w .etas .coeffs };

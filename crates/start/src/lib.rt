@@ -1,11 +1,11 @@
 // 01, "Start": the first state, and refusals 6 and 7. Its numbers are reckoned in scratch and tested there, and only
 // then copied.
-// From minilp 0.2.2, src/solver.rs, try_new, Apache-2.0, changed: 01's rules, slack-feasible starts only, lent arrays.
+// From minilp 0.2.2, src/solver.rs, try_new, Apache-2.0, changed: 01's rules, lent arrays.
 ghost use mathlib.Core.Path.{_≡_};
 ghost use mathlib.Core.List.{[]};
 ghost use Prim.Native.Nat.{_<_, _≤_, _+_, _^_};
 ghost use lib.ListN.{length};
-ghost use Rattle.doubles.specs.Num.{f0};
+ghost use Rattle.doubles.specs.Num.{f0, f1};
 ghost use Rattle.doubles.specs.Limits.{maxColumns, maxRows};
 ghost use Rattle.doubles.specs.Loop.{table};
 ghost use Rattle.doubles.specs.Lists.{_!_, over};
@@ -121,6 +121,16 @@ fn write_flags(n: usize, lowers: &[f64], uppers: &[f64], xs: &[f64], flags: &mut
     }
 }
 
+// 02, Ask 8: "1.0 for each kept row at the start".
+fn write_dual_norms(m: usize, norms: &mut [f64])
+    requires { ⌜ m ≤ length (now norms) ⌝ }
+    ensures { λ _. ⌜ now (norms .exit) ≡ over (table m (λ r. f1)) (now (norms .entry)) ⌝ }
+{
+    for r in 0..m {
+        norms[r] = 1.0;
+    }
+}
+
 // The first state over the fronts of its sections, from the numbers in scratch. "Columns are non-basic in their order,
 // and slacks basic in theirs, so the cell of variable v is v"; the eta store is empty.
 pub fn write_start(
@@ -169,4 +179,5 @@ pub fn write_start(
         &mut numbers[state::VAR_STATES..state::VAR_STATES_END],
     );
     numbers[state::ETA_STARTS] = 0;
+    write_dual_norms(m, &mut doubles[state::DUAL_NORMS..state::DUAL_NORMS_END]);
 }

@@ -1,6 +1,6 @@
 -- Each answer of the gateway by its tests, and what it is to the whole solve. Assumes nothing.
 use mathlib.Core.Path.{_≡_, refl, ap}
-use mathlib.Core.Bool.{Bool, true, false, _&&_}
+use mathlib.Core.Bool.{Bool, true, false, _&&_, _||_}
 use mathlib.Core.List.{[]}
 use Prim.Native.Nat.{ℕ, _≤_}
 use native.Mathlib.Omega.{arith}
@@ -12,7 +12,7 @@ use Rattle.doubles.proofs.Loops.{both-true}
 use Rattle.rules.specs.Plan.{Plan, Memory, Problem, problemOf, nOf, column}
 use Rattle.rules.specs.Parts.{planOf, problem}
 use Rattle.rules.specs.Refusals.{sizesFit, planLong, memoryLong, startsRise, passes1, passes2, firstBadRow}
-use Rattle.rules.specs.Start.{startVals, startObjective, startSlack, startNorm, passes6, passes7}
+use Rattle.rules.specs.Start.{startVals, startObjective, startSlack, startNorm, passes6, passes7, dualFeasible}
 use Rattle.rules.specs.Solve.{Solved, solved, orRefuse, close, endOf, solvePlan}
 use Rattle.rules.specs.declared.Answer.{Answer}
 use Rattle.rules.specs.declared.Answer.the-variants.{BadSize, BadNumber, BadEntry, StartNotFinite, SlackOutside}
@@ -88,18 +88,18 @@ module _ (P : Problem) (s : Numbers) where
   unfolding begun
   starts-wild e = rw (e, begun)
 
-  pub starts-outside : passes6 P ≡ true → passes7 P ≡ false → refused SlackOutside ≡ begun P s
+  pub starts-outside : passes6 P ≡ true → passes7 P || dualFeasible (P .plan) ≡ false → refused SlackOutside ≡ begun P s
   unfolding begun
   starts-outside a e = rw (a, e, begun)
 
-  pub starts-well : passes6 P ≡ true → passes7 P ≡ true → (u : Numbers) → u ≡ reckoned P s → filled u ≡ begun P s
+  pub starts-well : passes6 P ≡ true → passes7 P || dualFeasible (P .plan) ≡ true → (u : Numbers) → u ≡ reckoned P s → filled u ≡ begun P s
   unfolding begun
   starts-well a b u e = rw (a, b, e, begun)
 
   -- as `begin` is lent it
   pub begun-part : begun P s
       ≡ begun (problem (planOf (nOf P) 0 0 0 f0 (P .plan .costs) (P .plan .lowers) (P .plan .uppers) (P .plan .starts) (P .plan .cols) (P .plan .coeffs) (P .plan .ops) (P .plan .rhs)) (P .kept)) s
-  unfolding begun passes6 passes7 reckoned startVals startObjective startSlack startNorm column
+  unfolding begun passes6 passes7 dualFeasible reckoned startVals startObjective startSlack startNorm column
   begun-part = refl
 
 -- ---- for the caller
@@ -118,7 +118,7 @@ module _ (p : Plan) (m : Memory) (s : Numbers) where
 
   pub start-refused : (a : Answer) → refused a ≡ begun P s → fromSix p m ≡ solved a m
   unfolding begun
-  start-refused a e = go (passes6 P) (passes7 P) e
+  start-refused a e = go (passes6 P) (passes7 P || dualFeasible p) e
     where
       go : (b c : Bool) → refused a ≡ begunFrom b c → solvedFrom b c ≡ solved a m
       go true true e = clash cc
@@ -127,7 +127,7 @@ module _ (p : Plan) (m : Memory) (s : Numbers) where
 
   pub start-filled : (u : Numbers) → filled u ≡ begun P s → (u ≡ reckoned P s) × (fromSix p m ≡ close P m (endOf P m))
   unfolding begun
-  start-filled u e = go (passes6 P) (passes7 P) e
+  start-filled u e = go (passes6 P) (passes7 P || dualFeasible p) e
     where
       go : (b c : Bool) → filled u ≡ begunFrom b c → (u ≡ reckoned P s) × (solvedFrom b c ≡ close P m (endOf P m))
       go true true e = (cc, refl)

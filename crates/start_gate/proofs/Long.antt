@@ -16,7 +16,7 @@ use Rattle.doubles.proofs.Loops.{both-true}
 use Rattle.lu_factor_rules.specs.Packed.{factorNumbers, factorCoeffs}
 use Rattle.rules.specs.Plan.{Plan, Memory}
 use Rattle.rules.specs.Refusals.{storeLong, workspaceLong, memoryLong}
-use Rattle.state.specs.Packed.{section, basicVarsAt, nbVarsAt, varStatesAt, flagCellsAt, etaLeavingAt, etaStartsAt, etaRowsAt, keptAt, countsAt, basicVarValsAt, nbVarValsAt, pricesAt, normsAt, etaCoeffsAt, objectiveAt}
+use Rattle.state.specs.Packed.{section, basicVarsAt, nbVarsAt, varStatesAt, flagCellsAt, etaLeavingAt, etaStartsAt, etaRowsAt, keptAt, countsAt, basicVarValsAt, nbVarValsAt, pricesAt, normsAt, etaCoeffsAt, dualNormsAt, objectiveAt}
 use Rattle.state.specs.Memory.{numbersEnd, doublesEnd, memoryIn}
 use Rattle.state.proofs.Sections.{section-length}
 
@@ -78,8 +78,9 @@ module _ (p : Plan) (v : List Float) (N : List ℕ) (D : List Float) (F : List �
       let b3 = has pricesAt maxColumns D (omega (arith, d)) (p .columns) few in
       let b4 = has normsAt maxColumns D (omega (arith, d)) (p .columns) few in
       let b5 = has etaCoeffsAt etaEntries D (omega (arith, d)) etaEntries (omega arith) in
-      let b6 = has objectiveAt 1 D (omega (arith, d)) 1 (omega arith) in
-      rw (a1, a2, a3, a4, a5, a6, a7, a8, a9, b1, b2, b3, b4, b5, b6) (passed values)
+      let b6 = has dualNormsAt maxRows D (omega (arith, d)) (p .rows) low in
+      let b7 = has objectiveAt 1 D (omega (arith, d)) 1 (omega arith) in
+      rw (a1, a2, a3, a4, a5, a6, a7, a8, a9, b1, b2, b3, b4, b5, b6, b7) (passed values)
   decided true false e f = rw (lacks objectiveAt 1 D (omega arith) (leb-false doublesEnd (length D) f)) (failed-last (others && leb countCells (length (m .counts))) (values && true))
   decided false c e f = rw (lacks countsAt countCells N (omega arith) (leb-false numbersEnd (length N) e)) (failed others values (leb 1 (length (m .objective))) c)
 

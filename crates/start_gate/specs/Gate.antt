@@ -1,10 +1,10 @@
 -- What the gateway answers: 1 to 5 from what is lent, 6 and 7 from the start's numbers in scratch. Assumes nothing.
-use mathlib.Core.Bool.{true, false, _&&_}
+use mathlib.Core.Bool.{true, false, _&&_, _||_}
 use mathlib.Core.List.{List}
 use lib.Ieee.{Float}
 use Rattle.rules.specs.Plan.{Plan, Memory, Problem}
 use Rattle.rules.specs.Refusals.{sizesFit, planLong, memoryLong}
-use Rattle.rules.specs.Start.{passes6, passes7}
+use Rattle.rules.specs.Start.{passes6, passes7, dualFeasible}
 use Rattle.rules.specs.declared.Answer.{Answer}
 use Rattle.rules.specs.declared.Answer.the-variants.{BadSize, StartNotFinite, SlackOutside}
 use Rattle.plan.specs.Refused.{passing, refusalOf}
@@ -22,11 +22,11 @@ pub data Scratch : Type 0 where
   refused : Answer → Scratch
   filled : Numbers → Scratch
 
--- 6, then 7: the numbers over what stood in scratch
+-- 6, then 7, which is given only where the start isn't dual feasible: the numbers over what stood in scratch
 unfoldable pub begun : Problem → Numbers → Scratch
 begun P s =
     elim (passes6 P) [
-      | true ↦ elim (passes7 P) [ true ↦ filled (reckoned P s) | false ↦ refused SlackOutside ]
+      | true ↦ elim (passes7 P || dualFeasible (P .plan)) [ true ↦ filled (reckoned P s) | false ↦ refused SlackOutside ]
       | false ↦ refused StartNotFinite
     ]
 

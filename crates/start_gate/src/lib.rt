@@ -114,7 +114,8 @@ pub fn refusal(
     )
 }
 
-// 6 and 7, from the start's numbers. What is lent to be written is the caller's scratch.
+// 6 and 7, from the start's numbers. 02, Ask 8: 7 is given only where the start isn't dual feasible. What is lent to be
+// written is the caller's scratch.
 pub fn begin(
     columns: usize,
     costs: &[f64],
@@ -155,7 +156,8 @@ pub fn begin(
     if !start::passes_6(columns, kept.len(), xs, slacks, objective, norms) {
         return Begun::Refused(rules::Answer::StartNotFinite);
     }
-    if !start::passes_7(ops, kept, slacks) {
+    if !(start::passes_7(ops, kept, slacks)
+        | start_values::dual_feasible(costs, lowers, uppers, columns)) {
         return Begun::Refused(rules::Answer::SlackOutside);
     }
     Begun::On(objective)

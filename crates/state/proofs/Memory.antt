@@ -10,7 +10,7 @@ use lib.Ieee.{Float}
 use Rattle.doubles.specs.Limits.{maxRows, maxColumns, vars, etaColumns, etaEntries, countCells}
 use Rattle.rules.specs.Plan.{Memory}
 use Rattle.rules.specs.Parts.{memoryOf}
-use Rattle.state.specs.Packed.{section, packed, Sized, basicVarsAt, nbVarsAt, varStatesAt, flagCellsAt, etaLeavingAt, etaStartsAt, etaRowsAt, keptAt, countsAt, basicVarValsAt, nbVarValsAt, pricesAt, normsAt, etaCoeffsAt, objectiveAt}
+use Rattle.state.specs.Packed.{section, packed, Sized, basicVarsAt, nbVarsAt, varStatesAt, flagCellsAt, etaLeavingAt, etaStartsAt, etaRowsAt, keptAt, countsAt, basicVarValsAt, nbVarValsAt, pricesAt, normsAt, etaCoeffsAt, dualNormsAt, objectiveAt}
 use Rattle.state.specs.Memory.{numbersEnd, doublesEnd, memoryIn, Past, pastOf}
 use Rattle.state.proofs.Sections.{Changed, early, glue, lent}
 
@@ -29,7 +29,7 @@ numbersOf m past =
 abbrev doublesOf : Memory → Past → List Float
 doublesOf m past =
     let w = m .ws in
-    w .basicVarVals ++ (w .nbVarVals ++ (w .prices ++ (w .norms ++ (w .etas .coeffs ++ (m .objective ++ past .doubles)))))
+    w .basicVarVals ++ (w .nbVarVals ++ (w .prices ++ (w .norms ++ (w .etas .coeffs ++ (w .dualNorms ++ (m .objective ++ past .doubles))))))
 
 -- from place a on, a section and then what follows it
 next : {A : Type 0} (a k : ℕ) (xs : List A) {rest : List A} → drop (a + k) xs ≡ rest → drop a xs ≡ section a k xs ++ rest
@@ -55,7 +55,8 @@ module _ (v : List Float) (N : List ℕ) (D : List Float) (F : List ℕ) (G : Li
       (next pricesAt maxColumns D
       (next normsAt maxColumns D
       (next etaCoeffsAt etaEntries D
-      (glue objectiveAt 1 D)))))
+      (next dualNormsAt maxRows D
+      (glue objectiveAt 1 D))))))
 
 module _ {v w : List Float} {N M : List ℕ} {D E : List Float} {F H : List ℕ} {G J : List Float} where
   pub cells-settle :
@@ -89,6 +90,7 @@ front-packed M R E S z =
       early E S pricesAt maxColumns (omega (arith, z)),
       early E S normsAt maxColumns (omega (arith, z)),
       early E S etaCoeffsAt etaEntries (omega (arith, z)),
+      early E S dualNormsAt maxRows (omega (arith, z)),
     )
 
 module _ (N : List ℕ) (D : List Float) (n : numbersEnd ≤ length N) (d : doublesEnd ≤ length D) where

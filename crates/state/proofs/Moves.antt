@@ -8,45 +8,48 @@ use lib.Ieee.{Float}
 use Rattle.doubles.specs.Limits.{maxRows, maxColumns, vars, etaColumns, etaEntries}
 use Rattle.rules.specs.Plan.{Workspace}
 use Rattle.rules.specs.Parts.{etasOf, workspaceOf}
-use Rattle.state.specs.Packed.{section, packed, Sized, basicVarsAt, nbVarsAt, varStatesAt, flagCellsAt, etaLeavingAt, etaStartsAt, etaRowsAt, keptAt, basicVarValsAt, nbVarValsAt, pricesAt, normsAt, etaCoeffsAt, objectiveAt}
+use Rattle.state.specs.Packed.{section, packed, Sized, basicVarsAt, nbVarsAt, varStatesAt, flagCellsAt, etaLeavingAt, etaStartsAt, etaRowsAt, keptAt, basicVarValsAt, nbVarValsAt, pricesAt, normsAt, etaCoeffsAt, dualNormsAt, objectiveAt}
 use Rattle.state.proofs.Sections.{Changed, glue}
 
 -- one array anew
 abbrev with-basicVars : List ℕ → Workspace → Workspace
-with-basicVars x w = workspaceOf x (w .basicVarVals) (w .nbVars) (w .nbVarVals) (w .prices) (w .norms) (w .flags) (w .varStates) (w .etas)
+with-basicVars x w = workspaceOf x (w .basicVarVals) (w .nbVars) (w .nbVarVals) (w .prices) (w .norms) (w .dualNorms) (w .flags) (w .varStates) (w .etas)
 
 abbrev with-nbVars : List ℕ → Workspace → Workspace
-with-nbVars x w = workspaceOf (w .basicVars) (w .basicVarVals) x (w .nbVarVals) (w .prices) (w .norms) (w .flags) (w .varStates) (w .etas)
+with-nbVars x w = workspaceOf (w .basicVars) (w .basicVarVals) x (w .nbVarVals) (w .prices) (w .norms) (w .dualNorms) (w .flags) (w .varStates) (w .etas)
 
 abbrev with-varStates : List ℕ → Workspace → Workspace
-with-varStates x w = workspaceOf (w .basicVars) (w .basicVarVals) (w .nbVars) (w .nbVarVals) (w .prices) (w .norms) (w .flags) x (w .etas)
+with-varStates x w = workspaceOf (w .basicVars) (w .basicVarVals) (w .nbVars) (w .nbVarVals) (w .prices) (w .norms) (w .dualNorms) (w .flags) x (w .etas)
 
 abbrev with-flags : List ℕ → Workspace → Workspace
-with-flags x w = workspaceOf (w .basicVars) (w .basicVarVals) (w .nbVars) (w .nbVarVals) (w .prices) (w .norms) x (w .varStates) (w .etas)
+with-flags x w = workspaceOf (w .basicVars) (w .basicVarVals) (w .nbVars) (w .nbVarVals) (w .prices) (w .norms) (w .dualNorms) x (w .varStates) (w .etas)
 
 abbrev with-etaLeaving : List ℕ → Workspace → Workspace
-with-etaLeaving x w = workspaceOf (w .basicVars) (w .basicVarVals) (w .nbVars) (w .nbVarVals) (w .prices) (w .norms) (w .flags) (w .varStates) (etasOf x (w .etas .starts) (w .etas .rows) (w .etas .coeffs))
+with-etaLeaving x w = workspaceOf (w .basicVars) (w .basicVarVals) (w .nbVars) (w .nbVarVals) (w .prices) (w .norms) (w .dualNorms) (w .flags) (w .varStates) (etasOf x (w .etas .starts) (w .etas .rows) (w .etas .coeffs))
 
 abbrev with-etaStarts : List ℕ → Workspace → Workspace
-with-etaStarts x w = workspaceOf (w .basicVars) (w .basicVarVals) (w .nbVars) (w .nbVarVals) (w .prices) (w .norms) (w .flags) (w .varStates) (etasOf (w .etas .leaving) x (w .etas .rows) (w .etas .coeffs))
+with-etaStarts x w = workspaceOf (w .basicVars) (w .basicVarVals) (w .nbVars) (w .nbVarVals) (w .prices) (w .norms) (w .dualNorms) (w .flags) (w .varStates) (etasOf (w .etas .leaving) x (w .etas .rows) (w .etas .coeffs))
 
 abbrev with-etaRows : List ℕ → Workspace → Workspace
-with-etaRows x w = workspaceOf (w .basicVars) (w .basicVarVals) (w .nbVars) (w .nbVarVals) (w .prices) (w .norms) (w .flags) (w .varStates) (etasOf (w .etas .leaving) (w .etas .starts) x (w .etas .coeffs))
+with-etaRows x w = workspaceOf (w .basicVars) (w .basicVarVals) (w .nbVars) (w .nbVarVals) (w .prices) (w .norms) (w .dualNorms) (w .flags) (w .varStates) (etasOf (w .etas .leaving) (w .etas .starts) x (w .etas .coeffs))
 
 abbrev with-basicVarVals : List Float → Workspace → Workspace
-with-basicVarVals x w = workspaceOf (w .basicVars) x (w .nbVars) (w .nbVarVals) (w .prices) (w .norms) (w .flags) (w .varStates) (w .etas)
+with-basicVarVals x w = workspaceOf (w .basicVars) x (w .nbVars) (w .nbVarVals) (w .prices) (w .norms) (w .dualNorms) (w .flags) (w .varStates) (w .etas)
 
 abbrev with-nbVarVals : List Float → Workspace → Workspace
-with-nbVarVals x w = workspaceOf (w .basicVars) (w .basicVarVals) (w .nbVars) x (w .prices) (w .norms) (w .flags) (w .varStates) (w .etas)
+with-nbVarVals x w = workspaceOf (w .basicVars) (w .basicVarVals) (w .nbVars) x (w .prices) (w .norms) (w .dualNorms) (w .flags) (w .varStates) (w .etas)
 
 abbrev with-prices : List Float → Workspace → Workspace
-with-prices x w = workspaceOf (w .basicVars) (w .basicVarVals) (w .nbVars) (w .nbVarVals) x (w .norms) (w .flags) (w .varStates) (w .etas)
+with-prices x w = workspaceOf (w .basicVars) (w .basicVarVals) (w .nbVars) (w .nbVarVals) x (w .norms) (w .dualNorms) (w .flags) (w .varStates) (w .etas)
 
 abbrev with-norms : List Float → Workspace → Workspace
-with-norms x w = workspaceOf (w .basicVars) (w .basicVarVals) (w .nbVars) (w .nbVarVals) (w .prices) x (w .flags) (w .varStates) (w .etas)
+with-norms x w = workspaceOf (w .basicVars) (w .basicVarVals) (w .nbVars) (w .nbVarVals) (w .prices) x (w .dualNorms) (w .flags) (w .varStates) (w .etas)
 
 abbrev with-etaCoeffs : List Float → Workspace → Workspace
-with-etaCoeffs x w = workspaceOf (w .basicVars) (w .basicVarVals) (w .nbVars) (w .nbVarVals) (w .prices) (w .norms) (w .flags) (w .varStates) (etasOf (w .etas .leaving) (w .etas .starts) (w .etas .rows) x)
+with-etaCoeffs x w = workspaceOf (w .basicVars) (w .basicVarVals) (w .nbVars) (w .nbVarVals) (w .prices) (w .norms) (w .dualNorms) (w .flags) (w .varStates) (etasOf (w .etas .leaving) (w .etas .starts) (w .etas .rows) x)
+
+abbrev with-dualNorms : List Float → Workspace → Workspace
+with-dualNorms x w = workspaceOf (w .basicVars) (w .basicVarVals) (w .nbVars) (w .nbVarVals) (w .prices) (w .norms) x (w .flags) (w .varStates) (w .etas)
 
 -- the arrays hold w: as a record, so that arguments are inferred
 pub record Holds (w : Workspace) (N : List ℕ) (D : List Float) : Type 0 where
@@ -94,35 +97,40 @@ module _ {w : Workspace} {N : List ℕ} {D : List Float} (h : Holds w N D) where
 
   pub in-basicVarVals : {f : List Float → List Float} {M : List Float} → Changed basicVarValsAt maxRows f D M → Holds (with-basicVarVals (f (w .basicVarVals)) w) N M
   in-basicVarVals {f} {M} c =
-      let same : packed N M ≡ with-basicVarVals (f (packed N D .basicVarVals)) (packed N D) = rw (c .here, c .after nbVarValsAt maxColumns (omega arith), c .after pricesAt maxColumns (omega arith), c .after normsAt maxColumns (omega arith), c .after etaCoeffsAt etaEntries (omega arith)) in
+      let same : packed N M ≡ with-basicVarVals (f (packed N D .basicVarVals)) (packed N D) = rw (c .here, c .after nbVarValsAt maxColumns (omega arith), c .after pricesAt maxColumns (omega arith), c .after normsAt maxColumns (omega arith), c .after etaCoeffsAt etaEntries (omega arith), c .after dualNormsAt maxRows (omega arith)) in
       record { is = same ∙ ap (λ (v : Workspace). with-basicVarVals (f (v .basicVarVals)) v) (h .is) }
 
   pub in-nbVarVals : {f : List Float → List Float} {M : List Float} → Changed nbVarValsAt maxColumns f D M → Holds (with-nbVarVals (f (w .nbVarVals)) w) N M
   in-nbVarVals {f} {M} c =
-      let same : packed N M ≡ with-nbVarVals (f (packed N D .nbVarVals)) (packed N D) = rw (c .before basicVarValsAt maxRows (omega arith), c .here, c .after pricesAt maxColumns (omega arith), c .after normsAt maxColumns (omega arith), c .after etaCoeffsAt etaEntries (omega arith)) in
+      let same : packed N M ≡ with-nbVarVals (f (packed N D .nbVarVals)) (packed N D) = rw (c .before basicVarValsAt maxRows (omega arith), c .here, c .after pricesAt maxColumns (omega arith), c .after normsAt maxColumns (omega arith), c .after etaCoeffsAt etaEntries (omega arith), c .after dualNormsAt maxRows (omega arith)) in
       record { is = same ∙ ap (λ (v : Workspace). with-nbVarVals (f (v .nbVarVals)) v) (h .is) }
 
   pub in-prices : {f : List Float → List Float} {M : List Float} → Changed pricesAt maxColumns f D M → Holds (with-prices (f (w .prices)) w) N M
   in-prices {f} {M} c =
-      let same : packed N M ≡ with-prices (f (packed N D .prices)) (packed N D) = rw (c .before basicVarValsAt maxRows (omega arith), c .before nbVarValsAt maxColumns (omega arith), c .here, c .after normsAt maxColumns (omega arith), c .after etaCoeffsAt etaEntries (omega arith)) in
+      let same : packed N M ≡ with-prices (f (packed N D .prices)) (packed N D) = rw (c .before basicVarValsAt maxRows (omega arith), c .before nbVarValsAt maxColumns (omega arith), c .here, c .after normsAt maxColumns (omega arith), c .after etaCoeffsAt etaEntries (omega arith), c .after dualNormsAt maxRows (omega arith)) in
       record { is = same ∙ ap (λ (v : Workspace). with-prices (f (v .prices)) v) (h .is) }
 
   pub in-norms : {f : List Float → List Float} {M : List Float} → Changed normsAt maxColumns f D M → Holds (with-norms (f (w .norms)) w) N M
   in-norms {f} {M} c =
-      let same : packed N M ≡ with-norms (f (packed N D .norms)) (packed N D) = rw (c .before basicVarValsAt maxRows (omega arith), c .before nbVarValsAt maxColumns (omega arith), c .before pricesAt maxColumns (omega arith), c .here, c .after etaCoeffsAt etaEntries (omega arith)) in
+      let same : packed N M ≡ with-norms (f (packed N D .norms)) (packed N D) = rw (c .before basicVarValsAt maxRows (omega arith), c .before nbVarValsAt maxColumns (omega arith), c .before pricesAt maxColumns (omega arith), c .here, c .after etaCoeffsAt etaEntries (omega arith), c .after dualNormsAt maxRows (omega arith)) in
       record { is = same ∙ ap (λ (v : Workspace). with-norms (f (v .norms)) v) (h .is) }
 
   pub in-etaCoeffs : {f : List Float → List Float} {M : List Float} → Changed etaCoeffsAt etaEntries f D M → Holds (with-etaCoeffs (f (w .etas .coeffs)) w) N M
   in-etaCoeffs {f} {M} c =
-      let same : packed N M ≡ with-etaCoeffs (f (packed N D .etas .coeffs)) (packed N D) = rw (c .before basicVarValsAt maxRows (omega arith), c .before nbVarValsAt maxColumns (omega arith), c .before pricesAt maxColumns (omega arith), c .before normsAt maxColumns (omega arith), c .here) in
+      let same : packed N M ≡ with-etaCoeffs (f (packed N D .etas .coeffs)) (packed N D) = rw (c .before basicVarValsAt maxRows (omega arith), c .before nbVarValsAt maxColumns (omega arith), c .before pricesAt maxColumns (omega arith), c .before normsAt maxColumns (omega arith), c .here, c .after dualNormsAt maxRows (omega arith)) in
       record { is = same ∙ ap (λ (v : Workspace). with-etaCoeffs (f (v .etas .coeffs)) v) (h .is) }
+
+  pub in-dualNorms : {f : List Float → List Float} {M : List Float} → Changed dualNormsAt maxRows f D M → Holds (with-dualNorms (f (w .dualNorms)) w) N M
+  in-dualNorms {f} {M} c =
+      let same : packed N M ≡ with-dualNorms (f (packed N D .dualNorms)) (packed N D) = rw (c .before basicVarValsAt maxRows (omega arith), c .before nbVarValsAt maxColumns (omega arith), c .before pricesAt maxColumns (omega arith), c .before normsAt maxColumns (omega arith), c .before etaCoeffsAt etaEntries (omega arith), c .here) in
+      record { is = same ∙ ap (λ (v : Workspace). with-dualNorms (f (v .dualNorms)) v) (h .is) }
 
 -- the arrays are their sections in turn, so the workspace settles every cell
 abbrev numbersOf : Workspace → List ℕ
 numbersOf w = w .basicVars ++ (w .nbVars ++ (w .varStates ++ (w .flags ++ (w .etas .leaving ++ (w .etas .starts ++ w .etas .rows)))))
 
 abbrev doublesOf : Workspace → List Float
-doublesOf w = w .basicVarVals ++ (w .nbVarVals ++ (w .prices ++ (w .norms ++ w .etas .coeffs)))
+doublesOf w = w .basicVarVals ++ (w .nbVarVals ++ (w .prices ++ (w .norms ++ (w .etas .coeffs ++ w .dualNorms))))
 
 module _ {N : List ℕ} {D : List Float} (s : Sized N D) where
   numbers-are : N ≡ numbersOf (packed N D)
@@ -140,12 +148,13 @@ module _ {N : List ℕ} {D : List Float} (s : Sized N D) where
   doubles-are : D ≡ doublesOf (packed N D)
   doubles-are =
       let past : drop objectiveAt D ≡ [] = drop-of-length-le D {i = objectiveAt} (omega (arith, s)) in
-      let coeffs = glue etaCoeffsAt etaEntries D ∙ ap (λ (l : List Float). section etaCoeffsAt etaEntries D ++ l) past ∙ append-nil _ in
+      let dual-norms = glue dualNormsAt maxRows D ∙ ap (λ (l : List Float). section dualNormsAt maxRows D ++ l) past ∙ append-nil _ in
       glue basicVarValsAt maxRows D
       ∙ ap (λ (l : List Float). section basicVarValsAt maxRows D ++ l) (glue nbVarValsAt maxColumns D
       ∙ ap (λ (l : List Float). section nbVarValsAt maxColumns D ++ l) (glue pricesAt maxColumns D
       ∙ ap (λ (l : List Float). section pricesAt maxColumns D ++ l) (glue normsAt maxColumns D
-      ∙ ap (λ (l : List Float). section normsAt maxColumns D ++ l) coeffs)))
+      ∙ ap (λ (l : List Float). section normsAt maxColumns D ++ l) (glue etaCoeffsAt etaEntries D
+      ∙ ap (λ (l : List Float). section etaCoeffsAt etaEntries D ++ l) dual-norms))))
 
 pub settled : {N M : List ℕ} {D E : List Float} → Sized N D → Sized M E → packed N D ≡ packed M E → (N ≡ M) × (D ≡ E)
 settled s t e = (numbers-are s ∙ ap numbersOf e ∙ sym (numbers-are t), doubles-are s ∙ ap doublesOf e ∙ sym (doubles-are t))

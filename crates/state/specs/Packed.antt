@@ -58,8 +58,11 @@ normsAt = pricesAt + maxColumns
 abbrev pub etaCoeffsAt : ℕ
 etaCoeffsAt = normsAt + maxColumns
 
+abbrev pub dualNormsAt : ℕ
+dualNormsAt = etaCoeffsAt + etaEntries
+
 abbrev pub objectiveAt : ℕ
-objectiveAt = etaCoeffsAt + etaEntries
+objectiveAt = dualNormsAt + maxRows
 
 abbrev pub packed : List ℕ → List Float → Workspace
 packed N D =
@@ -70,6 +73,7 @@ packed N D =
     (section nbVarValsAt maxColumns D)
     (section pricesAt maxColumns D)
     (section normsAt maxColumns D)
+    (section dualNormsAt maxRows D)
     (section flagCellsAt maxColumns N)
     (section varStatesAt vars N)
     (etasOf

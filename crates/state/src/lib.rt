@@ -62,7 +62,11 @@ pub const ETA_COEFFS: usize = NORMS_END;
 
 pub const ETA_COEFFS_END: usize = ETA_COEFFS + doubles::ETA_ENTRIES;
 
-pub const OBJECTIVE: usize = ETA_COEFFS_END;
+pub const DUAL_NORMS: usize = ETA_COEFFS_END;
+
+pub const DUAL_NORMS_END: usize = DUAL_NORMS + doubles::MAX_ROWS;
+
+pub const OBJECTIVE: usize = DUAL_NORMS_END;
 
 pub const OBJECTIVE_END: usize = OBJECTIVE + 1;
 

@@ -87,7 +87,7 @@ fn all_below(limit: usize, n: usize, xs: &[usize]) -> bool
 fn cells_fine(n: usize, m: usize, basic: &[usize], nonbasic: &[usize], states: &[usize]) -> bool
     requires { ⌜ (n ≤ maxColumns) × (m ≤ maxRows) × (m ≤ length (now basic)) × (n ≤ length (now nonbasic)) ×
         (n + m ≤ length (now states)) ⌝ }
-    ensures { λ r. ⌜ r ≡ cellsFine n m (workspaceOf (now (basic .entry)) [] (now (nonbasic .entry)) [] [] [] []
+    ensures { λ r. ⌜ r ≡ cellsFine n m (workspaceOf (now (basic .entry)) [] (now (nonbasic .entry)) [] [] [] [] []
         (now (states .entry)) noEtas) ⌝ }
 {
     let vars = n + m;

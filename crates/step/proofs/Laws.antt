@@ -12,11 +12,11 @@ use Rattle.sparse.specs.Scattered.{Sv, sv, Wf, Within, listedFinite}
 use Rattle.rules.specs.Plan.{Problem, Workspace, State, nOf, column, varMin, varMax}
 use Rattle.rules.specs.Parts.{planOf, problem, bounded, rowed}
 use Rattle.rules.specs.Choose.{otherVal, choose}
-use Rattle.rules.specs.Basis.{colCoeffs, addRow, combine, rowCoeffsOf, helperOf, touchAt}
+use Rattle.rules.specs.Basis.{colCoeffs, addRow, combine, rowCoeffsOf, helperOf, tauOf, touchAt}
 use Rattle.rules.specs.Ratio.{ahead, limit, examined, relaxed, stepTo, soundRatios, passOne, candidate, passTwoTurn, passTwo, flipOf, exchangeOf as ratioExchange, pivotOf, soundDistance, ratio}
 use Rattle.rules.specs.Choices.{RatioGives, exchanges as gives-exchange}
 use Rattle.rules.specs.Pivot.{flagsAt, flipFinite, flipped, numbersFinite, exchanged, refactored}
-use Rattle.rules.specs.Step.{Outcome, moved, stopped, orStop, step, pivot, flip, exchange}
+use Rattle.rules.specs.Step.{Outcome, moved, stopped, orStop, step, pivot, flip, exchange, bothNorms}
 use Rattle.rules.specs.Invariant.{ProblemFits, FactorFits, Fits, Vector}
 use Rattle.rules.specs.declared.Entering.{Entering}
 use Rattle.rules.specs.declared.Choice.the-variants.{Enters as Enters·column}
@@ -193,7 +193,7 @@ module _ (Q : Problem) (s : State) (e : Entering) where
 
   abbrev byFound : Found → Outcome
   byFound (flips c value diff) = moved (Flip value diff) (flipped Q s e c value diff)
-  byFound (exchanges c x) = exchange Q s e (touchAt c (x .row)) (x .value) (x .diff) (x .row) (x .pivot) (x .leaving)
+  byFound (exchanges c x) = bothNorms Q s e (touchAt c (x .row)) (x .value) (x .diff) (x .row) (x .pivot) (x .leaving)
   byFound (ends w) = stopped w
 
   by-test : (c : Sv) (b : Bool) (u v : Float) → orStop b Stop·NotFinite (moved (Flip u v) (flipped Q s e c u v)) ≡ byFound (elim b [ true ↦ flips c u v | false ↦ ends Stop·NotFinite ])
@@ -243,9 +243,9 @@ module _ (Q : Problem) (s : State) (e : Entering) where
       unfolding found
       exchanges-column = exchanges-by Q s e col (listedFinite col) (ratio Q (s .ws) e col) exchange-found
 
-      pub step-exchanges : (c : Sv) → c ≡ touchAt (sv v m l k) (x .row) → (o : Left) → o ≡ after s (exchange Q s e c (x .value) (x .diff) (x .row) (x .pivot) (x .leaving)) → o ≡ after s (step Q s e)
+      pub step-exchanges : (c : Sv) → c ≡ touchAt (sv v m l k) (x .row) → (o : Left) → o ≡ after s (bothNorms Q s e c (x .value) (x .diff) (x .row) (x .pivot) (x .leaving)) → o ≡ after s (step Q s e)
       step-exchanges c ec o el =
-          el ∙ ap (λ (c : Sv). after s (exchange Q s e c (x .value) (x .diff) (x .row) (x .pivot) (x .leaving))) ec
+          el ∙ ap (λ (c : Sv). after s (bothNorms Q s e c (x .value) (x .diff) (x .row) (x .pivot) (x .leaving))) ec
           ∙ ended-by (exchanges (sv v m l k) x) exchange-found
 
 -- ---- what a run uses
@@ -254,7 +254,7 @@ steppedOf P = stepped (nOf P) (P .plan .lowers) (P .plan .uppers) (P .plan .star
 
 module _ (P : Problem) (s : State) (e : Entering) where
   pivot-part : (c : Sv) (i : PivotInfo) → pivot P s e c i ≡ pivot (steppedOf P) s e c i
-  unfolding pivot flip exchange flipFinite flipped numbersFinite exchanged refactored flagsAt varMin varMax rowCoeffsOf helperOf combine addRow column
+  unfolding pivot flip bothNorms tauOf exchange flipFinite flipped numbersFinite exchanged refactored flagsAt varMin varMax rowCoeffsOf helperOf combine addRow column
   pivot-part c (Flip value diff) = refl
   pivot-part c (Exchanging value diff row coeff leaving) = refl
 

@@ -2,6 +2,7 @@
 // src/solver.rs, choose_pivot and pivot, Apache-2.0, changed: 01's answers 21 and 23, and the vectors are local arrays.
 use step_refactor::Went;
 ghost use mathlib.Core.Path.{_≡_};
+ghost use mathlib.Core.Bool.{Bool};
 ghost use mathlib.Core.List.{List};
 ghost use Prim.Native.Nat.{ℕ, _<_};
 ghost use lib.ListN.{length};
@@ -13,7 +14,7 @@ ghost use Rattle.rules.specs.Step as Step;
 ghost use Rattle.basis_columns.specs.Columns.{ByColumns};
 ghost use Rattle.state.specs.Packed.{stateIn};
 ghost use Rattle.step_refactor.specs.Left.{afterBy, leftBy, stepped};
-ghost use Rattle.step_refactor.specs.Lent.{Ready, ReadyBy};
+ghost use Rattle.step_refactor.specs.Lent.{Ready, ReadyBy, Solved};
 ghost use Rattle.step.specs.Found.{found, foundBy};
 
 // What is decided of a step: how many places the column lists, with the numbers of the flip or of the exchange, or why
@@ -122,6 +123,87 @@ fn decide(
     }
 }
 
+// An exchange of a primal step: the row solve, then both kinds of norm and the rest.
+fn exchange(
+    numbers: &mut [usize],
+    doubles: &mut [f64],
+    factor_numbers: &mut [usize],
+    factor_coeffs: &mut [f64],
+    at: state::Tally,
+    n: usize,
+    lowers: &[f64],
+    uppers: &[f64],
+    starts: &[usize],
+    cols: &[usize],
+    coeffs: &[f64],
+    ops: &[u8],
+    kept: &[usize],
+    cstarts: &[usize],
+    crows: &[usize],
+    ccoeffs: &[f64],
+    values: &[f64; doubles::PLACES],
+    list: &[usize; doubles::PLACES],
+    count: usize,
+    e: rules::Entering,
+    x: state::Exchange,
+) -> Went
+    requires { ⌜ Ready n (now lowers) (now uppers) (now starts) (now cols) (now coeffs) (now ops) (now kept)
+        (now numbers) (now doubles) (now «factor_numbers») (now «factor_coeffs») at ⌝ }
+    requires { ⌜ ByColumns (rowed n (now starts) (now cols) (now coeffs) (now kept)) (now cstarts) (now crows)
+        (now ccoeffs) × (n < length (now cstarts)) ⌝ }
+    requires { ⌜ Solved (length (now kept)) (now values) (now list) count × (e .col < n) × (x .row < length (now kept))
+        ⌝ }
+    ensures { λ r. ⌜ ((m : List Bool) → leftBy r (now (numbers .exit)) (now (doubles .exit))
+        (now («factor_numbers» .exit)) (now («factor_coeffs» .exit)) ≡ afterBy
+        (λ (s : State). Step.bothNorms (stepped n (now (lowers .entry)) (now (uppers .entry)) (now (starts .entry))
+        (now (cols .entry)) (now (coeffs .entry)) (now (ops .entry)) (now (kept .entry))) s e
+        (sv (now (values .entry)) m (now (list .entry)) count) (x .value) (x .diff) (x .row) (x .pivot) (x .leaving))
+        (stateIn (now (numbers .entry)) (now (doubles .entry)) (now («factor_numbers» .entry))
+        (now («factor_coeffs» .entry)) at)) ⌝ }
+{
+    let mut y = [0.0; doubles::PLACES];
+    let mut y_marks = [false; doubles::PLACES];
+    let mut y_list = [0usize; doubles::PLACES];
+    let y_count = step_reads::inv_row(
+        &mut y,
+        &mut y_marks,
+        &mut y_list,
+        numbers,
+        doubles,
+        factor_numbers,
+        factor_coeffs,
+        at,
+        kept.len(),
+        x.row,
+    );
+    step_norms::exchange(
+        numbers,
+        doubles,
+        factor_numbers,
+        factor_coeffs,
+        at,
+        n,
+        lowers,
+        uppers,
+        starts,
+        cols,
+        coeffs,
+        ops,
+        kept,
+        cstarts,
+        crows,
+        ccoeffs,
+        values,
+        list,
+        count,
+        &y,
+        &y_list,
+        y_count,
+        e,
+        x,
+    )
+}
+
 // A step that is decided is a stop, a flip to be stored, or an exchange, whose leaving row is touched in the column.
 pub fn step(
     numbers: &mut [usize],
@@ -199,7 +281,7 @@ pub fn step(
         }
         Decided::Exchanges { count, x } => {
             let touched = sparse::touch(&mut marks, &mut list, count, x.row);
-            return step_exchange::exchange(
+            return exchange(
                 numbers,
                 doubles,
                 factor_numbers,

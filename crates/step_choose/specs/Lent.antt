@@ -10,7 +10,7 @@ use Rattle.rules.specs.Parts.{workspaceOf, noEtas}
 
 -- a workspace's places alone
 abbrev pub nonBasicOf : List ℕ → List Float → List Float → List Float → List ℕ → Workspace
-nonBasicOf nbVars nbVarVals prices norms flags = workspaceOf [] [] nbVars nbVarVals prices norms flags [] noEtas
+nonBasicOf nbVars nbVarVals prices norms flags = workspaceOf [] [] nbVars nbVarVals prices norms [] flags [] noEtas
 
 -- the places: each has a variable of the problem
 pub record Places (P : Problem) (w : Workspace) : Type 0 where

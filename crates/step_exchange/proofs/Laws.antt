@@ -14,29 +14,32 @@ use Rattle.sparse.specs.Scattered.{Pat, Sv, sv, svOf, blank, touched, putAt, Wf
 use Rattle.lu_factor_rules.specs.Factor.{factorize}
 use Rattle.rules.specs.Plan.{Problem, State, nOf, mOf}
 use Rattle.rules.specs.Parts.{planOf, problem, rowed}
-use Rattle.rules.specs.Basis.{rowSolve, rowCoeffsOf, helperOf, touchAt, combine, addRow, etaFits, basisAfter}
+use Rattle.rules.specs.Basis.{rowCoeffsOf, helperOf, touchAt, combine, addRow, etaFits, basisAfter}
 use Rattle.rules.specs.Pivot.{newNorm, numbersFinite, etaFinite, exchanged, refactored}
 use Rattle.rules.specs.Step.{Outcome, moved, stopped, orStop, orFactor, exchange}
-use Rattle.rules.specs.Invariant.{Vector}
+use Rattle.rules.specs.Invariant.{FactorFits, Vector}
 use Rattle.rules.specs.declared.Entering.{Entering}
 use Rattle.rules.specs.declared.PivotInfo.the-variants.{Exchange as Exchanges}
 use Rattle.rules.specs.declared.Stop.the-variants.{NotFinite}
 use Rattle.rules.proofs.Vectors.{rows-places, columns-places, vector-blank, vector-putAt, vector-touchAt, vector-solveEtasTransp, relisted-vector}
 use Rattle.rules.proofs.Vectors.{row-solve-vector, helper-solve-vector, row-vector, helper-vector}
+use Rattle.basis_etas.specs.Store.{Readable}
 use Rattle.basis_etas.proofs.Laws.{fits-readable}
+use Rattle.basis_rows.specs.Lent.{RowsLent}
 use Rattle.basis_rows.proofs.Parts.{fits-rows, vector-listed}
 use Rattle.step_numbers.specs.Lent.{Listing}
 use Rattle.step_numbers.proofs.Parts.{vector-listing}
 use Rattle.step_store.specs.Lent.{Swaps}
 use Rattle.cells.proofs.Parts.{boundsOf}
 use Rattle.step_store.proofs.Parts.{fits-swaps, withArrays, exchanged-part}
-use Rattle.basis_solves.specs.Lent.{RowSolve}
+use Rattle.basis_solves.specs.Lent.{Transposed, RowSolve}
 use Rattle.state.specs.Packed.{packed, stateIn}
 use Rattle.state.specs.declared.Tally.{Tally}
 use Rattle.state.specs.declared.Exchange.{Exchange}
 use Rattle.step_refactor.specs.Left.{Left, on, off, after, stepped}
 use Rattle.step_refactor.specs.Lent.{Ready, Solved}
 use Rattle.step_refactor.specs.Made.{made}
+use Rattle.step_exchange.specs.Lent.{Inverse}
 use Rattle.step_exchange.specs.Decided.{Decision, goes, ends, decision, decided, decidedBy}
 use Rattle.step_exchange.specs.declared.Decided.{Decided}
 use Rattle.step_exchange.specs.declared.Decided.the-variants.{Goes, NotFinite as Broken}
@@ -53,27 +56,42 @@ module _ {n : ℕ} {lowers uppers : List Float} {starts cols : List ℕ} {coeffs
   abbrev rowsIn : Problem
   rowsIn = rowed n starts cols coeffs kept
 
-  abbrev Solves : Sv → Type 0
-  Solves y = RowSolve rowsIn (length (packed N D .varStates)) (packed N D .etas) (t .«eta_count») (s .factor) y
+  abbrev Starts : Sv → Type 0
+  Starts y = Transposed (length kept) (packed N D .etas) (t .«eta_count») (s .factor) y
 
-  solves : (y : Sv) → Vector (length kept) y → Vector (length kept) (rowSolve P s y) → Solves y
-  solves y a b =
+  starts-from : (y : Sv) → Vector (length kept) y → Starts y
+  starts-from y a =
       let f = rd .state-fits in
       record {
         etas = fits-readable P (rd .problem-fits) s f;
         factor = f .factor;
-        rows = fits-rows P (rd .problem-fits) _ (f .lengths .varStates-long);
-        few = rows-places P (rd .problem-fits);
         start = a;
         between = vector-solveEtasTransp P (rd .problem-fits) (packed N D .etas) (t .«eta_count») (f .lengths .rows-long) (f .store) y a;
-        solved = b;
       }
 
-  pub row-asks : (row : ℕ) → row < length kept → (row < places) × Solves (putAt blank row f1)
-  row-asks row h = (
+  rows-lent : RowsLent rowsIn (length (packed N D .varStates))
+  rows-lent = fits-rows P (rd .problem-fits) _ (rd .state-fits .lengths .varStates-long)
+
+  pub inv-row-asks : (row : ℕ) → row < length kept → (row < places) × Starts (putAt blank row f1)
+  inv-row-asks row h = (
     omega (arith, rows-places P (rd .problem-fits)),
-    solves _ (vector-putAt blank row f1 (rows-places P (rd .problem-fits)) vector-blank h) (row-solve-vector P (rd .problem-fits) s (rd .state-fits) row h),
+    starts-from _ (vector-putAt blank row f1 (rows-places P (rd .problem-fits)) vector-blank h),
   )
+
+  -- the row solve's result: what combining its rows asks, and solving it again
+  module _ {row : ℕ} {y : List Float} {list : List ℕ} {count : ℕ} (h : row < length kept) (i : Inverse rowsIn s row y list count) where
+    inverse-vector : Vector (length kept) (sv y (i .marks) list count)
+    inverse-vector = subst (Vector (length kept)) (sym (i .is)) (row-solve-vector P (rd .problem-fits) s (rd .state-fits) row h)
+
+    pub inverse-listed : (count ≤ places) × Within places count list
+    inverse-listed = vector-listed _ inverse-vector
+
+    pub combine-asks : RowsLent rowsIn (length (packed N D .varStates)) × (length kept ≤ places) × (count ≤ places) × Within (length kept) count list
+    combine-asks = (rows-lent, rows-places P (rd .problem-fits), inverse-listed .0, record { inside = inverse-vector .places-below .below })
+
+    pub tau-asks : Vector (length kept) (relisted (sv y [] list count)) × Readable (packed N D .etas) (t .«eta_count») × FactorFits (length kept) (s .factor)
+    unfolding relisted
+    tau-asks = (relisted-vector P (rd .problem-fits) _ inverse-vector, fits-readable P (rd .problem-fits) s (rd .state-fits), rd .state-fits .factor)
 
   pub store-asks : (t .«eta_count» ≤ etaColumns) × (packed N [] .etas .starts # (t .«eta_count») ≤ etaEntries)
   store-asks = (rd .state-fits .store .columns-fit, rd .state-fits .store .entries-fit)
@@ -102,9 +120,15 @@ module _ {n : ℕ} {lowers uppers : List Float} {starts cols : List ℕ} {coeffs
     pub column-listing : Listing maxRows count list
     column-listing = vector-listing _ _ (cl .vector) (omega (arith, rd .problem-fits .few, rd .problem-fits .plan .rows-most))
 
-    pub helper-asks : Solves (relisted (sv values [] list count))
+    pub helper-asks : RowSolve rowsIn (length (packed N D .varStates)) (packed N D .etas) (t .«eta_count») (s .factor) (relisted (sv values [] list count))
     unfolding relisted
-    helper-asks = solves _ (relisted-vector P (rd .problem-fits) _ (cl .vector)) (helper-solve-vector P (rd .problem-fits) s (rd .state-fits) _ (cl .vector))
+    helper-asks =
+        record {
+          solve = starts-from _ (relisted-vector P (rd .problem-fits) _ (cl .vector));
+          rows = rows-lent;
+          few = rows-places P (rd .problem-fits);
+          solved = helper-solve-vector P (rd .problem-fits) s (rd .state-fits) _ (cl .vector);
+        }
 
     pub helper-listing : (m : List Bool) (h : Sv) → h ≡ helperOf rowsIn s (sv values m list count) → (h .pat .count ≤ places) × Within places (h .pat .count) (h .pat .list)
     unfolding helperOf combine addRow
@@ -112,6 +136,12 @@ module _ {n : ℕ} {lowers uppers : List Float} {starts cols : List ℕ} {coeffs
 
   pub swap-asks : (col row : ℕ) → col < n → row < length kept → Swaps (boundsOf (stepped n lowers uppers starts cols coeffs ops kept)) N D col row
   swap-asks col row l h = fits-swaps P (rd .problem-fits) N D t (rd .sized) (rd .state-fits) col l row h
+
+-- the row is what its row solve's result combines
+pub row-of : (P : Problem) (s : State) (row : ℕ) {y : List Float} {list : List ℕ} {count : ℕ} (i : Inverse P s row y list count) (r : Sv)
+    → r ≡ combine P (s .ws .varStates) (sv y (i .marks) list count) → r ≡ rowCoeffsOf P s row
+unfolding rowCoeffsOf
+row-of P s row i r e = e ∙ ap (combine P (s .ws .varStates)) (i .is)
 
 -- a pattern that was touched, with the values beside it
 pub touched-is : (v : List Float) (p q : Pat) (i : ℕ) (r : Sv) → svOf v p ≡ r → q ≡ touched p i → svOf v q ≡ touchAt r i

@@ -19,7 +19,7 @@ ghost use Rattle.state.specs.Packed.{stateAt, stateIn, objectiveAt};
 ghost use Rattle.step_refactor.specs.Left.{afterBy, leftBy, stepped};
 ghost use Rattle.step_refactor.specs.Lent.{Ready, Solved, Squares};
 ghost use Rattle.step_exchange.specs.Decided.{decided, decidedBy};
-ghost use Rattle.step_exchange.specs.Lent.{Solving};
+ghost use Rattle.step_exchange.specs.Lent.{Solving, Inverse};
 
 // What is decided of an exchange: how many places its row lists, or a number isn't finite.
 pub enum Decided {
@@ -79,7 +79,7 @@ fn numbers_finite(
 }
 
 // 01: "row solve; all new numbers". The row, touched at the entering place, and the helper are written to fresh vectors, the
-// state is read.
+// state is read. y is the row solve's result.
 fn decide(
     row_values: &mut [f64; doubles::PLACES],
     row_marks: &mut [bool; doubles::PLACES],
@@ -100,6 +100,9 @@ fn decide(
     values: &[f64; doubles::PLACES],
     list: &[usize; doubles::PLACES],
     count: usize,
+    y: &[f64; doubles::PLACES],
+    y_list: &[usize; doubles::PLACES],
+    y_count: usize,
     sq: f64,
     e: rules::Entering,
     x: state::Exchange,
@@ -109,6 +112,9 @@ fn decide(
     requires { ⌜ Solving n (now starts) (now cols) (now coeffs) (now kept) (now numbers) (now doubles)
         (now «factor_numbers») (now «factor_coeffs») at × Solved (length (now kept)) (now values) (now list) count
         × Squares (now values) (now list) count sq × (x .row < length (now kept)) × (e .col < n) ⌝ }
+    requires { ⌜ Inverse (rowed n (now starts) (now cols) (now coeffs) (now kept))
+        (stateIn (now numbers) (now doubles) (now «factor_numbers») (now «factor_coeffs») at) (x .row) (now y)
+        (now «y_list») «y_count» ⌝ }
     ensures { λ r. ⌜ ((m : List Bool) → decidedBy r (now («row_values» .exit)) (now («row_marks» .exit))
         (now («row_list» .exit)) (now («helper_values» .exit)) ≡ decided
         (rowed n (now (starts .entry)) (now (cols .entry)) (now (coeffs .entry)) (now (kept .entry)))
@@ -119,17 +125,15 @@ fn decide(
         row_values,
         row_marks,
         row_list,
+        y,
+        y_list,
+        y_count,
         numbers,
-        doubles,
-        factor_numbers,
-        factor_coeffs,
-        at,
         n,
         starts,
         cols,
         coeffs,
         kept,
-        x.row,
     );
     let row_count = sparse::touch(row_marks, row_list, untouched, e.col);
     let helper_count = step_reads::helper(
@@ -172,7 +176,8 @@ fn decide(
 }
 
 // An exchange: "row solve; all new numbers; then the eta entries where the column fits, or the factor where it doesn't; then
-// the store" (docs/RULES-02.md). The column is touched at the leaving row already.
+// the store" (docs/RULES-02.md). The column is touched at the leaving row already, and y is the row solve's result, which the
+// dual norms need too.
 pub fn exchange(
     numbers: &mut [usize],
     doubles: &mut [f64],
@@ -193,6 +198,9 @@ pub fn exchange(
     values: &[f64; doubles::PLACES],
     list: &[usize; doubles::PLACES],
     count: usize,
+    y: &[f64; doubles::PLACES],
+    y_list: &[usize; doubles::PLACES],
+    y_count: usize,
     e: rules::Entering,
     x: state::Exchange,
 ) -> Went
@@ -201,7 +209,9 @@ pub fn exchange(
     requires { ⌜ ByColumns (rowed n (now starts) (now cols) (now coeffs) (now kept)) (now cstarts) (now crows)
         (now ccoeffs) × (n < length (now cstarts)) ⌝ }
     requires { ⌜ Solved (length (now kept)) (now values) (now list) count × (e .col < n) × (x .row < length (now kept))
-        ⌝ }
+        × Inverse (rowed n (now starts) (now cols) (now coeffs) (now kept))
+        (stateIn (now numbers) (now doubles) (now «factor_numbers») (now «factor_coeffs») at) (x .row) (now y)
+        (now «y_list») «y_count» ⌝ }
     ensures { λ r. ⌜ ((m : List Bool) → leftBy r (now (numbers .exit)) (now (doubles .exit))
         (now («factor_numbers» .exit)) (now («factor_coeffs» .exit)) ≡ afterBy
         (λ (s : State). Step.exchange (stepped n (now (lowers .entry)) (now (uppers .entry)) (now (starts .entry))
@@ -237,6 +247,9 @@ pub fn exchange(
         values,
         list,
         count,
+        y,
+        y_list,
+        y_count,
         sq,
         e,
         x,

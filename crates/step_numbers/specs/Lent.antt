@@ -10,7 +10,7 @@ use Rattle.rules.specs.Parts.{workspaceOf, noEtas}
 
 -- a workspace's numbers that a step reckons anew at listed places, alone
 abbrev pub numbersOf : List Float → List Float → List Float → Workspace
-numbersOf basicVarVals prices norms = workspaceOf [] basicVarVals [] [] prices norms [] [] noEtas
+numbersOf basicVarVals prices norms = workspaceOf [] basicVarVals [] [] prices norms [] [] [] noEtas
 
 -- the first n places of a list are places of a vector and cells of an array of `cells`, each once
 pub record Listing (cells n : ℕ) (list : List ℕ) : Type 0 where

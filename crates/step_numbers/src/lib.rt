@@ -7,11 +7,11 @@ ghost use mathlib.Core.List.{List, []};
 ghost use Prim.Native.Nat.{_≤_};
 ghost use lib.ListN.{length};
 ghost use Rattle.doubles.specs.Limits.{places};
-ghost use Rattle.sparse.specs.Scattered.{Pat, Sv, sv, svOf, sqNorm, Within};
+ghost use Rattle.sparse.specs.Scattered.{Pat, sv, svOf, sqNorm, Within};
 ghost use Rattle.rules.specs.Plan.{Problem};
 ghost use Rattle.rules.specs.Parts.{stateOf};
-ghost use Rattle.rules.specs.Pivot.{storesFinite, newObjective, movedVal, flipFinite, newVal, newPrice, newNorm, etaFinite, numbersFinite};
-ghost use Rattle.step_numbers.specs.New.{valBy, priceBy, normBy};
+ghost use Rattle.rules.specs.Pivot.{storesFinite, newObjective, movedVal, flipFinite, newVal, newPrice, etaFinite, numbersFinite};
+ghost use Rattle.step_numbers.specs.New.{valBy, priceBy, normBy, normAt};
 ghost use Rattle.step_numbers.specs.Lent.{numbersOf, Listing};
 
 pub fn new_objective(objective: f64, e: rules::Entering, diff: f64) -> f64
@@ -139,30 +139,27 @@ fn prices_finite(
     true
 }
 
-// The norms of the row's listed places. `sq` is the entering column's sum of squares.
-fn norms_finite(
+// The norms of a vector's listed places, of either kind. `sq` is the sum of squares that they are moved by, and `col` the
+// place that it is stored at, over the pivot's square.
+pub fn norms_finite(
     norms: &[f64],
     values: &[f64; doubles::PLACES],
     list: &[usize; doubles::PLACES],
     count: usize,
     helper: &[f64; doubles::PLACES],
-    e: rules::Entering,
+    col: usize,
     sq: f64,
     pivot: f64,
 ) -> bool
     requires { ⌜ Listing (length (now norms)) count (now list) ⌝ }
-    ensures { λ r. ⌜ ((m : List Bool) (p : Pat) (c : Sv) → sq ≡ sqNorm c → r ≡ storesFinite
-        (sv (now (values .entry)) m (now (list .entry)) count)
-        (newNorm (numbersOf [] [] (now (norms .entry))) e c pivot (sv (now (values .entry)) m (now (list .entry)) count)
-        (svOf (now (helper .entry)) p))) ⌝ }
+    ensures { λ r. ⌜ ((m : List Bool) → r ≡ storesFinite (sv (now (values .entry)) m (now (list .entry)) count)
+        (normAt col sq pivot (now (norms .entry)) (now (values .entry)) (now (helper .entry)))) ⌝ }
 {
-    let col = e.col;
-    let sq1 = sq + 1.0;
     let pivot_sq = pivot * pivot;
     let mut k = 0;
     while k < count {
         let j = list[k];
-        let x = new_norm(col, sq1, pivot, pivot_sq, j, norms[j], values[j], helper[j]);
+        let x = new_norm(col, sq, pivot, pivot_sq, j, norms[j], values[j], helper[j]);
         if !doubles::is_finite(x) {
             return false;
         }
@@ -264,5 +261,14 @@ pub fn numbers_finite(
     if !prices_finite(prices, row_values, row_list, row_count, e, pivot) {
         return false;
     }
-    norms_finite(norms, row_values, row_list, row_count, helper, e, sq, pivot)
+    norms_finite(
+        norms,
+        row_values,
+        row_list,
+        row_count,
+        helper,
+        e.col,
+        sq + 1.0,
+        pivot,
+    )
 }

@@ -15,7 +15,7 @@ use Rattle.step_ratio.specs.Lent.{basicOf, Passing, Stepping}
 use Rattle.step_ratio.specs.Parts.{leavingBy, pivotBy}
 
 abbrev pub steppingOf : Workspace → Workspace
-steppingOf w = workspaceOf (w .basicVars) (w .basicVarVals) (w .nbVars) (w .nbVarVals) (w .prices) [] [] [] noEtas
+steppingOf w = workspaceOf (w .basicVars) (w .basicVarVals) (w .nbVars) (w .nbVarVals) (w .prices) [] [] [] [] noEtas
 
 pub ratio-part : (P : Problem) (w : Workspace) (e : Entering) (c : Sv) → ratio P w e c ≡ ratio (boundsOf P) (steppingOf w) e c
 unfolding ratio soundDistance pivotOf flipOf exchangeOf otherVal soundRatios passOne passTwo passTwoTurn candidate examined relaxed stepTo limit ahead varMin varMax
@@ -28,7 +28,7 @@ unfolding leavingBy soundRatios passOne passTwo passTwoTurn candidate examined r
 leaving-part P w up c distance = refl
 
 pub pivot-part : (P : Problem) (w : Workspace) (e : Entering) (c : Sv) (other : Float) (at : ℕ)
-    → pivotBy P (workspaceOf (w .basicVars) (w .basicVarVals) [] (w .nbVarVals) [] [] [] [] noEtas) e c other at ≡ pivotBy P w e c other at
+    → pivotBy P (workspaceOf (w .basicVars) (w .basicVarVals) [] (w .nbVarVals) [] [] [] [] [] noEtas) e c other at ≡ pivotBy P w e c other at
 unfolding pivotBy exchangeOf ahead
 pivot-part P w e c other at = refl
 

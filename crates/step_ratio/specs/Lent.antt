@@ -14,7 +14,7 @@ use Rattle.step_choose.specs.Lent.{Places}
 
 -- a workspace's rows alone
 abbrev pub basicOf : List ℕ → List Float → Workspace
-basicOf basicVars basicVarVals = workspaceOf basicVars basicVarVals [] [] [] [] [] [] noEtas
+basicOf basicVars basicVarVals = workspaceOf basicVars basicVarVals [] [] [] [] [] [] [] noEtas
 
 -- the rows: each has a variable of the problem
 pub record Rows (P : Problem) (w : Workspace) : Type 0 where

@@ -390,7 +390,7 @@ fn pivot_by(
     ensures { λ x. ⌜ ((m : List Bool) → x ≡ pivotBy
         (bounded n (now (lowers .entry)) (now (uppers .entry)) (now (ops .entry)) (now (kept .entry)))
         (workspaceOf (now («basic_vars» .entry)) (now («basic_var_vals» .entry)) [] (now («nb_var_vals» .entry)) [] []
-        [] [] noEtas) e (sv (now (values .entry)) m (now (list .entry)) count) other at) ⌝ }
+        [] [] [] noEtas) e (sv (now (values .entry)) m (now (list .entry)) count) other at) ⌝ }
 {
     let col = e.col;
     let up = rises(e);
@@ -436,11 +436,11 @@ pub fn ratio(
 ) -> rules::Ratio
     requires { ⌜ Stepping (bounded n (now lowers) (now uppers) (now ops) (now kept))
         (workspaceOf (now «basic_vars») (now «basic_var_vals») (now «nb_vars») (now «nb_var_vals») (now prices) [] [] []
-        noEtas) e (now list) count ⌝ }
+        [] noEtas) e (now list) count ⌝ }
     ensures { λ x. ⌜ ((m : List Bool) → x ≡ Ratio.ratio
         (bounded n (now (lowers .entry)) (now (uppers .entry)) (now (ops .entry)) (now (kept .entry)))
         (workspaceOf (now («basic_vars» .entry)) (now («basic_var_vals» .entry)) (now («nb_vars» .entry))
-        (now («nb_var_vals» .entry)) (now (prices .entry)) [] [] [] noEtas) e
+        (now («nb_var_vals» .entry)) (now (prices .entry)) [] [] [] [] noEtas) e
         (sv (now (values .entry)) m (now (list .entry)) count)) ⌝ }
 {
     let col = e.col;

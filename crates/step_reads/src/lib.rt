@@ -13,7 +13,7 @@ ghost use Rattle.rules.specs.Plan.{Problem, nOf, mOf};
 ghost use Rattle.rules.specs.Parts.{bounded, rowed, factoredOf};
 ghost use Rattle.rules.specs.Choose as Choose;
 ghost use Rattle.rules.specs.Ratio as Ratio;
-ghost use Rattle.rules.specs.Basis.{colCoeffs, rowCoeffsOf, helperOf};
+ghost use Rattle.rules.specs.Basis.{colCoeffs, combine, invRow, tauOf, helperOf};
 ghost use Rattle.rules.specs.Pivot.{flipFinite, numbersFinite};
 ghost use Rattle.rules.specs.Invariant.{FactorFits, Vector};
 ghost use Rattle.basis_columns.specs.Columns.{ByColumns};
@@ -21,9 +21,10 @@ ghost use Rattle.basis_etas.specs.Store.{Readable};
 ghost use Rattle.step_choose.specs.Lent.{Choosing};
 ghost use Rattle.step_ratio.specs.Lent.{Stepping};
 ghost use Rattle.basis_columns.specs.Loading.{columnOn, ColumnLent};
-ghost use Rattle.basis_solves.specs.Lent.{RowSolve};
+ghost use Rattle.basis_rows.specs.Lent.{RowsLent};
+ghost use Rattle.basis_solves.specs.Lent.{Transposed, RowSolve};
 ghost use Rattle.step_numbers.specs.Lent.{Listing};
-ghost use Rattle.state.specs.Packed.{packed, stateAt, stateIn, Sized, objectiveAt};
+ghost use Rattle.state.specs.Packed.{packed, stateAt, stateIn, Sized, keptAt, objectiveAt};
 
 // The entering column, or none.
 pub fn choose(
@@ -145,8 +146,8 @@ pub fn ratio(
     )
 }
 
-// The row of an exchange, on a fresh vector.
-pub fn row(
+// inv_basis_row_coeffs: the row solve's result for a leaving row, on a fresh vector.
+pub fn inv_row(
     values: &mut [f64; doubles::PLACES],
     marks: &mut [bool; doubles::PLACES],
     list: &mut [usize; doubles::PLACES],
@@ -155,25 +156,18 @@ pub fn row(
     factor_numbers: &[usize],
     factor_coeffs: &[f64],
     at: state::Tally,
-    n: usize,
-    starts: &[usize],
-    cols: &[usize],
-    coeffs: &[f64],
-    kept: &[usize],
+    m: usize,
     row: usize,
 ) -> usize
     requires { ⌜ Sized (now numbers) (now doubles) × Fresh (sv (now values) (now marks) (now list) 0) × (row < places) ⌝ }
-    requires { ⌜ RowSolve (rowed n (now starts) (now cols) (now coeffs) (now kept))
-        (length (packed (now numbers) (now doubles) .varStates)) (packed (now numbers) (now doubles) .etas)
-        (at .«eta_count») (factoredOf (at .factored) (at .factorings) (now «factor_numbers») (now «factor_coeffs»))
-        (putAt blank row f1) ⌝ }
-    ensures { λ c. ⌜ sv (now (values .exit)) (now (marks .exit)) (now (list .exit)) c
-        ≡ rowCoeffsOf (rowed n (now (starts .entry)) (now (cols .entry)) (now (coeffs .entry)) (now (kept .entry)))
-        (stateIn (now (numbers .entry)) (now (doubles .entry)) (now («factor_numbers» .entry))
-        (now («factor_coeffs» .entry)) at) row ⌝ }
+    requires { ⌜ Transposed m (packed (now numbers) (now doubles) .etas) (at .«eta_count»)
+        (factoredOf (at .factored) (at .factorings) (now «factor_numbers») (now «factor_coeffs»)) (putAt blank row f1) ⌝ }
+    ensures { λ c. ⌜ ((P : Problem) → mOf P ≡ m → sv (now (values .exit)) (now (marks .exit)) (now (list .exit)) c
+        ≡ invRow P (stateIn (now (numbers .entry)) (now (doubles .entry)) (now («factor_numbers» .entry))
+        (now («factor_coeffs» .entry)) at) row) ⌝ }
 {
     let columns = at.eta_count;
-    basis_solves::row_coeffs(
+    basis_solves::inv_row(
         values,
         marks,
         list,
@@ -185,13 +179,93 @@ pub fn row(
         &numbers[state::ETA_ROWS..state::ETA_ROWS_END],
         &doubles[state::ETA_COEFFS..state::ETA_COEFFS_END],
         columns,
+        m,
+        row,
+    )
+}
+
+// calc_row_coeffs: the rows that the row solve's result lists, combined on a fresh vector.
+pub fn row(
+    values: &mut [f64; doubles::PLACES],
+    marks: &mut [bool; doubles::PLACES],
+    list: &mut [usize; doubles::PLACES],
+    from: &[f64; doubles::PLACES],
+    from_list: &[usize; doubles::PLACES],
+    from_count: usize,
+    numbers: &[usize],
+    n: usize,
+    starts: &[usize],
+    cols: &[usize],
+    coeffs: &[f64],
+    kept: &[usize],
+) -> usize
+    requires { ⌜ (length (now numbers) ≡ keptAt) × RowsLent (rowed n (now starts) (now cols) (now coeffs) (now kept))
+        (length (packed (now numbers) [] .varStates)) ⌝ }
+    requires { ⌜ Fresh (sv (now values) (now marks) (now list) 0) × (length (now kept) ≤ places) ×
+        («from_count» ≤ places) × Within (length (now kept)) «from_count» (now «from_list») ⌝ }
+    ensures { λ c. ⌜ ((b : List Bool) → sv (now (values .exit)) (now (marks .exit)) (now (list .exit)) c ≡ combine
+        (rowed n (now (starts .entry)) (now (cols .entry)) (now (coeffs .entry)) (now (kept .entry)))
+        (packed (now (numbers .entry)) [] .varStates)
+        (sv (now (from .entry)) b (now («from_list» .entry)) «from_count»)) ⌝ }
+{
+    basis_rows::combine(
+        values,
+        marks,
+        list,
+        from,
+        from_list,
+        from_count,
         n,
         &numbers[state::VAR_STATES..state::VAR_STATES_END],
         starts,
         cols,
         coeffs,
         kept,
-        row,
+    )
+}
+
+// tau, the solve of the row solve's result, on a fresh vector.
+pub fn tau(
+    values: &mut [f64; doubles::PLACES],
+    marks: &mut [bool; doubles::PLACES],
+    list: &mut [usize; doubles::PLACES],
+    from: &[f64; doubles::PLACES],
+    from_list: &[usize; doubles::PLACES],
+    from_count: usize,
+    numbers: &[usize],
+    doubles: &[f64],
+    factor_numbers: &[usize],
+    factor_coeffs: &[f64],
+    at: state::Tally,
+    m: usize,
+) -> usize
+    requires { ⌜ Sized (now numbers) (now doubles) × Fresh (sv (now values) (now marks) (now list) 0)
+        × («from_count» ≤ places) × Within places «from_count» (now «from_list») ⌝ }
+    requires { ⌜ Vector m (relisted (sv (now from) [] (now «from_list») «from_count»))
+        × Readable (packed (now numbers) (now doubles) .etas) (at .«eta_count»)
+        × FactorFits m (factoredOf (at .factored) (at .factorings) (now «factor_numbers») (now «factor_coeffs»)) ⌝ }
+    ensures { λ c. ⌜ ((P : Problem) (b : List Bool) → mOf P ≡ m → sv (now (values .exit)) (now (marks .exit))
+        (now (list .exit)) c ≡ tauOf P (stateIn (now (numbers .entry)) (now (doubles .entry))
+        (now («factor_numbers» .entry)) (now («factor_coeffs» .entry)) at)
+        (sv (now (from .entry)) b (now («from_list» .entry)) «from_count»)) ⌝ }
+{
+    let columns = at.eta_count;
+    basis_solves::tau(
+        values,
+        marks,
+        list,
+        from,
+        from_list,
+        from_count,
+        at.factored,
+        factor_numbers,
+        factor_coeffs,
+        &numbers[state::ETA_LEAVING..state::ETA_LEAVING_END],
+        &numbers[state::ETA_STARTS..state::ETA_STARTS_END],
+        &numbers[state::ETA_ROWS..state::ETA_ROWS_END],
+        &doubles[state::ETA_COEFFS..state::ETA_COEFFS_END],
+        columns,
+        m,
     )
 }
 

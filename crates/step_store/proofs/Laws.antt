@@ -138,8 +138,8 @@ module _ (P : Problem) (N : List ℕ) (D : List Float) (col row : ℕ) (leaving 
 -- ---- the two halves, the objective, and what comes after them
 abbrev bare : Workspace → Workspace
 bare w =
-    workspaceOf (w .basicVars) (w .basicVarVals) (w .nbVars) (w .nbVarVals) (w .prices) (w .norms) (w .flags)
-    (w .varStates) (noColumns (w .etas))
+    workspaceOf (w .basicVars) (w .basicVarVals) (w .nbVars) (w .nbVarVals) (w .prices) (w .norms)
+    (w .dualNorms) (w .flags) (w .varStates) (noColumns (w .etas))
 
 module _ (P : Problem) (s : State) (e : Entering) (c rowSv helper : Sv) (x : Exchange) where
   pub swap-is : {u v : Workspace} {o : Float}

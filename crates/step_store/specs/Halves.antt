@@ -20,14 +20,14 @@ unfoldable pub numbersStored : Workspace → Entering → Sv → Sv → Sv → F
 numbersStored w e c rowSv helper value diff row pivot =
     workspaceOf (w .basicVars) (stored c (newVal w c value diff row) (w .basicVarVals)) (w .nbVars) (w .nbVarVals)
     (stored rowSv (newPrice w e pivot rowSv) (w .prices)) (stored rowSv (newNorm w e c pivot rowSv helper) (w .norms))
-    (w .flags) (w .varStates) (w .etas)
+    (w .dualNorms) (w .flags) (w .varStates) (w .etas)
 
 unfoldable pub basisStored : Problem → Workspace → ℕ → ℕ → Float → Workspace
 basisStored P w col row leaving =
     let enters = w .nbVars # col in
     let leaves = w .basicVars # row in
     workspaceOf (set (w .basicVars) row enters) (w .basicVarVals) (set (w .nbVars) col leaves) (set (w .nbVarVals) col leaving)
-    (w .prices) (w .norms) (set (w .flags) col (flagsAt P leaves leaving))
+    (w .prices) (w .norms) (w .dualNorms) (set (w .flags) col (flagsAt P leaves leaving))
     (set (set (w .varStates) enters (varCell (nOf P) (Basic row))) leaves (varCell (nOf P) (NonBasic col))) (w .etas)
 
 -- both halves: the eta store and the factor are as they were

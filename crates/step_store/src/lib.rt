@@ -7,11 +7,12 @@ ghost use mathlib.Core.List.{List, []};
 ghost use Prim.Native.Nat.{ℕ, _<_};
 ghost use lib.ListN.{length};
 ghost use Rattle.doubles.specs.Limits.{maxRows, maxColumns, maxBudget};
-ghost use Rattle.sparse.specs.Scattered.{Pat, Sv, sv, svOf, sqNorm};
+ghost use Rattle.sparse.specs.Scattered.{Pat, sv, svOf, sqNorm};
 ghost use Rattle.rules.specs.Parts.{bounded};
-ghost use Rattle.rules.specs.Pivot.{stored, flagsAt, movedVal, flipped, newVal, newPrice, newNorm, exchanged};
+ghost use Rattle.rules.specs.Pivot.{stored, flagsAt, movedVal, flipped, newVal, newPrice, exchanged};
 ghost use Rattle.state.specs.Packed.{packed, stateAt, objectiveAt};
 ghost use Rattle.basis_store.specs.Room.{Room};
+ghost use Rattle.step_numbers.specs.New.{normAt};
 ghost use Rattle.step_numbers.specs.Lent.{numbersOf, Listing};
 ghost use Rattle.step_store.specs.Halves.{numbersStored, basisStored, swapped, emptied};
 ghost use Rattle.step_store.specs.Lent.{Bounded, Flips, Swaps};
@@ -93,31 +94,29 @@ fn store_prices(
     }
 }
 
-fn store_norms(
+// The norms of a vector's listed places, of either kind, as step_numbers::norms_finite tests them.
+pub fn store_norms(
     norms: &mut [f64],
     values: &[f64; doubles::PLACES],
     list: &[usize; doubles::PLACES],
     count: usize,
     helper: &[f64; doubles::PLACES],
-    e: rules::Entering,
+    col: usize,
     sq: f64,
     pivot: f64,
 )
     requires { ⌜ Listing (length (now norms)) count (now list) ⌝ }
-    ensures { λ _. ⌜ ((m : List Bool) (p : Pat) (c : Sv) → sq ≡ sqNorm c → now (norms .exit) ≡ stored
+    ensures { λ _. ⌜ ((m : List Bool) → now (norms .exit) ≡ stored
         (sv (now (values .entry)) m (now (list .entry)) count)
-        (newNorm (numbersOf [] [] (now (norms .entry))) e c pivot (sv (now (values .entry)) m (now (list .entry)) count)
-        (svOf (now (helper .entry)) p)) (now (norms .entry))) ⌝ }
+        (normAt col sq pivot (now (norms .entry)) (now (values .entry)) (now (helper .entry))) (now (norms .entry))) ⌝ }
 {
-    let col = e.col;
-    let sq1 = sq + 1.0;
     let pivot_sq = pivot * pivot;
     let mut k = 0;
     while k < count {
         let j = list[k];
         norms[j] = step_numbers::new_norm(
             col,
-            sq1,
+            sq,
             pivot,
             pivot_sq,
             j,
@@ -239,8 +238,8 @@ fn store_numbers(
         row_list,
         row_count,
         helper,
-        e,
-        sq,
+        e.col,
+        sq + 1.0,
         pivot,
     );
 }

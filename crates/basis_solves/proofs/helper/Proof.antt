@@ -14,8 +14,7 @@ solve-transp-requires : tie.Need-solve-transp-requires
 solve-transp-requires c κs =
     let s : tie.Start = search in
     let u : tie.After-relist = search in
-    let v = starts-with _ _ _ _ _ _ (s .pre .1) _ (u .relist .ensures []) in
-    (s .pre .1 .factor, ((v .0, s .pre .1 .etas), v .1))
+    starts-with (s .pre .1 .solve) (u .relist .ensures [])
 
 combine-requires : tie.Need-combine-requires
 combine-requires c κs =

@@ -6,13 +6,13 @@ use Rattle.basis_solves.proofs.solve_transp.Statement.{statement}
 use Rattle.basis_solves.proofs.solve_transp.Tie as tie
 
 solve-etas-transp-requires : tie.Need-solve-etas-transp-requires
-solve-etas-transp-requires c κs = let s : tie.Start = search in (s .pre .1 .0 .0 .good, s .pre .1 .0 .1)
+solve-etas-transp-requires c κs = let s : tie.Start = search in (s .pre .start .good, s .pre .etas)
 
 factor-solve-transp-requires : tie.Need-factor-solve-transp-requires
 factor-solve-transp-requires c κs =
     let s : tie.Start = search in
     let d : tie.After-solve-etas-transp = search in
-    (s .pre .0, subst (Vector _) (sym (d .solve-etas-transp .ensures)) (s .pre .1 .1))
+    (s .pre .factor, subst (Vector _) (sym (d .solve-etas-transp .ensures)) (s .pre .between))
 
 returns : tie.Need-returns
 unfolding solveTransp

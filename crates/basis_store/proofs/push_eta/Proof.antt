@@ -11,7 +11,7 @@ use Rattle.doubles.specs.Limits.{etaEntries}
 use Rattle.doubles.specs.Lists.{_#_}
 use Rattle.sparse.specs.Scattered.{sv}
 use Rattle.rules.specs.Basis.{tail}
-use Rattle.state.specs.Packed.{section, etaStartsAt, etaRowsAt, keptAt, etaCoeffsAt, objectiveAt}
+use Rattle.state.specs.Packed.{section, etaStartsAt, etaRowsAt, keptAt, etaCoeffsAt, dualNormsAt}
 use Rattle.state.proofs.Sections.{section-length}
 use Rattle.basis_store.proofs.Laws.{used-fits, push-is}
 use Rattle.basis_store.proofs.push_eta.Statement.{statement}
@@ -25,7 +25,7 @@ abbrev rows : tie.Start → List ℕ
 rows s = section (etaRowsAt + used s) (keptAt - (etaRowsAt + used s)) (s .args .numbers .now)
 
 abbrev coeffs : tie.Start → List Float
-coeffs s = section (etaCoeffsAt + used s) (objectiveAt - (etaCoeffsAt + used s)) (s .args .doubles .now)
+coeffs s = section (etaCoeffsAt + used s) (dualNormsAt - (etaCoeffsAt + used s)) (s .args .doubles .now)
 
 fits : (s : tie.Start) → used s + s .args .count ≤ etaEntries
 fits s = used-fits (sv (s .args .values .now) [] (s .args .list .now) (s .args .count)) (s .args .row) (s .args .pivot) (s .args .n) (s .args .numbers .now) (s .args .doubles .now) (s .pre .0 .0) (s .pre .0 .1)
@@ -33,8 +33,8 @@ fits s = used-fits (sv (s .args .values .now) [] (s .args .list .now) (s .args .
 rows-long : (s : tie.Start) → length (rows s) ≡ keptAt - (etaRowsAt + used s)
 rows-long s = section-length (etaRowsAt + used s) (keptAt - (etaRowsAt + used s)) (s .args .numbers .now) (omega (arith, fits s, s .pre .0 .0))
 
-coeffs-long : (s : tie.Start) → length (coeffs s) ≡ objectiveAt - (etaCoeffsAt + used s)
-coeffs-long s = section-length (etaCoeffsAt + used s) (objectiveAt - (etaCoeffsAt + used s)) (s .args .doubles .now) (omega (arith, fits s, s .pre .0 .0))
+coeffs-long : (s : tie.Start) → length (coeffs s) ≡ dualNormsAt - (etaCoeffsAt + used s)
+coeffs-long s = section-length (etaCoeffsAt + used s) (dualNormsAt - (etaCoeffsAt + used s)) (s .args .doubles .now) (omega (arith, fits s, s .pre .0 .0))
 
 add-used : tie.Need-add-used
 add-used c = search needs

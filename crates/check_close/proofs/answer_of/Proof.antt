@@ -6,7 +6,7 @@ use Rattle.rules.specs.Parts.{stateOf}
 use Rattle.state.specs.Packed.{packed}
 use Rattle.check_final.specs.Lent.{checkedOf}
 use Rattle.check_final.proofs.Front.{checked-values}
-use Rattle.check_close.proofs.Laws.{values-whole, ends-finished, ends-spent, ends-unbounded, ends-broken, ends-singular}
+use Rattle.check_close.proofs.Laws.{values-whole, ends-finished, ends-spent, ends-unbounded, ends-broken, ends-singular, ends-infeasible}
 use Rattle.check_close.proofs.answer_of.Statement.{statement}
 use Rattle.check_close.proofs.answer_of.Tie as tie
 
@@ -74,6 +74,9 @@ enum-told-4 c = search needs
 enum-told-5 : tie.Need-enum-told-5
 enum-told-5 c = search needs
 
+enum-known-why : tie.Need-enum-known-why
+enum-known-why c = search needs
+
 returns : tie.Need-returns
 returns c =
     let s : tie.Start = search in
@@ -111,6 +114,14 @@ returns-5 c =
       values-whole (s .args .n) (s .args .kept .now) (S s .ws) _ (v .values-into .ensures),
     )
 
+returns-6 : tie.Need-returns-6
+returns-6 c =
+    let s : tie.Start = search in
+    let v : tie.After-values-into = search in (
+      ends-infeasible (P s) (S s) _ (c .before .why .given .1),
+      values-whole (s .args .n) (s .args .kept .now) (S s .ws) _ (v .values-into .ensures),
+    )
+
 pub answer-of-spec : {M : Type 1} → statement M
 answer-of-spec =
     tie.close
@@ -132,8 +143,10 @@ answer-of-spec =
     enum-told-3
     enum-told-4
     enum-told-5
+    enum-known-why
     returns
     returns-2
     returns-3
     returns-4
-    returns-5)
+    returns-5
+    returns-6)

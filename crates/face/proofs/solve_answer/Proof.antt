@@ -89,6 +89,12 @@ enum-known-a-10 c = search needs
 answer-requires-14 : tie.Need-answer-requires-14
 answer-requires-14 c κs = search needs
 
+enum-known-a-11 : tie.Need-enum-known-a-11
+enum-known-a-11 c = search needs
+
+answer-requires-15 : tie.Need-answer-requires-15
+answer-requires-15 c κs = search needs
+
 returns : tie.Need-returns
 unfolding answerNumbers placed asRow
 returns c = rw (c .before .before .a .given .1) (c .answer .ensures)
@@ -145,6 +151,10 @@ returns-14 : tie.Need-returns-14
 unfolding answerNumbers placed asRow
 returns-14 c = rw (c .before .before .a10 .given .1) (c .answer14 .ensures)
 
+returns-15 : tie.Need-returns-15
+unfolding answerNumbers placed asRow
+returns-15 c = rw (c .before .before .a11 .given .1) (c .answer15 .ensures)
+
 pub solve-answer-spec : {M : Type 1} → statement M
 solve-answer-spec =
     tie.close
@@ -177,6 +187,8 @@ solve-answer-spec =
     answer-requires-13
     enum-known-a-10
     answer-requires-14
+    enum-known-a-11
+    answer-requires-15
     returns
     returns-2
     returns-3
@@ -190,4 +202,5 @@ solve-answer-spec =
     returns-11
     returns-12
     returns-13
-    returns-14)
+    returns-14
+    returns-15)

@@ -5,13 +5,15 @@ use Prim.Native.Nat.{ℕ, _-_}
 use native.Mathlib.Omega.{arith}
 use lib.Ieee.{Float}
 use borrow.Author.Needs.{needs}
-use Rattle.run.proofs.Laws.{Going, numbers-kept, doubles-kept, going-start, going-chooses, going-steps, going-finished, going-column, going-spent, going-stops, going-counts, going-on}
+use Rattle.rules.specs.Step.{next, atBudget}
+use Rattle.run.proofs.Laws.{Going, going-start, going-steps}
+use Rattle.run.proofs.Primal.{chooses-asks, finishes, column-below, spends, halts, counts, goes-on}
 use Rattle.run.proofs.optimize.Statement.{statement}
 use Rattle.run.proofs.optimize.Tie as tie
 
 abbrev Inv-loop : tie.InvT-loop
 Inv-loop N₀ D₀ F₀ G₀ n lowers uppers starts cols coeffs ops kept cstarts crows ccoeffs budget t₀ N D F G t =
-    Going n lowers uppers starts cols coeffs ops kept budget N₀ D₀ F₀ G₀ t₀ N D F G t
+    Going next atBudget n lowers uppers starts cols coeffs ops kept budget N₀ D₀ F₀ G₀ t₀ N D F G t
 
 abbrev μ-loop : tie.MeasureT-loop
 μ-loop N₀ D₀ F₀ G₀ n lowers uppers starts cols coeffs ops kept cstarts crows ccoeffs budget t₀ N D F G t =
@@ -44,7 +46,7 @@ loop-holds : tie.Need-loop-holds Inv-loop μ-loop
 loop-holds c = let s : tie.Start Inv-loop μ-loop = search in going-start (s .pre .0)
 
 choose-requires : tie.Need-choose-requires Inv-loop μ-loop
-choose-requires c κs = let h : tie.At-loop Inv-loop μ-loop = search in going-chooses (h .loop .inv)
+choose-requires c κs = let h : tie.At-loop Inv-loop μ-loop = search in chooses-asks (h .loop .inv)
 
 enum-known-choice : tie.Need-enum-known-choice Inv-loop μ-loop
 enum-known-choice c = search needs
@@ -53,10 +55,10 @@ enum-told : tie.Need-enum-told Inv-loop μ-loop
 enum-told c = search needs
 
 same-length : tie.Need-same-length Inv-loop μ-loop
-same-length c = let h : tie.At-loop Inv-loop μ-loop = search in numbers-kept (h .loop .inv)
+same-length c = let h : tie.At-loop Inv-loop μ-loop = search in h .loop .inv .numbers-kept
 
 same-length-2 : tie.Need-same-length-2 Inv-loop μ-loop
-same-length-2 c = let h : tie.At-loop Inv-loop μ-loop = search in doubles-kept (h .loop .inv)
+same-length-2 c = let h : tie.At-loop Inv-loop μ-loop = search in h .loop .inv .doubles-kept
 
 same-length-3 : tie.Need-same-length-3 Inv-loop μ-loop
 same-length-3 c = let h : tie.At-loop Inv-loop μ-loop = search in h .loop .inv .factor-numbers-kept
@@ -68,13 +70,13 @@ returns : tie.Need-returns Inv-loop μ-loop
 returns c =
     let a : tie.After-choose Inv-loop μ-loop = search in
     let h : tie.At-loop Inv-loop μ-loop = search in
-    going-finished (h .loop .inv) _ (a .choose .ensures) (c .enum-told .given .1)
+    finishes (h .loop .inv) _ (a .choose .ensures) (c .enum-told .given .1)
 
 same-length-5 : tie.Need-same-length-5 Inv-loop μ-loop
-same-length-5 c = let h : tie.At-loop Inv-loop μ-loop = search in numbers-kept (h .loop .inv)
+same-length-5 c = let h : tie.At-loop Inv-loop μ-loop = search in h .loop .inv .numbers-kept
 
 same-length-6 : tie.Need-same-length-6 Inv-loop μ-loop
-same-length-6 c = let h : tie.At-loop Inv-loop μ-loop = search in doubles-kept (h .loop .inv)
+same-length-6 c = let h : tie.At-loop Inv-loop μ-loop = search in h .loop .inv .doubles-kept
 
 same-length-7 : tie.Need-same-length-7 Inv-loop μ-loop
 same-length-7 c = let h : tie.At-loop Inv-loop μ-loop = search in h .loop .inv .factor-numbers-kept
@@ -85,7 +87,7 @@ same-length-8 c = let h : tie.At-loop Inv-loop μ-loop = search in h .loop .inv 
 returns-2 : tie.Need-returns-2 Inv-loop μ-loop
 returns-2 c =
     let x : tie.After-choice Inv-loop μ-loop = search in
-    going-spent (head x .loop .inv) _ (x .before .before .choose .ensures) _ (x .choice .given .1)
+    spends (head x .loop .inv) _ (x .before .before .choose .ensures) _ (x .choice .given .1)
     (omega (arith, c .if1 .taken))
 
 step-requires : tie.Need-step-requires Inv-loop μ-loop
@@ -93,7 +95,7 @@ step-requires c κs =
     let b : tie.Else1 Inv-loop μ-loop = search in
     let x : tie.After-choice Inv-loop μ-loop = search in
     let s = entry (head x) in
-    let col = going-column (head x .loop .inv) _ (x .before .before .choose .ensures) _ (x .choice .given .1) in
+    let col = column-below (head x .loop .inv) _ (x .before .before .choose .ensures) _ (x .choice .given .1) in
     (going-steps (head x .loop .inv) (omega (arith, b .if1 .left)) (s .pre .1 .2), (s .pre .1 .0, s .pre .1 .1, col))
 
 enum-known-went : tie.Need-enum-known-went Inv-loop μ-loop
@@ -108,7 +110,7 @@ loop-less c =
     omega (
       arith,
       b .if1 .left,
-      going-counts (head x .loop .inv) _ (x .before .before .choose .ensures) _ (x .choice .given .1) (b .if1 .left) _
+      counts (head x .loop .inv) _ (x .before .before .choose .ensures) _ (x .choice .given .1) (b .if1 .left) _
           (M t) (E t) (H t) (J t) (t .step .ensures) _ (w .went .given .1),
     )
 
@@ -118,7 +120,7 @@ loop-again c =
     let t : tie.After-step Inv-loop μ-loop = search in
     let b : tie.Else1 Inv-loop μ-loop = search in
     let x = enters t in
-    going-on (head x .loop .inv) _ (x .before .before .choose .ensures) _ (x .choice .given .1) (b .if1 .left) _
+    goes-on (head x .loop .inv) _ (x .before .before .choose .ensures) _ (x .choice .given .1) (b .if1 .left) _
     (M t) (E t) (H t) (J t) (t .step .ensures) _ (w .went .given .1)
     (t .step .kept .0) (t .step .kept .1 .0) (t .step .kept .1 .1 .0) (t .step .kept .1 .1 .1 .0)
 
@@ -128,12 +130,12 @@ enum-known-went-2 c = search needs
 same-length-9 : tie.Need-same-length-9 Inv-loop μ-loop
 same-length-9 c =
     let t : tie.After-step Inv-loop μ-loop = search in
-    t .step .kept .0 ∙ numbers-kept (head (enters t) .loop .inv)
+    t .step .kept .0 ∙ head (enters t) .loop .inv .numbers-kept
 
 same-length-10 : tie.Need-same-length-10 Inv-loop μ-loop
 same-length-10 c =
     let t : tie.After-step Inv-loop μ-loop = search in
-    t .step .kept .1 .0 ∙ doubles-kept (head (enters t) .loop .inv)
+    t .step .kept .1 .0 ∙ head (enters t) .loop .inv .doubles-kept
 
 same-length-11 : tie.Need-same-length-11 Inv-loop μ-loop
 same-length-11 c =
@@ -151,7 +153,7 @@ returns-3 c =
     let t : tie.After-step Inv-loop μ-loop = search in
     let b : tie.Else1 Inv-loop μ-loop = search in
     let x = enters t in
-    going-stops (head x .loop .inv) _ (x .before .before .choose .ensures) _ (x .choice .given .1) (b .if1 .left) _
+    halts (head x .loop .inv) _ (x .before .before .choose .ensures) _ (x .choice .given .1) (b .if1 .left) _
     (M t) (E t) (H t) (J t) (t .step .ensures) _ (w .went2 .given .1)
 
 pub optimize-spec : {M : Type 1} → statement M

@@ -1,4 +1,4 @@
--- `run_launch::launch` meets its contract: the first state, then none or the run. Assumes nothing.
+-- `run_launch::launch` meets its contract: the first state, then the run. Assumes nothing.
 use mathlib.Core.Path.{_≡_, sym, ap, _∙_}
 use mathlib.Core.Bool.{false}
 use mathlib.Core.List.{List}
@@ -11,7 +11,7 @@ use Rattle.state.specs.declared.Tally.{Tally}
 use Rattle.start.specs.Reckoned.{Numbers, numbers}
 use Rattle.start_values.proofs.Parts.{dual-part}
 use Rattle.run_launch.specs.Launched.{launchedOf, firstState}
-use Rattle.run_launch.proofs.Laws.{ends-at-once, ends-after}
+use Rattle.run_launch.proofs.Laws.{ends-after}
 use Rattle.run_launch.proofs.launch.Statement.{statement}
 use Rattle.run_launch.proofs.launch.Tie as tie
 
@@ -71,62 +71,42 @@ dual-feasible-requires c κs =
     let at-start : tie.Start = search in
     at-start .pre .columns
 
-same-length : tie.Need-same-length
-same-length c =
-    let at-write-start : tie.After-write-start = search in
-    at-write-start .write-start .kept .1 .1 .1 .1 .1 .1 .1 .1 .0
-
-same-length-2 : tie.Need-same-length-2
-same-length-2 c =
-    let at-write-start : tie.After-write-start = search in
-    at-write-start .write-start .kept .1 .1 .1 .1 .1 .1 .1 .1 .1 .0
-
-returns : tie.Need-returns
-returns c =
-    let d : tie.After-dual-feasible = search in
-    let x = wrote d in
-    let s = start x in
-    let at-then1 : tie.Then1 = search in
-    ends-at-once (P s) (s .args .budget) (u s) (w s) (M x) (E x) (F s) (G s) (at x) (first x)
-    (dual-part (P s .plan) ∙ sym (d .dual-feasible .ensures) ∙ at-then1 .if1 .taken)
-
 go-on-requires : tie.Need-go-on-requires
 go-on-requires c κs =
     let x : tie.After-write-start = search in
     let p = start x .pre in
     (p .ready (M x) (E x) (at x) (sized x) (first x), p .budget-most)
 
-same-length-3 : tie.Need-same-length-3
-same-length-3 c =
+same-length : tie.Need-same-length
+same-length c =
     let at-go-on : tie.After-go-on = search in
     let at-write-start : tie.After-write-start = search in
     at-go-on .go-on .kept .0 ∙ at-write-start .write-start .kept .1 .1 .1 .1 .1 .1 .1 .1 .0
 
-same-length-4 : tie.Need-same-length-4
-same-length-4 c =
+same-length-2 : tie.Need-same-length-2
+same-length-2 c =
     let at-go-on : tie.After-go-on = search in
     let at-write-start : tie.After-write-start = search in
     at-go-on .go-on .kept .1 .0 ∙ at-write-start .write-start .kept .1 .1 .1 .1 .1 .1 .1 .1 .1 .0
 
-same-length-5 : tie.Need-same-length-5
-same-length-5 c =
+same-length-3 : tie.Need-same-length-3
+same-length-3 c =
     let at-go-on : tie.After-go-on = search in
     at-go-on .go-on .kept .1 .1 .0
 
-same-length-6 : tie.Need-same-length-6
-same-length-6 c =
+same-length-4 : tie.Need-same-length-4
+same-length-4 c =
     let at-go-on : tie.After-go-on = search in
     at-go-on .go-on .kept .1 .1 .1 .0
 
-returns-2 : tie.Need-returns-2
-returns-2 c =
+returns : tie.Need-returns
+returns c =
     let g : tie.After-go-on = search in
     let d : tie.After-dual-feasible = search in
     let x = wrote d in
     let s = start x in
-    let at-else1 : tie.Else1 = search in
-    ends-after (P s) (s .args .budget) (u s) (w s) (M x) (E x) (F s) (G s) (at x) (first x)
-    (dual-part (P s .plan) ∙ sym (d .dual-feasible .ensures) ∙ at-else1 .if1 .left) _ (g .go-on .ensures)
+    ends-after (P s) (s .args .budget) (u s) (w s) (M x) (E x) (F s) (G s) (at x) (first x) _
+    (d .dual-feasible .ensures ∙ sym (dual-part (P s .plan))) _ (g .go-on .ensures)
 
 pub launch-spec : {M : Type 1} → statement M
 launch-spec =
@@ -134,12 +114,9 @@ launch-spec =
     (tie.spec
     write-start-requires
     dual-feasible-requires
+    go-on-requires
     same-length
     same-length-2
-    returns
-    go-on-requires
     same-length-3
     same-length-4
-    same-length-5
-    same-length-6
-    returns-2)
+    returns)

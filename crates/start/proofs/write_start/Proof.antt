@@ -8,7 +8,7 @@ use lib.ListN.{length, length-set}
 use lib.Ieee.{Float}
 use Prim.Native.Nat.{ℕ}
 use Rattle.doubles.specs.Limits.{maxRows, maxColumns, vars}
-use Rattle.state.specs.Packed.{basicVarsAt, nbVarsAt, varStatesAt, flagCellsAt, basicVarValsAt, nbVarValsAt, pricesAt, normsAt}
+use Rattle.state.specs.Packed.{basicVarsAt, nbVarsAt, varStatesAt, flagCellsAt, basicVarValsAt, nbVarValsAt, pricesAt, normsAt, dualNormsAt}
 use Rattle.state.proofs.Sections.{section-length}
 use Rattle.start.proofs.Written.{filled, written-is}
 use Rattle.start.proofs.write_start.Statement.{statement}
@@ -38,6 +38,9 @@ sixth c = (c .before .before .before .before .before)
 
 abbrev seventh : tie.After-count-from3 → tie.After-write-flags
 seventh c = (c .before .before .before .before)
+
+abbrev eighth : tie.After-write-dual-norms → tie.After-count-from3
+eighth c = (c .before .before .before .before)
 
 -- the arrays at entry, and as each call leaves its section
 abbrev N : tie.After-count-from → List ℕ
@@ -93,6 +96,12 @@ D·4 c = putMid normsAt maxColumns (D·3 (fifth c)) (c .copy-front4 .last .1 .1 
 
 z·4 : (c : tie.After-copy-front4) → length (D·4 c) ≡ length (D (first (second (third (fourth (fifth c))))))
 z·4 c = same-len-mid normsAt maxColumns (D·3 (fifth c)) (c .copy-front4 .last .1 .1 .0) (c .copy-front4 .kept .1 .1 .0) ∙ z·3 (fifth c)
+
+abbrev D·5 : tie.After-write-dual-norms → List Float
+D·5 c = putMid dualNormsAt maxRows (D·4 (sixth (seventh (eighth c)))) (c .write-dual-norms .last .1 .0)
+
+z·5 : (c : tie.After-write-dual-norms) → length (D·5 c) ≡ length (D (first (second (third (fourth (fifth (sixth (seventh (eighth c)))))))))
+z·5 c = same-len-mid dualNormsAt maxRows (D·4 (sixth (seventh (eighth c)))) (c .write-dual-norms .last .1 .0) (c .write-dual-norms .kept .1 .0) ∙ z·4 (sixth (seventh (eighth c)))
 
 sub-count-from : tie.Need-sub-count-from
 sub-count-from c = omega arith
@@ -218,15 +227,38 @@ count-from-requires-3 c κs =
 slice-write-numbers : tie.Need-slice-write-numbers
 slice-write-numbers c = let s = (c .before .before .before .before .before .before .before .before .before .before .before .before .before .before .before .before .before .before .before .before .before .before .before .before .before .before .before .before .before .before .before .before .before .before .before .before .before .before .before .before .before) in omega (arith, s .pre .1, y·4 (c .before .before))
 
+sub-write-dual-norms : tie.Need-sub-write-dual-norms
+sub-write-dual-norms c = omega arith
+
+part-write-dual-norms-start : tie.Need-part-write-dual-norms-start
+part-write-dual-norms-start c = omega arith
+
+part-write-dual-norms-end : tie.Need-part-write-dual-norms-end
+part-write-dual-norms-end c =
+    let x : tie.After-count-from3 = search in
+    let d = sixth (seventh x) in
+    let s = start (first (second (third (fourth (fifth d))))) in
+    omega (arith, s .pre .1, z·4 d)
+
+write-dual-norms-requires : tie.Need-write-dual-norms-requires
+write-dual-norms-requires c κs =
+    let x : tie.After-count-from3 = search in
+    let d = sixth (seventh x) in
+    let s = start (first (second (third (fourth (fifth d))))) in
+    omega (arith, s .pre .0 .1, section-length dualNormsAt maxRows (D·4 d) (omega (arith, s .pre .1, z·4 d)))
+
 same-length : tie.Need-same-length
-same-length c = simp length-set (y·4 (c .before .before))
+same-length c = let x : tie.After-count-from3 = search in
+    simp length-set (y·4 x)
 
 same-length-2 : tie.Need-same-length-2
-same-length-2 c = z·4 (c .before .before .before .before .before .before .before .before .before .before .before)
+same-length-2 c = let x : tie.After-write-dual-norms = search in
+    z·5 x
 
 returns : tie.Need-returns
 returns c =
-    let c8 = (c .before .before) in
+    let c9 : tie.After-write-dual-norms = search in
+    let c8 = eighth c9 in
     let c7 = seventh c8 in
     let c6 = sixth c7 in
     let c5 = fifth c6 in
@@ -238,7 +270,7 @@ returns c =
     let a = s .args in
     written-is (a .n) (a .m) (a .costs .now) (a .lowers .now) (a .uppers .now) (a .xs .now) (a .slacks .now) (a .norms .now) (a .numbers .now) (a .doubles .now) (s .pre .1)
     (c1 .count-from .last .1 .1 .0) (c3 .count-from2 .last .1 .1 .0) (c7 .write-flags .last .1 .1 .1 .1 .0) (c8 .count-from3 .last .1 .1 .0)
-    (c2 .copy-front .last .1 .1 .0) (c4 .copy-front2 .last .1 .1 .0) (c5 .copy-front3 .last .1 .1 .0) (c6 .copy-front4 .last .1 .1 .0)
+    (c2 .copy-front .last .1 .1 .0) (c4 .copy-front2 .last .1 .1 .0) (c5 .copy-front3 .last .1 .1 .0) (c6 .copy-front4 .last .1 .1 .0) (c9 .write-dual-norms .last .1 .0)
     (filled (c1 .count-from .ensures) (c1 .count-from .kept .1 .1 .0))
     (filled (c2 .copy-front .ensures) (c2 .copy-front .kept .1 .1 .0))
     (filled (c3 .count-from2 .ensures) (c3 .count-from2 .kept .1 .1 .0))
@@ -247,6 +279,7 @@ returns c =
     (filled (c6 .copy-front4 .ensures) (c6 .copy-front4 .kept .1 .1 .0))
     (filled (c7 .write-flags .ensures) (c7 .write-flags .kept .1 .1 .1 .1 .0))
     (filled (c8 .count-from3 .ensures) (c8 .count-from3 .kept .1 .1 .0))
+    (filled (c9 .write-dual-norms .ensures) (c9 .write-dual-norms .kept .1 .0))
 
 pub write-start-spec : {M : Type 1} → statement M
 write-start-spec =
@@ -286,6 +319,10 @@ write-start-spec =
     part-count-from-end-3
     count-from-requires-3
     slice-write-numbers
+    sub-write-dual-norms
+    part-write-dual-norms-start
+    part-write-dual-norms-end
+    write-dual-norms-requires
     same-length
     same-length-2
     returns)

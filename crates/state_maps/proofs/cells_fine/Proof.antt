@@ -22,7 +22,7 @@ returns : tie.Need-returns
 returns c =
     let s : tie.Start = search in
     let a = s .args in
-    cells-are (a .n) (a .m) (workspaceOf (a .basic .now) [] (a .nonbasic .now) [] [] [] [] (a .states .now) noEtas)
+    cells-are (a .n) (a .m) (workspaceOf (a .basic .now) [] (a .nonbasic .now) [] [] [] [] [] (a .states .now) noEtas)
     (c .before .before .all-lead-back .ensures) (c .before .all-lead-back2 .ensures) (c .all-below .ensures)
 
 pub cells-fine-spec : {M : Type 1} → statement M

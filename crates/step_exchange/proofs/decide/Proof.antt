@@ -9,7 +9,7 @@ use Rattle.rules.specs.Parts.{rowed}
 use Rattle.rules.specs.Basis.{rowCoeffsOf, touchAt}
 use Rattle.rules.specs.Pivot.{numbersFinite, newObjective}
 use Rattle.state.specs.Packed.{stateIn}
-use Rattle.step_exchange.proofs.Laws.{row-asks, listed-asks, helper-asks, column-listing, touch-asks, touched-is, row-listing, helper-listing, decided-bad, decided-goes}
+use Rattle.step_exchange.proofs.Laws.{combine-asks, row-of, listed-asks, helper-asks, column-listing, touch-asks, touched-is, row-listing, helper-listing, decided-bad, decided-goes}
 use Rattle.step_exchange.proofs.decide.Statement.{statement}
 use Rattle.step_exchange.proofs.decide.Tie as tie
 
@@ -31,32 +31,39 @@ abbrev entry : tie.After-row → tie.Start
 entry a = search
 
 -- the row as it was solved, and with the entering place touched
+solved-row : (a : tie.After-row) → sv (a .row .last .0) (a .row .last .1 .0) (a .row .last .1 .1 .0) (a .row .result) ≡ rowCoeffsOf (R (entry a)) (S (entry a)) (entry a .args .x .row)
+solved-row a = let i = entry a .pre .1 .1 in row-of (R (entry a)) (S (entry a)) (entry a .args .x .row) i _ (a .row .ensures (i .marks))
+
 abbrev touchedRow : tie.After-touch → Sv
 touchedRow t = sv (row-at t .row .last .0) (t .touch .last .0) (t .touch .last .1 .0) (t .touch .result)
 
 row-is : (t : tie.After-touch) → touchedRow t ≡ touchAt (rowCoeffsOf (R (entry (row-at t))) (S (entry (row-at t))) (entry (row-at t) .args .x .row)) (entry (row-at t) .args .e .col)
-row-is t = touched-is _ _ _ _ _ (row-at t .row .ensures) (t .touch .ensures)
+row-is t = touched-is _ _ _ _ _ (solved-row (row-at t)) (t .touch .ensures)
 
 row-requires : tie.Need-row-requires
-row-requires c κs = let s : tie.Start = search in let rd = s .pre .1 .0 .ready in let q = row-asks rd (s .args .x .row) (s .pre .1 .3) in ((rd .sized, s .pre .0 .0, q .0), q .1)
+row-requires c κs =
+    let s : tie.Start = search in
+    let rd = s .pre .1 .0 .0 .ready in
+    let q = combine-asks rd (s .pre .1 .0 .3) (s .pre .1 .1) in
+    ((rd .sized .numbers-long, q .0), (s .pre .0 .0, q .1, q .2, q .3))
 
 touch-requires : tie.Need-touch-requires
 touch-requires c κs =
     let a : tie.After-row = search in
     let s = entry a in
-    touch-asks (s .pre .1 .0 .ready) (s .args .x .row) (s .args .e .col) (s .pre .1 .4) _ (a .row .ensures)
+    touch-asks (s .pre .1 .0 .0 .ready) (s .args .x .row) (s .args .e .col) (s .pre .1 .0 .4) _ (solved-row a)
 
 helper-requires : tie.Need-helper-requires
-helper-requires c κs = let s : tie.Start = search in let rd = s .pre .1 .0 .ready in let l = listed-asks rd (s .pre .1 .1) in ((rd .sized, s .pre .0 .1, l .0, l .1), helper-asks rd (s .pre .1 .1))
+helper-requires c κs = let s : tie.Start = search in let rd = s .pre .1 .0 .0 .ready in let l = listed-asks rd (s .pre .1 .0 .1) in ((rd .sized, s .pre .0 .1, l .0, l .1), helper-asks rd (s .pre .1 .0 .1))
 
 numbers-finite-requires : tie.Need-numbers-finite-requires
 numbers-finite-requires c κs =
     let t : tie.After-touch = search in
     let b : tie.After-helper = search in
     let s = entry (row-at t) in
-    let rd = s .pre .1 .0 .ready in
-    let w = helper-listing rd (s .pre .1 .1) [] _ (b .helper .ensures []) in
-    ((rd .sized .doubles-long, column-listing rd (s .pre .1 .1), row-listing rd (s .args .x .row) (s .args .e .col) (s .pre .1 .4) _ (row-is t)), (s .pre .1 .2, w .0, w .1))
+    let rd = s .pre .1 .0 .0 .ready in
+    let w = helper-listing rd (s .pre .1 .0 .1) [] _ (b .helper .ensures []) in
+    ((rd .sized .doubles-long, column-listing rd (s .pre .1 .0 .1), row-listing rd (s .args .x .row) (s .args .e .col) (s .pre .1 .0 .4) _ (row-is t)), (s .pre .1 .0 .2, w .0, w .1))
 
 returns : tie.Need-returns
 unfolding numbersFinite newObjective

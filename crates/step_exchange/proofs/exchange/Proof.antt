@@ -26,8 +26,17 @@ abbrev col : tie.Start → List Bool → Sv
 col s m = sv (s .args .values .now) m (s .args .list .now) (s .args .count)
 
 -- the way back from the decision
+abbrev squared : tie.After-decide-arg → tie.After-sq-norm
+squared a = search
+
+abbrev squares : tie.After-decide → tie.After-sq-norm
+squares d = search
+
+abbrev lent : tie.After-sq-norm → tie.Start
+lent q = search
+
 abbrev entry : tie.After-decide → tie.Start
-entry d = search
+entry d = lent (squares d)
 
 -- and from the tests
 abbrev told : tie.After-decided → tie.After-decide
@@ -54,16 +63,15 @@ factoring a = search
 abbrev passed : tie.After-store-exchange → tie.Else2
 passed k = search
 
-abbrev squares : tie.After-decide → tie.After-sq-norm
-squares d = search
-
 sq-norm-requires : tie.Need-sq-norm-requires
 sq-norm-requires c κs = let s : tie.Start = search in listed-asks (s .pre .0) (s .pre .1 .1 .0)
 
 decide-requires : tie.Need-decide-requires
-decide-requires c κs = let s : tie.Start = search in
-    let q : tie.After-sq-norm = search in
-    ((fresh-blank, fresh-blank), (record { lowers = s .args .lowers .now; uppers = s .args .uppers .now; ops = s .args .ops .now; ready = s .pre .0 }, s .pre .1 .1 .0, record { sum = q .sq-norm .ensures }, s .pre .1 .1 .2, s .pre .1 .1 .1))
+decide-requires c κs =
+    let a : tie.After-decide-arg = search in
+    let q = squared a in
+    let s = lent q in
+    ((fresh-blank, fresh-blank), ((record { lowers = s .args .lowers .now; uppers = s .args .uppers .now; ops = s .args .ops .now; ready = s .pre .0 }, s .pre .1 .1 .0, record { sum = q .sq-norm .ensures }, s .pre .1 .1 .2, s .pre .1 .1 .1), s .pre .1 .1 .3))
 
 enum-known-decided : tie.Need-enum-known-decided
 enum-known-decided c = search needs

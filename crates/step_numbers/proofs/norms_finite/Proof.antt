@@ -1,7 +1,6 @@
 -- `step_numbers::norms_finite` meets its contract: every new number before k is finite. Assumes nothing.
 use mathlib.Core.Path.{_≡_, refl, sym, ap, _∙_}
 use mathlib.Core.Bool.{true}
-use mathlib.Core.List.{[]}
 use Prim.Native.Nat.{_-_, _<_, _≤_}
 use native.Mathlib.Omega.{arith}
 use lib.ListN.{length, getD}
@@ -11,19 +10,16 @@ use Rattle.doubles.specs.Limits.{places}
 use Rattle.doubles.specs.Loop.{all}
 use Rattle.doubles.specs.Lists.{_!_, _#_}
 use Rattle.doubles.proofs.Loops.{all-next, all-fails, all-done}
-use Rattle.sparse.specs.Scattered.{sv, svOf}
 use Rattle.rules.specs.Pivot.{storesFinite}
-use Rattle.step_numbers.specs.Lent.{numbersOf}
-use Rattle.step_numbers.proofs.Laws.{norm-is}
 use Rattle.step_numbers.specs.New.{normBy}
 use Rattle.step_numbers.proofs.norms_finite.Statement.{statement}
 use Rattle.step_numbers.proofs.norms_finite.Tie as tie
 
 abbrev Inv-loop : tie.InvT-loop
-Inv-loop norms values list count helper sq pivot col sq1 pivot-sq k₀ k = (k ≤ count) × (all k (λ i. finite (normBy col sq1 pivot pivot-sq (list # i) (norms ! (list # i)) (values ! (list # i)) (helper ! (list # i)))) ≡ true)
+Inv-loop norms values list count helper col sq pivot pivot-sq k₀ k = (k ≤ count) × (all k (λ i. finite (normBy col sq pivot pivot-sq (list # i) (norms ! (list # i)) (values ! (list # i)) (helper ! (list # i)))) ≡ true)
 
 abbrev μ-loop : tie.MeasureT-loop
-μ-loop norms values list count helper sq pivot col sq1 pivot-sq k₀ k = count - k
+μ-loop norms values list count helper col sq pivot pivot-sq k₀ k = count - k
 
 abbrev entry : tie.At-loop Inv-loop μ-loop → tie.Start Inv-loop μ-loop
 entry a = search
@@ -71,11 +67,7 @@ unfolding storesFinite
 returns c =
     let t : tie.In-loop Inv-loop μ-loop = search in
     let d : tie.After-new-norm Inv-loop μ-loop = search in
-    let s = entry (t .before) in
-    let a = s .args in
-    λ m p x q.
-    sym (all-fails _ _ (t .before .loop .k) (t .loop-test .taken) (ap finite (sym (d .new-norm .ensures)) ∙ sym (c .before .is-finite .ensures) ∙ not-true _ (c .if1 .taken)))
-    ∙ ap (storesFinite (sv (a .values .now) m (a .list .now) (a .count))) (norm-is (numbersOf [] [] (a .norms .now)) (a .e) x (a .pivot) (sv (a .values .now) m (a .list .now) (a .count)) (svOf (a .helper .now) p) (a .sq) q)
+    λ _. sym (all-fails _ _ (t .before .loop .k) (t .loop-test .taken) (ap finite (sym (d .new-norm .ensures)) ∙ sym (c .before .is-finite .ensures) ∙ not-true _ (c .if1 .taken)))
 
 add-k : tie.Need-add-k Inv-loop μ-loop
 add-k c = omega arith
@@ -91,12 +83,7 @@ loop-again c =
 
 returns-2 : tie.Need-returns-2 Inv-loop μ-loop
 unfolding storesFinite
-returns-2 c =
-    let s = entry (c .before) in
-    let a = s .args in
-    λ m p x q.
-    sym (all-done _ _ _ (c .before .loop .inv .0) (c .loop-test .left) (c .before .loop .inv .1))
-    ∙ ap (storesFinite (sv (a .values .now) m (a .list .now) (a .count))) (norm-is (numbersOf [] [] (a .norms .now)) (a .e) x (a .pivot) (sv (a .values .now) m (a .list .now) (a .count)) (svOf (a .helper .now) p) (a .sq) q)
+returns-2 c = λ _. sym (all-done _ _ _ (c .before .loop .inv .0) (c .loop-test .left) (c .before .loop .inv .1))
 
 pub norms-finite-spec : {M : Type 1} → statement M
 norms-finite-spec =

@@ -2,8 +2,10 @@
 use mathlib.Core.Path.{sym, ap, _∙_}
 use borrow.Author.Tests.{not-true, not-false}
 use Rattle.doubles.specs.Num.{finite}
-use Rattle.rules.specs.Pivot.{newObjective, newVal, movedVal, newPrice, newNorm, numbersFinite}
-use Rattle.step_numbers.proofs.Laws.{fails, passes}
+use Rattle.sparse.specs.Scattered.{sv, svOf}
+use Rattle.rules.specs.Pivot.{storesFinite, newObjective, newVal, movedVal, newPrice, newNorm, numbersFinite}
+use Rattle.step_numbers.specs.Lent.{numbersOf}
+use Rattle.step_numbers.proofs.Laws.{fails, passes, norm-is}
 use Rattle.step_numbers.proofs.numbers_finite.Statement.{statement}
 use Rattle.step_numbers.proofs.numbers_finite.Tie as tie
 
@@ -77,7 +79,8 @@ returns-5 c =
     let x1 = d2 .before in
     let d1 = x1 .before in
     let o = d1 .before in
-    let s = o .before .before .before .before in
+    let s : tie.Start = search in
+    let a = s .args in
     λ _ m rm p. sym
     (passes
     (passes
@@ -86,7 +89,10 @@ returns-5 c =
     (sym (d2 .vals-finite .ensures m) ∙ not-false _ (x2 .if2 .left)))
     (sym (d3 .is-finite2 .ensures) ∙ not-false _ (x3 .if3 .left)))
     (sym (d4 .prices-finite .ensures rm) ∙ not-false _ (x4 .if4 .left)))
-    (sym (c .norms-finite .ensures rm p _ (s .pre .0 .1 m))))
+    (sym (c .norms-finite .ensures rm ∙ ap (storesFinite (sv (a .row-values .now) rm (a .row-list .now) (a .row-count)))
+    (norm-is (numbersOf (a .basic-var-vals .now) (a .prices .now) (a .norms .now)) (a .pivot) (a .sq) (a .e)
+    (sv (a .values .now) m (a .list .now) (a .count)) (sv (a .row-values .now) rm (a .row-list .now) (a .row-count))
+    (svOf (a .helper .now) p) (s .pre .0 .1 m)))))
 
 pub numbers-finite-spec : {M : Type 1} → statement M
 numbers-finite-spec =

@@ -5,26 +5,24 @@ use Prim.Native.Nat.{ℕ, _-_, _<_, _≤_}
 use native.Mathlib.Omega.{arith}
 use lib.ListN.{length, getD}
 use lib.Ieee.{Float}
-use Rattle.doubles.specs.Num.{_⊕_, _⊗_, f1}
+use Rattle.doubles.specs.Num.{_⊗_}
 use Rattle.doubles.specs.Limits.{places}
 use Rattle.doubles.specs.Loop.{run}
 use Rattle.doubles.specs.Lists.{_!_}
 use Rattle.doubles.proofs.Loops.{done}
-use Rattle.sparse.specs.Scattered.{Sv, sv, svOf}
+use Rattle.sparse.specs.Scattered.{Sv, sv}
 use Rattle.rules.specs.Pivot.{storeTurn, stored}
 use Rattle.step_numbers.specs.New.{normBy}
-use Rattle.step_numbers.specs.Lent.{numbersOf}
-use Rattle.step_numbers.proofs.Laws.{norm-is}
 use Rattle.step_store.proofs.Laws.{storing-long, store-next}
 use Rattle.step_store.proofs.store_norms.Statement.{statement}
 use Rattle.step_store.proofs.store_norms.Tie as tie
 
 abbrev Inv-loop : tie.InvT-loop
-Inv-loop norms₀ values list count helper sq pivot col sq1 pivot-sq k₀ norms k =
-    (k ≤ count) × (norms ≡ run (storeTurn (sv values [] list count) (λ j. normBy col sq1 pivot pivot-sq j (norms₀ ! j) (values ! j) (helper ! j))) k norms₀)
+Inv-loop norms₀ values list count helper col sq pivot pivot-sq k₀ norms k =
+    (k ≤ count) × (norms ≡ run (storeTurn (sv values [] list count) (λ j. normBy col sq pivot pivot-sq j (norms₀ ! j) (values ! j) (helper ! j))) k norms₀)
 
 abbrev μ-loop : tie.MeasureT-loop
-μ-loop norms₀ values list count helper sq pivot col sq1 pivot-sq k₀ norms k = count - k
+μ-loop norms₀ values list count helper col sq pivot pivot-sq k₀ norms k = count - k
 
 abbrev entry : tie.At-loop Inv-loop μ-loop → tie.Start Inv-loop μ-loop
 entry a = search
@@ -34,7 +32,7 @@ vec s = sv (s .args .values .now) [] (s .args .list .now) (s .args .count)
 
 -- what is stored at place j, where x stood
 abbrev new : tie.Start Inv-loop μ-loop → ℕ → Float → Float
-new s j x = let a = s .args in normBy (a .e .col) (a .sq ⊕ f1) (a .pivot) (a .pivot ⊗ a .pivot) j x (a .values .now ! j) (a .helper .now ! j)
+new s j x = let a = s .args in normBy (a .col) (a .sq) (a .pivot) (a .pivot ⊗ a .pivot) j x (a .values .now ! j) (a .helper .now ! j)
 
 -- at the loop's head the list is as long as it was
 ok : (a : tie.At-loop Inv-loop μ-loop) → length (a .loop .norms) ≡ length (entry a .args .norms .now)
@@ -105,13 +103,7 @@ same-length c = ok (c .before)
 
 returns : tie.Need-returns Inv-loop μ-loop
 unfolding stored
-returns c =
-    let s = entry (c .before) in
-    let a = s .args in
-    λ m p x q.
-    let v = sv (a .values .now) m (a .list .now) (a .count) in
-    done _ _ _ _ (c .before .loop .inv .0) (c .loop-test .left) (c .before .loop .inv .1)
-    ∙ ap (λ (f : ℕ → Float). stored v f (a .norms .now)) (norm-is (numbersOf [] [] (a .norms .now)) (a .e) x (a .pivot) v (svOf (a .helper .now) p) (a .sq) q)
+returns c = λ _. done _ _ _ _ (c .before .loop .inv .0) (c .loop-test .left) (c .before .loop .inv .1)
 
 pub store-norms-spec : {M : Type 1} → statement M
 store-norms-spec =

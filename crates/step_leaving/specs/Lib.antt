@@ -1,0 +1,3 @@
+-- The choice of the leaving row: what is lent to it, and the answers of its parts.
+pub mod Lent
+pub mod Parts
