@@ -1,4 +1,4 @@
-/* GLPK's primal simplex from the slack basis, with nothing around it. */
+/* GLPK's primal or dual simplex from the slack basis, with nothing around it. */
 #include <glpk.h>
 #include <stddef.h>
 
@@ -36,13 +36,13 @@ void *bench_glpk_new(size_t columns, size_t rows, const double *costs, const dou
     return prob;
 }
 
-/* Solves from the slack basis; answers whether it is optimal. */
-int bench_glpk_solve(void *problem, double *objective, size_t *steps) {
+/* Solves from the slack basis, by the dual simplex where that is asked for; answers whether it is optimal. */
+int bench_glpk_solve(void *problem, int dual, double *objective, size_t *steps) {
     glp_prob *prob = problem;
     glp_smcp parm;
     glp_init_smcp(&parm);
     parm.msg_lev = GLP_MSG_OFF;
-    parm.meth = GLP_PRIMAL;
+    parm.meth = dual ? GLP_DUALP : GLP_PRIMAL;
     parm.presolve = GLP_OFF;
     glp_std_basis(prob);
     glp_set_it_cnt(prob, 0);

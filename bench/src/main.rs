@@ -130,7 +130,7 @@ impl<'a> Race<'a> {
         }
         #[cfg(feature = "glpk")]
         let (glpk, glpk_seen) = {
-            let mut glpk = glpk::Glpk::new(plan);
+            let mut glpk = glpk::Glpk::new(plan, plan.id.starts_with("dual."));
             let glpk_seen = glpk.solve();
             let size = seen.objective.abs().max(1.0);
             let differ = (glpk_seen.objective - seen.objective).abs() > 1e-6 * size;
