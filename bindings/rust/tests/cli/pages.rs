@@ -175,20 +175,29 @@ fn in_chromium() {
     for (page, wanted) in pages() {
         let (errors, text) = drawn(&folder, &page);
         assert_eq!(errors, "");
-        assert!(text.contains(wanted), "{wanted} in {text}");
+        assert!(can_be_read(wanted, &text), "{wanted} in {text}");
     }
     // The test can fail: this page has an error, and its sentence isn't to be seen.
-    let (page, _) = &pages()[0];
+    let (page, wanted) = &pages()[0];
     let broken = page
         .replace("<h1>", "<script>none()</script><h1>")
         .replace("</style>", "h1{display:none}</style>");
     let (errors, text) = drawn(&folder, &broken);
     assert!(errors.contains("none is not defined"), "{errors}");
-    assert!(
-        !text.contains("Optimal") && text.contains("objective"),
-        "{text}"
-    );
+    assert!(!text.is_empty() && !can_be_read(wanted, &text), "{text}");
     fs::remove_dir_all(&folder).expect("removed");
+}
+
+/// Four of five of the wanted words are among those that were read: fonts differ, and a reader of pictures may miss one.
+fn can_be_read(wanted: &str, text: &str) -> bool {
+    let bare = |word: &'_ str| {
+        word.trim_matches(|c: char| !c.is_alphanumeric())
+            .to_string()
+    };
+    let read: Vec<String> = text.split_whitespace().map(bare).collect();
+    let words: Vec<String> = wanted.split_whitespace().map(bare).collect();
+    let found = words.iter().filter(|&word| read.contains(word)).count();
+    5 * found >= 4 * words.len()
 }
 
 /// What Chromium's console says of a page, and the words of the picture, one blank between them.
@@ -199,6 +208,7 @@ fn drawn(folder: &Path, page: &str) -> (String, String) {
         "--headless",
         "--no-sandbox",
         "--disable-gpu",
+        "--disable-dev-shm-usage",
         "--enable-logging=stderr",
         "--hide-scrollbars",
         "--force-device-scale-factor=2",
