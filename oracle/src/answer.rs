@@ -13,6 +13,8 @@ pub enum Named {
     DualQuotient,
     Helper,
     Tau,
+    /// Of a repricing, as its prices and objective.
+    Multiplier,
     Objective,
     /// The entering column's new value.
     Value,
@@ -29,6 +31,7 @@ pub enum Named {
 }
 
 impl Named {
+    /// Every place of a run; a repricing has one more.
     pub const ALL: [Named; 17] = [
         Named::Column,
         Named::Limit,
@@ -59,6 +62,7 @@ impl Named {
             Named::DualQuotient => "dual-quotient",
             Named::Helper => "helper",
             Named::Tau => "tau",
+            Named::Multiplier => "multiplier",
             Named::Objective => "objective",
             Named::Value => "value",
             Named::Basic => "basic",
@@ -90,7 +94,7 @@ pub enum Rejected {
 /// No number of 01's: where the shown text would have panicked.
 pub const PANICKED: usize = 99;
 
-/// Every answer of a call, 0 to 7 and 20 to 26. 02: 22 is no longer given.
+/// Every answer of a call, 0 to 7, 20 to 26 and 41 to 44. 02: 22 is no longer given.
 #[derive(Clone, Copy, Debug, PartialEq, Eq, Hash)]
 pub enum Outcome {
     Optimal,
@@ -122,6 +126,14 @@ pub enum Outcome {
     Infeasible {
         row: usize,
     },
+    /// 02: "41 the last run wasn't Optimal or the workspace's maps, lists or store break 01's limits".
+    NoRun,
+    /// 02: "42 an unknown column".
+    UnknownColumn,
+    /// 02: "43 a value outside bounds or not finite".
+    BadValue,
+    /// 02: "44 unfixing a column that isn't fixed".
+    NotFixed,
     /// Only with `--shown`: the shown text would have panicked here.
     Panicked,
 }
@@ -144,8 +156,17 @@ impl Outcome {
             Outcome::Rejected(_) => 24,
             Outcome::Singular => 25,
             Outcome::Infeasible { .. } => 26,
+            Outcome::NoRun => 41,
+            Outcome::UnknownColumn => 42,
+            Outcome::BadValue => 43,
+            Outcome::NotFixed => 44,
             Outcome::Panicked => PANICKED as u8,
         }
+    }
+
+    /// Whether nothing was changed, and nothing is carried.
+    pub fn is_refusal(self) -> bool {
+        matches!(self.number(), 1..=7 | 41..=44)
     }
 
     /// What `--why` adds.
@@ -197,6 +218,8 @@ pub struct Factor {
     pub uidx: Vec<usize>,
     pub uval: Vec<f64>,
     pub udiag: Vec<f64>,
+    /// Only of the shown factor: its order of columns. The text doesn't have it.
+    pub col_order: Option<Vec<usize>>,
 }
 
 /// The outcome with its numbers: a refusal has objective 0.0, 0 steps, no values and no state.

@@ -8,7 +8,8 @@ use std::io::{self, BufRead};
 
 use crate::{
     answer::{Answer, Factor, Outcome, Rejected, State, PANICKED},
-    plan::{Lent, Plan},
+    memory,
+    plan::{Call, Lent, Plan},
     tri::{Factors, FactorsAnswer, Tri, TriAnswer},
 };
 
@@ -145,9 +146,40 @@ fn plan_field(
             let lent = Lent::named(&name).ok_or_else(|| format!("no lent array {}", name))?;
             plan.short.push((lent, whole(words.next())?));
         }
+        "fix" => plan.calls.push(Call::Fix {
+            column: whole(words.next())?,
+            value: double(words.next())?,
+        }),
+        "unfix" => plan.calls.push(Call::Unfix {
+            column: whole(words.next())?,
+        }),
+        "reprice" => plan.calls.push(Call::Reprice {
+            cost: doubles(words)?,
+        }),
+        "poke" => plan.calls.push(poke(words)?),
         _ => return Err(format!("no line {} in a plan", key)),
     }
     Ok(())
+}
+
+fn poke(words: &mut dyn Iterator<Item = &str>) -> Result<Call, String> {
+    let name = word(words.next())?;
+    let lent = Lent::poked(&name).ok_or_else(|| format!("no poke in {}", name))?;
+    let (cells, are_doubles) = memory::cells(lent);
+    let index = whole(words.next())?;
+    if index >= cells as u64 {
+        return Err(format!("{} has {} cells", name, cells));
+    }
+    let bits = if are_doubles {
+        double(words.next())?.to_bits()
+    } else {
+        whole(words.next())?
+    };
+    Ok(Call::Poke {
+        lent,
+        index: index as usize,
+        bits,
+    })
 }
 
 fn tri_field(
@@ -242,7 +274,28 @@ impl fmt::Display for Plan {
         for (lent, length) in &self.short {
             writeln!(f, "short {} {}", lent.name(), length)?;
         }
+        for call in &self.calls {
+            write!(f, "{}", call)?;
+        }
         writeln!(f, "end")
+    }
+}
+
+/// A call, or a cell written between calls, as a line of its plan.
+impl fmt::Display for Call {
+    fn fmt(&self, f: &mut fmt::Formatter<'_>) -> fmt::Result {
+        match *self {
+            Call::Fix { column, value } => writeln!(f, "fix {} {:016x}", column, value.to_bits()),
+            Call::Unfix { column } => writeln!(f, "unfix {}", column),
+            Call::Reprice { ref cost } => write_doubles_line(f, "reprice", cost),
+            Call::Poke { lent, index, bits } => {
+                write!(f, "poke {} {} ", lent.poke_name(), index)?;
+                match memory::cells(lent) {
+                    (_, true) => writeln!(f, "{:016x}", bits),
+                    (_, false) => writeln!(f, "{}", bits),
+                }
+            }
+        }
     }
 }
 
@@ -381,6 +434,15 @@ impl From<&Answer> for Place {
             _ => Place::Nowhere,
         }
     }
+}
+
+/// The answers of a plan's run and of the calls after it, a line each. The calls are named ID/K.
+pub fn answer_lines(id: &str, answers: &[Answer], extras: Extras) -> Vec<String> {
+    let line = |(k, answer): (usize, &Answer)| match k {
+        0 => answer_line(id, answer, extras),
+        _ => answer_line(&format!("{}/{}", id, k), answer, extras),
+    };
+    answers.iter().enumerate().map(line).collect()
 }
 
 /// The oracle's answer as a line.

@@ -953,5 +953,6 @@ fn stored_factor(factor: &Triangles) -> Factor {
         uidx,
         uval,
         udiag: factor.diag.clone(),
+        col_order: None,
     }
 }

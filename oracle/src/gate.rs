@@ -1,11 +1,12 @@
 //! The whole call: refusals 1 to 3, then the solver, then the final check. All ours, from the
-//! table "When the gateway says no" of document 01. 4 to 7 are given by try_new, in its own order,
-//! which is theirs.
+//! table "When the gateway says no" of document 01. 4 and 5 are given by try_new, in its own order,
+//! which is theirs. Then the calls of document 02's Ask 9, over the memory that a call left.
 
 use crate::{
     answer::{Answer, Outcome},
     limits,
-    plan::{Lent, Plan},
+    memory::Memory,
+    plan::{Call, Lent, Plan},
     shown::{Correction, Options},
     solver::Solver,
     sprs::CsVec,
@@ -13,9 +14,99 @@ use crate::{
 };
 
 pub fn solve(plan: &Plan, options: Options) -> Answer {
-    if let Err(outcome) = refuse(plan, options) {
-        return Answer::refusal(outcome);
+    let run = |solver: &mut Solver| {
+        solver.refuse_start()?;
+        solver.initial_solve()
+    };
+    match prepare(plan, options) {
+        Ok(solver) => answer(solver, plan.tolerance, run),
+        Err(outcome) => Answer::refusal(outcome),
     }
+}
+
+/// The run's answer, then those of the calls after it.
+pub fn answers(plan: &Plan, options: Options) -> Vec<Answer> {
+    if plan.calls.is_empty() {
+        return vec![solve(plan, options)];
+    }
+    let mut session = Session::new(plan, options);
+    let first = session.solve();
+    let calls = plan.calls.iter().filter_map(|call| session.call(call));
+    std::iter::once(first).chain(calls).collect()
+}
+
+/// A plan with the memory that the last call over it left.
+pub struct Session {
+    plan: Plan,
+    options: Options,
+    memory: Memory,
+}
+
+impl Session {
+    pub fn new(plan: &Plan, options: Options) -> Session {
+        Session {
+            plan: plan.clone(),
+            options,
+            memory: Memory::lent(),
+        }
+    }
+
+    pub fn solve(&mut self) -> Answer {
+        let answer = solve(&self.plan, self.options);
+        self.memory.keep(&answer);
+        answer
+    }
+
+    /// A call's answer; a poke has none.
+    pub fn call(&mut self, call: &Call) -> Option<Answer> {
+        let answer = match *call {
+            Call::Poke { lent, index, bits } => {
+                self.memory.poke(lent, index, bits);
+                return None;
+            }
+            Call::Fix { column, value } => {
+                self.go_on(|solver, plan| solver.fix_var(known(plan, column)?, value))
+            }
+            Call::Unfix { column } => self.go_on(|solver, plan| {
+                let was_fixed = solver.unfix_var(known(plan, column)?)?;
+                was_fixed.then_some(()).ok_or(Outcome::NotFixed)
+            }),
+            Call::Reprice { ref cost } => {
+                self.plan.cost.clone_from(cost);
+                self.go_on(|solver, _| solver.reprice())
+            }
+        };
+        self.memory.keep(&answer);
+        Some(answer)
+    }
+
+    // One call over the memory, refused with 1 to 5 and 41 before it begins.
+    fn go_on(&self, run: impl FnOnce(&mut Solver, &Plan) -> Result<(), Outcome>) -> Answer {
+        let resumed = prepare(&self.plan, self.options).and_then(|mut solver| {
+            let columns = self.plan.columns as usize;
+            let left = self.memory.state(columns, solver.kept_rows());
+            let (state, objective) = left.ok_or(Outcome::NoRun)?;
+            solver.resume(&state, objective);
+            Ok(solver)
+        });
+        match resumed {
+            Ok(solver) => answer(solver, self.plan.tolerance, |solver| {
+                run(solver, &self.plan)
+            }),
+            Err(outcome) => Answer::refusal(outcome),
+        }
+    }
+}
+
+// 42: "column not below the plan's columns".
+fn known(plan: &Plan, column: u64) -> Result<usize, Outcome> {
+    let column = (column < plan.columns).then_some(column as usize);
+    column.ok_or(Outcome::UnknownColumn)
+}
+
+/// Refusals 1 to 5, then the solver at its start.
+fn prepare(plan: &Plan, options: Options) -> Result<Solver, Outcome> {
+    refuse(plan, options)?;
 
     // Refusal 1 has passed: the sizes fit and every array has the cells that are read.
     let columns = plan.columns as usize;
@@ -32,21 +123,25 @@ pub fn solve(plan: &Plan, options: Options) -> Answer {
         constraints.push((coeffs, cmp_op, plan.rhs[row]));
     }
 
-    let solver = Solver::try_new(
+    Solver::try_new(
         &plan.cost[..columns],
         &plan.lower[..columns],
         &plan.upper[..columns],
         &constraints,
         plan.budget,
         options,
-    );
-    let mut solver = match solver {
-        Ok(solver) => solver,
-        Err(outcome) => return Answer::refusal(outcome),
-    };
+    )
+}
 
-    let (outcome, excess) = match solver.initial_solve() {
-        Ok(()) => solver.final_check(plan.tolerance),
+/// What the steps give, and the final check after them.
+fn answer(
+    mut solver: Solver,
+    tolerance: f64,
+    run: impl FnOnce(&mut Solver) -> Result<(), Outcome>,
+) -> Answer {
+    let (outcome, excess) = match run(&mut solver) {
+        Ok(()) => solver.final_check(tolerance),
+        Err(outcome) if outcome.is_refusal() => return Answer::refusal(outcome),
         Err(outcome) => (outcome, 0.0),
     };
     Answer {

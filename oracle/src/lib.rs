@@ -8,6 +8,7 @@
 //! `ComparisonOp` is from minilp 0.2.2, src/lib.rs, Apache-2.0, changed (another order).
 
 pub mod answer;
+pub mod call_families;
 pub mod exchange;
 pub mod families;
 pub mod fresh;
@@ -17,6 +18,7 @@ pub mod listing;
 #[allow(clippy::needless_range_loop, clippy::unnecessary_mut_passed)]
 pub mod lu;
 pub mod lu_families;
+pub mod memory;
 pub mod night;
 pub mod plan;
 pub mod rng;

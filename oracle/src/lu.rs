@@ -66,7 +66,24 @@ impl LUFactors {
             uidx: uidx.to_vec(),
             uval: uval.to_vec(),
             udiag: self.upper.diag.clone().unwrap_or_default(),
+            col_order: self.col_perm.as_ref().map(|perm| perm.new2orig.clone()),
         })
+    }
+
+    // ours: and a call goes on with it.
+    pub fn of_factor(factor: &Factor) -> LUFactors {
+        let size = factor.pivots.len();
+        let triangle = |ptr: &[usize], idx: &[usize], val: &[f64], diag| TriangleMat {
+            nondiag: SparseMat::from_parts(size, ptr.to_vec(), idx.to_vec(), val.to_vec()),
+            diag,
+        };
+        let diag = Some(factor.udiag.clone());
+        LUFactors {
+            lower: triangle(&factor.lptr, &factor.lidx, &factor.lval, None),
+            upper: triangle(&factor.uptr, &factor.uidx, &factor.uval, diag),
+            row_perm: Some(Perm::of_new2orig(factor.pivots.clone())),
+            col_perm: factor.col_order.clone().map(Perm::of_new2orig),
+        }
     }
 
     pub fn nnz(&self) -> usize {

@@ -23,6 +23,30 @@ pub struct Plan {
     pub room: Option<[u64; 3]>,
     /// Lengths of arrays of the state or the store.
     pub short: Vec<(Lent, u64)>,
+    /// What comes after the run, in order.
+    pub calls: Vec<Call>,
+}
+
+/// A call over the memory that the one before it left, or a lent cell written between calls.
+#[derive(Clone, Debug, PartialEq)]
+pub enum Call {
+    Fix {
+        column: u64,
+        value: f64,
+    },
+    Unfix {
+        column: u64,
+    },
+    /// The plan's costs are these from here on.
+    Reprice {
+        cost: Vec<f64>,
+    },
+    /// A double by its bits. The index is below the section's cells.
+    Poke {
+        lent: Lent,
+        index: usize,
+        bits: u64,
+    },
 }
 
 /// The lent arrays of the state and the store, under the exchange text's names.
@@ -118,6 +142,23 @@ impl Lent {
                 .into_iter()
                 .chain(Lent::ARRAYS)
                 .find(|lent| lent.name() == name),
+        }
+    }
+
+    /// By the name that a poke has for it: its own but for four.
+    pub fn poked(name: &str) -> Option<Lent> {
+        let all = Lent::ALL.into_iter().chain(Lent::ARRAYS);
+        let mut pokable = all.filter(|lent| !matches!(lent, Lent::Numbers | Lent::Doubles));
+        pokable.find(|lent| lent.poke_name() == name)
+    }
+
+    pub fn poke_name(self) -> &'static str {
+        match self {
+            Lent::Where => "states",
+            Lent::Obj => "objective",
+            Lent::FactorNumbers => "fnum",
+            Lent::FactorCoeffs => "fval",
+            _ => self.name(),
         }
     }
 

@@ -1,11 +1,9 @@
-//! The switches of `--shown`, and the shown parts that only they run: lu_factorize, order_simple
-//! and recalc_obj_coeffs. From minilp 0.2.2, src/lu.rs, src/ordering.rs and src/solver.rs,
-//! Apache-2.0, changed: logging and the count of the queue's columns are left out, an assert
-//! became an error.
+//! The switches of `--shown`, and the shown parts that only they run: lu_factorize and order_simple.
+//! From minilp 0.2.2, src/lu.rs and src/ordering.rs, Apache-2.0, changed: logging and the count of
+//! the queue's columns are left out, an assert became an error.
 
 use crate::{
     lu::{LUFactors, ScratchSpace},
-    solver::Solver,
     sparse::{Error, Perm, SparseMat, TriangleMat},
 };
 
@@ -41,10 +39,13 @@ pub enum Correction {
     /// 02, Ask 8, ours: primal steps come after the dual ones too. The shown initial_solve takes them
     /// only where the start wasn't dual feasible.
     AfterDual,
+    /// 02, Ask 9, ours: where a basic column is fixed at the value it has, no bound is in the way. The
+    /// shown choose_entering_col_dual takes it for a fall of the column.
+    StillFix,
 }
 
 impl Correction {
-    pub const ALL: [Correction; 11] = [
+    pub const ALL: [Correction; 12] = [
         Correction::InfiniteRow,
         Correction::StaleHelper,
         Correction::NanBounds,
@@ -56,6 +57,7 @@ impl Correction {
         Correction::Acceptance,
         Correction::Wild,
         Correction::AfterDual,
+        Correction::StillFix,
     ];
 
     pub fn name(self) -> &'static str {
@@ -71,6 +73,7 @@ impl Correction {
             Correction::Acceptance => "acceptance",
             Correction::Wild => "wild",
             Correction::AfterDual => "after-dual",
+            Correction::StillFix => "still-fix",
         }
     }
 }
@@ -279,42 +282,6 @@ pub fn lu_factorize<'a>(
     };
 
     Ok(res)
-}
-
-impl Solver {
-    /// The sum's start is the caller's: 0.0, or the -0.0 of Rust's sum().
-    pub(crate) fn recalc_obj_coeffs(&mut self, sum_start: f64) {
-        // Only called at the start, where there are no eta matrices to reset.
-        let multipliers = {
-            let mut rhs = vec![0.0; self.num_constraints()];
-            for (c, &var) in self.basic_vars.iter().enumerate() {
-                rhs[c] = self.orig_obj_coeffs[var];
-            }
-            self.basis_solver
-                .lu_factors_transp
-                .solve_dense(&mut rhs, &mut self.basis_solver.scratch);
-            rhs
-        };
-
-        self.nb_var_obj_coeffs.clear();
-        for &var in &self.nb_vars {
-            let col = self.orig_constraints_csc.outer_view(var).unwrap();
-            let dot_prod: f64 = col
-                .iter()
-                .map(|(r, val)| val * multipliers[r])
-                .fold(sum_start, |sum, prod| sum + prod);
-            self.nb_var_obj_coeffs
-                .push(self.orig_obj_coeffs[var] - dot_prod);
-        }
-
-        self.cur_obj_val = 0.0;
-        for (r, &var) in self.basic_vars.iter().enumerate() {
-            self.cur_obj_val += self.orig_obj_coeffs[var] * self.basic_var_vals[r];
-        }
-        for (c, &var) in self.nb_vars.iter().enumerate() {
-            self.cur_obj_val += self.orig_obj_coeffs[var] * self.nb_var_vals[c];
-        }
-    }
 }
 
 /// Simplest preordering: order columns based on their size

@@ -1,7 +1,8 @@
 //! From minilp 0.2.2, src/solver.rs, Apache-2.0, changed: the rules and corrections of document 01,
 //! and of 02 where it says so, are put in, each marked `// ours:` with their words. Left out: the
-//! artificial objective, fix_var and unfix_var, add_constraint, Gomory cuts, logging and the parts
-//! that only these use. The shown lu_factorize and recalc_obj_coeffs stand in shown.rs.
+//! artificial objective, add_constraint, Gomory cuts, logging and the parts that only these use. The
+//! shown lu_factorize stands in shown.rs, fix_var and unfix_var in fix.rs, recalc_obj_coeffs in
+//! reprice.rs.
 
 use crate::{
     answer::{Named, Outcome, Rejected, StartNumber, State},
@@ -14,6 +15,8 @@ use crate::{
 };
 
 pub mod etas;
+mod fix;
+mod reprice;
 
 // ours: "EPS is the double nearest 1e-8".
 const EPS: f64 = 1e-8;
@@ -83,6 +86,23 @@ enum VarState {
 struct NonBasicVarState {
     at_min: bool,
     at_max: bool,
+    // ours: "The fixed mark joins NonBasicVarState"; the shown text has nb_var_is_fixed beside it.
+    fixed: bool,
+}
+
+impl NonBasicVarState {
+    // ours: "flags cell 1 * at_min + 2 * at_max + 4 * fixed".
+    fn to_flags(&self) -> u8 {
+        u8::from(self.at_min) + 2 * u8::from(self.at_max) + 4 * u8::from(self.fixed)
+    }
+
+    fn of_flags(cell: u8) -> NonBasicVarState {
+        NonBasicVarState {
+            at_min: cell & 1 != 0,
+            at_max: cell & 2 != 0,
+            fixed: cell & 4 != 0,
+        }
+    }
 }
 
 impl Solver {
@@ -167,6 +187,7 @@ impl Solver {
             nb_var_states.push(NonBasicVarState {
                 at_min: init_val == min,
                 at_max: init_val == max,
+                fixed: false,
             });
         }
 
@@ -277,25 +298,6 @@ impl Solver {
 
         let cur_obj_val = obj_val;
 
-        // ours: 6: "a start value, objective sum or start norm isn't finite". The lowest number
-        // that applies is given, so 6 is settled for the whole plan before 7.
-        let is_finite = |val: &f64| val.is_finite();
-        if !nb_var_vals.iter().all(is_finite) || !basic_var_vals.iter().all(is_finite) {
-            return Err(Outcome::StartNotFinite(StartNumber::Value));
-        }
-        if !cur_obj_val.is_finite() {
-            return Err(Outcome::StartNotFinite(StartNumber::Objective));
-        }
-        if !primal_edge_sq_norms.iter().all(is_finite) {
-            return Err(Outcome::StartNotFinite(StartNumber::Norm));
-        }
-
-        // ours: 7: "a slack starts outside its bounds, no tolerance". 02: "exactly when a slack is
-        // outside and the start isn't dual feasible".
-        if !is_primal_feasible && !is_dual_feasible {
-            return Err(Outcome::SlackOutside);
-        }
-
         let scratch = ScratchSpace::with_capacity(num_constraints);
         // ours: "The first factor is the identity."
         let lu_factors = LUFactors::identity(num_constraints);
@@ -345,6 +347,34 @@ impl Solver {
         };
 
         Ok(res)
+    }
+
+    // ours: 6 and 7, which "are about a start": fix and unfix don't give them.
+    pub fn refuse_start(&self) -> Result<(), Outcome> {
+        // ours: 6: "a start value, objective sum or start norm isn't finite". The lowest number
+        // that applies is given, so 6 is settled for the whole plan before 7.
+        let is_finite = |val: &f64| val.is_finite();
+        if !self.nb_var_vals.iter().all(is_finite) || !self.basic_var_vals.iter().all(is_finite) {
+            return Err(Outcome::StartNotFinite(StartNumber::Value));
+        }
+        if !self.cur_obj_val.is_finite() {
+            return Err(Outcome::StartNotFinite(StartNumber::Objective));
+        }
+        if !self.primal_edge_sq_norms.iter().all(is_finite) {
+            return Err(Outcome::StartNotFinite(StartNumber::Norm));
+        }
+
+        // ours: 7: "a slack starts outside its bounds, no tolerance". 02: "exactly when a slack is
+        // outside and the start isn't dual feasible".
+        if !self.is_primal_feasible && !self.is_dual_feasible {
+            return Err(Outcome::SlackOutside);
+        }
+        Ok(())
+    }
+
+    /// The plan's numbers of its kept rows.
+    pub fn kept_rows(&self) -> &[usize] {
+        &self.kept_rows
     }
 
     // ours: "get_value's reference a value".
@@ -398,28 +428,7 @@ impl Solver {
     fn restore_feasibility(&mut self) -> Result<(), Outcome> {
         loop {
             if let Some((row, leaving_new_val)) = self.choose_pivot_row_dual() {
-                // ours: 21, where a row would leave. 02: "Budget, store, 23 and the final check apply
-                // as for primal steps".
-                if self.steps >= self.budget {
-                    return Err(Outcome::Spent);
-                }
-
-                self.calc_row_coeffs(row);
-                // ours: "Column, row and helper entries ... must be finite, else 23".
-                for (_, &coeff) in self.row_coeffs.iter() {
-                    check_finite(Named::Row, coeff)?;
-                }
-
-                let pivot_info = self.choose_entering_col_dual(row, leaving_new_val)?;
-                self.calc_col_coeffs(pivot_info.col);
-                // ours: as above.
-                for (_, &coeff) in self.col_coeffs.iter() {
-                    check_finite(Named::Column, coeff)?;
-                }
-
-                self.touch_pivot(row, pivot_info.col);
-                self.take_step(&pivot_info)?;
-                self.dual_steps += 1;
+                self.dual_step(row, leaving_new_val)?;
             } else {
                 break;
             }
@@ -427,6 +436,34 @@ impl Solver {
 
         self.is_primal_feasible = true;
         Ok(())
+    }
+
+    // ours: what restore_feasibility and fix_var share: all of a dual step but the choice of its row.
+    // The result is the entering place.
+    fn dual_step(&mut self, row: usize, leaving_new_val: f64) -> Result<usize, Outcome> {
+        // ours: 21, where a row would leave. 02: "Budget, store, 23 and the final check apply
+        // as for primal steps".
+        if self.steps >= self.budget {
+            return Err(Outcome::Spent);
+        }
+
+        self.calc_row_coeffs(row);
+        // ours: "Column, row and helper entries ... must be finite, else 23".
+        for (_, &coeff) in self.row_coeffs.iter() {
+            check_finite(Named::Row, coeff)?;
+        }
+
+        let pivot_info = self.choose_entering_col_dual(row, leaving_new_val)?;
+        self.calc_col_coeffs(pivot_info.col);
+        // ours: as above.
+        for (_, &coeff) in self.col_coeffs.iter() {
+            check_finite(Named::Column, coeff)?;
+        }
+
+        self.touch_pivot(row, pivot_info.col);
+        self.take_step(&pivot_info)?;
+        self.dual_steps += 1;
+        Ok(pivot_info.col)
     }
 
     // ours: "20 to 24 leave the values array alone; the workspace then holds the state after the last
@@ -767,7 +804,16 @@ impl Solver {
             obj_coeff
         }
 
+        // ours: where fix_var's "value equals the basic value there is no move, so no bound is in the
+        // way: every column with a coefficient of size at least EPS and no fixed mark is eligible".
+        let is_still = leaving_new_val == self.basic_var_vals[row]
+            && !self.options.shows(Correction::StillFix);
+
         let is_eligible_var = |coeff: f64, var_state: &NonBasicVarState| -> bool {
+            if is_still {
+                return coeff.abs() >= EPS && !var_state.fixed;
+            }
+
             let entering_diff_sign = if coeff >= EPS {
                 !leaving_diff_sign
             } else if coeff <= -EPS {
@@ -1201,7 +1247,7 @@ impl Solver {
             flags: self
                 .nb_var_states
                 .iter()
-                .map(|state| u8::from(state.at_min) + 2 * u8::from(state.at_max))
+                .map(NonBasicVarState::to_flags)
                 .collect(),
             etarow: eta_matrices.leaving_rows.clone(),
             etaptr: etaptr.to_vec(),

@@ -146,6 +146,21 @@ impl SparseMat {
         }
     }
 
+    // ours: a call goes on with the lists that a run left.
+    pub(crate) fn from_parts(
+        n_rows: usize,
+        indptr: Vec<usize>,
+        indices: Vec<usize>,
+        data: Vec<f64>,
+    ) -> SparseMat {
+        SparseMat {
+            n_rows,
+            indptr,
+            indices,
+            data,
+        }
+    }
+
     pub(crate) fn rows(&self) -> usize {
         self.n_rows
     }
@@ -258,6 +273,17 @@ pub(crate) struct TriangleMat {
     pub(crate) nondiag: SparseMat,
     /// Diag elements, None means all 1's
     pub(crate) diag: Option<Vec<f64>>,
+}
+
+impl Perm {
+    // ours: from the original place of each new one.
+    pub(crate) fn of_new2orig(new2orig: Vec<usize>) -> Perm {
+        let mut orig2new = vec![0; new2orig.len()];
+        for (new, &orig) in new2orig.iter().enumerate() {
+            orig2new[orig] = new;
+        }
+        Perm { orig2new, new2orig }
+    }
 }
 
 impl TriangleMat {

@@ -3,13 +3,14 @@
 use std::io::Cursor;
 
 use oracle::answer::{Answer, Outcome, State};
+use oracle::call_families;
 use oracle::exchange::{answer_line, factors_answer_line, tri_answer_line, Extras, Item, Reader};
 use oracle::families;
 use oracle::fresh;
 use oracle::gate;
 use oracle::lu_families;
 use oracle::night;
-use oracle::plan::Plan;
+use oracle::plan::{Call, Plan};
 use oracle::shown::{Correction, Options};
 use oracle::tri::{self, Factors, Tri};
 
@@ -519,6 +520,10 @@ fn texts_come_back_as_they_were() {
         let text = plan.to_string();
         assert_eq!(plans(&text)[0].to_string(), text);
     });
+    call_families::make(7, &mut |plan| {
+        let text = plan.to_string();
+        assert_eq!(plans(&text)[0].to_string(), text);
+    });
     for text in [
         include_str!("../fixed-tri.txt"),
         include_str!("../fixed-lu.txt"),
@@ -562,6 +567,11 @@ fn malformed_text_is_an_error() {
         "plan a\nstarts 18446744073709551616\nend",
         "plan a\nshort nothing 1\nend",
         "plan a\nwhat 1\nend",
+        "plan a\nfix 0\nend",
+        "plan a\nunfix\nend",
+        "plan a\npoke basic 96 0\nend",
+        "plan a\npoke bval 0 1\nend",
+        "plan a\npoke numbers 0 0\nend",
         "tri a middle 1 0\nend",
         "lu a 1 0\nend",
         "lu a 1 0 0\nstarts 0 0\nend",
@@ -571,6 +581,169 @@ fn malformed_text_is_an_error() {
         let first = Reader::new(Cursor::new(text)).next();
         assert!(matches!(first, Some(Err(_))), "{}", text);
     }
+}
+
+/// The plan's calls with their answers, the run's first and without a call. A poke has none.
+fn called(plan: &Plan) -> Vec<(Option<Call>, Answer)> {
+    let is_call = |call: &&Call| !matches!(call, Call::Poke { .. });
+    let calls = plan.calls.iter().filter(is_call).cloned().map(Some);
+    let answers = gate::answers(plan, Options::default());
+    std::iter::once(None).chain(calls).zip(answers).collect()
+}
+
+/// The plan in which each marked column has no other value than the one it is held at.
+fn narrowed(plan: &Plan, state: &State) -> Plan {
+    let mut narrowed = plan.clone();
+    for (place, &var) in state.nonbasic.iter().enumerate() {
+        if state.flags[place] == 7 && var < plan.columns as usize {
+            narrowed.lower[var] = state.nval[place];
+            narrowed.upper[var] = state.nval[place];
+        }
+    }
+    narrowed
+}
+
+/// A fixed column has its value, bit for bit, through later calls, and what is found is what a run over
+/// the plan finds whose bounds say the same; a 26 is one there too, or the run is refused (7). Left out is
+/// a fix of a basic column a rounding beside its value, which gets 26 where no place allows the move.
+#[test]
+fn a_fix_is_a_narrowed_plan() {
+    let (mut held, mut optimal, mut infeasible) = (0, 0, 0);
+    call_families::make(3, &mut |plan| {
+        let is_poked = plan
+            .calls
+            .iter()
+            .any(|call| matches!(call, Call::Poke { .. }));
+        if is_poked || plan.id.starts_with("reprice") || plan.id.starts_with("call-huge") {
+            return;
+        }
+        let mut before: Option<State> = None;
+        for (call, answer) in called(&plan) {
+            let Some(state) = answer.state else { continue };
+            if let (Some(Call::Fix { column, value }), Outcome::Optimal) = (&call, answer.outcome) {
+                let found = answer.values[*column as usize];
+                assert_eq!(found.to_bits(), value.to_bits(), "{}", plan.id);
+                held += 1;
+            }
+            let mut narrow = narrowed(&plan, &state);
+            let mut is_beside = false;
+            if let (Some(Call::Fix { column, value }), Some(before)) = (&call, &before) {
+                let column = *column as usize;
+                narrow.lower[column] = *value;
+                narrow.upper[column] = *value;
+                let row = before.basic.iter().position(|&var| var == column);
+                is_beside = row.is_some_and(|row| (before.bval[row] - value).abs() < 1e-8);
+            }
+            let fresh = gate::solve(&narrow, Options::default());
+            match (answer.outcome, fresh.outcome) {
+                (Outcome::Optimal, Outcome::Optimal) => {
+                    let size = 1.0 + fresh.objective.abs();
+                    let apart = (answer.objective - fresh.objective).abs();
+                    assert!(apart <= 1e-6 * size, "{}", plan.id);
+                    optimal += 1;
+                }
+                (Outcome::Infeasible { .. }, number) if !is_beside => {
+                    let alike = matches!(number.number(), 7 | 26);
+                    assert!(alike, "{} {:?}", plan.id, number);
+                    infeasible += 1;
+                }
+                _ => {}
+            }
+            before = Some(state);
+        }
+    });
+    assert!(held > 4_000 && optimal > 5_000 && infeasible > 1_000);
+}
+
+/// A refused call carries nothing, and the calls after it are answered as if it hadn't been made.
+#[test]
+fn a_refused_call_changes_nothing() {
+    let mut left_out = 0;
+    call_families::make(4, &mut |plan| {
+        if plan
+            .calls
+            .iter()
+            .any(|call| matches!(call, Call::Poke { .. } | Call::Reprice { .. }))
+        {
+            return;
+        }
+        let all = called(&plan);
+        let stays = |answer: &Answer| !matches!(answer.outcome.number(), 41..=44);
+        let mut fewer = plan.clone();
+        fewer.calls = vec![];
+        for (call, answer) in &all {
+            match call {
+                Some(call) if stays(answer) => fewer.calls.push(call.clone()),
+                Some(_) => {
+                    assert_eq!(answer.objective.to_bits(), 0);
+                    assert!(answer.steps == 0 && answer.state.is_none());
+                    assert!(answer.values.is_empty());
+                    left_out += 1;
+                }
+                None => {}
+            }
+        }
+        let kept = all.iter().filter(|(_, answer)| stays(answer));
+        let kept: Vec<String> = kept
+            .map(|(_, answer)| answer_line("", answer, ALL))
+            .collect();
+        let again: Vec<String> = called(&fewer)
+            .iter()
+            .map(|(_, answer)| answer_line("", answer, ALL))
+            .collect();
+        assert_eq!(kept, again);
+    });
+    assert!(left_out > 2_000);
+}
+
+/// Ask 9: "what an Optimal run leaves is never 41", and what another run leaves is.
+#[test]
+fn only_an_optimal_run_goes_on() {
+    let wanted = |family: &str| ["plain", "dropped", "dual", "refactor"].contains(&family);
+    let (mut optimal, mut others) = (0, 0);
+    families::make(8, &wanted, &mut |mut plan| {
+        if plan.columns == 0 {
+            return;
+        }
+        plan.calls = vec![Call::Unfix { column: 0 }];
+        let answers = gate::answers(&plan, Options::default());
+        let numbers = (answers[0].outcome.number(), answers[1].outcome.number());
+        match numbers {
+            (0, number) => {
+                assert_eq!(number, 44, "{}", plan.id);
+                optimal += 1;
+            }
+            (first @ 1..=5, number) => assert_eq!(first, number, "{}", plan.id),
+            (_, number) => {
+                assert_eq!(number, 41, "{}", plan.id);
+                others += 1;
+            }
+        }
+    });
+    assert!(optimal > 1_000 && others > 1_000);
+}
+
+/// Where no column is held, a repricing finds what a run over the plan with the new costs finds.
+#[test]
+fn a_reprice_is_a_run_with_the_new_costs() {
+    let mut compared = 0;
+    call_families::make(5, &mut |plan| {
+        for (call, answer) in called(&plan) {
+            let (Some(Call::Reprice { cost }), Some(state)) = (call, &answer.state) else {
+                continue;
+            };
+            let mut fresh = narrowed(&plan, state);
+            fresh.cost = cost;
+            let fresh = gate::solve(&fresh, Options::default());
+            if answer.outcome == Outcome::Optimal && fresh.outcome == Outcome::Optimal {
+                let size = 1.0 + fresh.objective.abs();
+                let apart = (answer.objective - fresh.objective).abs();
+                assert!(apart <= 1e-6 * size, "{}", plan.id);
+                compared += 1;
+            }
+        }
+    });
+    assert!(compared > 500);
 }
 
 fn triangle(upper: bool, columns: &[&[(u64, f64)]], list: &[(u64, f64)]) -> Tri {

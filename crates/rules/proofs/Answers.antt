@@ -23,7 +23,7 @@ use Rattle.rules.specs.Kinds.{Kind, dual, primal, firstKind, kindAfter, 
 use Rattle.rules.specs.FinalCheck.{valuesOf, finalCheck}
 use Rattle.rules.specs.Answers.{Row as Told, asRow, numberOf}
 use Rattle.rules.specs.Solve.{Solved, checkedAnswer, answerOf, valuesAfter, memoryAfter, close, endOf, solvePlan}
-use Rattle.rules.specs.Conditions.{NoneBelow, Checks, AllSound, StopsWith, DualStopsWith, Halts, DualHalts, reached, Passes, Ends, Line, optimal, unbounded, spent, singular, infeasible, not-finite, value-rejected, row-rejected}
+use Rattle.rules.specs.Conditions.{NoneBelow, Checks, AllSound, StopsWith, DualStopsBy, Halts, DualHalts, reached, Passes, Ends, Line, optimal, unbounded, spent, singular, infeasible, not-finite, value-rejected, row-rejected}
 use Rattle.rules.specs.Steps.{Steps, none, one-dual, turns, one-more, Reached, RunsTo}
 use Rattle.rules.proofs.Refusals.{Case, refused, accepted, cases, none-refused}
 use Rattle.rules.proofs.Lengths.{tolerance-fits}
@@ -109,7 +109,7 @@ module _ (P : Problem) where
 
   dual-halted : (s : State) (l : LeavingVar) → chooseRow P (s .ws) ≡ Leaves l → s .steps < P .plan .budget → (w : Stop) → dualStep P s l ≡ stopped w
       → Ends P dual s w
-  unfolding Ends DualStopsWith
+  unfolding Ends DualStopsBy
   dual-halted s l q h Finished r = absurd (dual-stops-exactly P s l Finished .0 r)
   dual-halted s l q h Stop·Spent r = absurd (dual-stops-exactly P s l Stop·Spent .0 r)
   dual-halted s l q h Stop·Unbounded r = absurd (dual-stops-exactly P s l Stop·Unbounded .0 r)

@@ -28,12 +28,12 @@ use Rattle.doubles.proofs.Once.{written-once}
 use Rattle.doubles.proofs.Largest.{Best, kept, took, best, by-below}
 use Rattle.sparse.specs.Scattered.{Sv, listed, listedVal}
 use Rattle.sparse.proofs.Laws.{marked-listed}
-use Rattle.rules.specs.Plan.{Workspace, flagsOf}
+use Rattle.rules.specs.Plan.{Workspace, flagsOf, held}
 use Rattle.rules.specs.Invariant.{Vector}
 use Rattle.rules.specs.Ratio.{Leaving}
 use Rattle.rules.specs.Choices.{sizeAt}
-use Rattle.rules.specs.DualRatio.{leavingRises, mayMove, eligible, clamped, eligibleAt, priceAt, dualRelaxed, dualStepTo, dualSoundAt, dualSound, dualPassOneTurn, dualPassOne, dualCandidate, dualPassTwoTurn, dualPassTwo, dualExchangeOf, dualRatio}
-use Rattle.rules.specs.DualChoices.{entersUp, FreeTo, Clamped, EligibleColumn, Eligible, NoneEligible, NoColumn, DualPassOne, DualUnsound, bad-quotient, bad-step, DualSound, EntersBy, DualGives, not-finite, nothing, exchanges}
+use Rattle.rules.specs.DualRatio.{leavingRises, mayMove, eligible, eligibleStill, clamped, eligibleAt, priceAt, dualRelaxed, dualStepTo, dualSoundAt, dualSound, dualPassOneTurn, dualPassOne, dualCandidate, dualPassTwoTurn, dualPassTwo, dualExchangeOf, dualRatioBy, dualRatio}
+use Rattle.rules.specs.DualChoices.{entersUp, FreeTo, Clamped, EligibleBy, EligibleUnmoved, ColumnSays, Eligible, NoneEligible, NoColumn, DualPassOne, DualUnsound, bad-quotient, bad-step, DualSound, EntersBy, DualGivesBy, DualGives, not-finite, nothing, exchanges}
 use Rattle.rules.specs.declared.NonBasicVarState.{NonBasicVarState}
 use Rattle.rules.specs.declared.LeavingVar.{LeavingVar}
 use Rattle.rules.specs.declared.DualRatio.{DualRatio}
@@ -104,22 +104,37 @@ free-means false f =
     (λ h. record { not-upper = λ q. absurd (not-both q refl); not-lower = λ _. not-true _ h }, λ x. rw (x .not-lower refl))
 
 -- 02: it "has a row coefficient of size at least EPS and isn't already at the bound in the way of the move"
-pub eligible-means : (up : Bool) (f : NonBasicVarState) (a : Float)
-    → eligible up f a ≡ true ↔ ((le eps (size a) ≡ true) × FreeTo (entersUp up a) f)
+pub eligible-means : (up : Bool) (f : NonBasicVarState) (a : Float) → eligible up f a ≡ true ↔ EligibleBy up f a
 unfolding eligible
 eligible-means up f a = (
   λ h. ⊎-elim
-      (λ b. (eps-sides a .1 (inl (b .0)), subst (λ u. FreeTo u f) (sym (ways up a .0 (b .0))) (b .1)))
-      (λ b. (eps-sides a .1 (inr (b .0)), subst (λ u. FreeTo u f) (sym (ways up a .1 (b .0))) (b .1)))
+      (λ b. record { of-size = eps-sides a .1 (inl (b .0)); free = subst (λ u. FreeTo u f) (sym (ways up a .0 (b .0))) (b .1) })
+      (λ b. record { of-size = eps-sides a .1 (inr (b .0)); free = subst (λ u. FreeTo u f) (sym (ways up a .1 (b .0))) (b .1) })
       (e .0 h),
   λ h. e .1 (⊎-elim
-      (λ s. inl (s, subst (λ u. FreeTo u f) (ways up a .0 s) (h .1)))
-      (λ s. inr (s, subst (λ u. FreeTo u f) (ways up a .1 s) (h .1)))
-      (eps-sides a .0 (h .0))),
+      (λ s. inl (s, subst (λ u. FreeTo u f) (ways up a .0 s) (h .free)))
+      (λ s. inr (s, subst (λ u. FreeTo u f) (ways up a .1 s) (h .free)))
+      (eps-sides a .0 (h .of-size))),
 )
   where
     e : eligible up f a ≡ true ↔ (((le eps a ≡ true) × FreeTo (not up) f) ⊎ ((le a (neg eps) ≡ true) × FreeTo up f))
     e = (itself both free-means (not up) f) either (itself both free-means up f)
+
+-- Ask 9: "every column with a coefficient of size at least EPS and no fixed mark is eligible"
+pub still-means : (f : NonBasicVarState) (a : Float) → eligibleStill f a ≡ true ↔ EligibleUnmoved f a
+unfolding eligibleStill
+still-means f a =
+    let e : (le eps (size a) && not (f .«fixed»)) ≡ true ↔ ((le eps (size a) ≡ true) × (f .«fixed» ≡ false)) =
+    itself both (not-true _, λ q. rw q) in
+    (λ h. record { of-size = e .0 h .0; not-fixed = e .0 h .1 }, λ x. e .1 (x .of-size, x .not-fixed))
+
+-- and a fixed one never is, in either way or where nothing moves
+pub held-not-eligible : (up : Bool) (a : Float) → (eligible up held a ≡ false) × (eligibleStill held a ≡ false)
+held-not-eligible up a = (false-by (λ h. go (entersUp up a) (eligible-means up held a .0 h .free)), false-by (λ h. not-both refl (still-means held a .0 h .not-fixed)))
+  where
+    go : (rises : Bool) → FreeTo rises held → ⊥
+    go true x = not-both refl (x .not-upper refl)
+    go false x = not-both refl (x .not-lower refl)
 
 -- ---- a double minus 0.0 is itself
 
@@ -236,165 +251,172 @@ settles-size nan a t h = absurd (not-both h refl)
 settles-size (inf s) a t h = under (inf false) eps a refl tt eps-sign h
 settles-size (fin s m e) a t h = under (fin false m e) eps a refl (size-double (fin s m e) t) eps-sign h
 
-module _ (w : Workspace) (up : Bool) (r : Sv) where
-  -- ---- the test of the quotients
+-- ---- the test of the quotients
+module _ (w : Workspace) (r : Sv) where
   abbrev flagsAt : ℕ → NonBasicVarState
   flagsAt k = flagsOf (w .flags # listed r k)
 
-  looked-means : (k : ℕ) → eligibleAt w up r k ≡ true ↔ Eligible w up r k
-  looked-means k =
-      let e = eligible-means up (flagsAt k) (listedVal r k) in
-      (λ h. record { of-size = e .0 h .0; free = e .0 h .1 }, λ x. e .1 (x .of-size, x .free))
-
-  dual-settles : (k : ℕ) → finite (dualRelaxed w up r k) ≡ true → Under (priceAt w up r k) eps (sizeAt r k)
+  dual-settles : (k : ℕ) → finite (dualRelaxed w r k) ≡ true → Under (priceAt w r k) eps (sizeAt r k)
   dual-settles k h = settles-size (clamped (flagsAt k) (w .prices ! listed r k)) (listedVal r k) (clamped-double (flagsAt k) (w .prices ! listed r k)) h
 
   -- "A quotient of an eligible column that isn't finite: 23": pass one's quotient alone settles it
-  pub dual-one-test : (k : ℕ) → dualSoundAt w up r k ≡ not (eligibleAt w up r k) || finite (dualRelaxed w up r k)
-  dual-one-test k =
-      settles (not (eligibleAt w up r k)) true (finite (dualRelaxed w up r k)) (finite (dualStepTo w up r k))
+  pub dual-one-test : (test : NonBasicVarState → Float → Bool) (k : ℕ) → dualSoundAt w test r k ≡ not (eligibleAt w test r k) || finite (dualRelaxed w r k)
+  dual-one-test test k =
+      settles (not (eligibleAt w test r k)) true (finite (dualRelaxed w r k)) (finite (dualStepTo w r k))
       (λ h. (refl, dual-settles k h .finite-too))
 
-  fails-at : (k : ℕ) → dualSoundAt w up r k ≡ false ↔ (Eligible w up r k × (finite (dualRelaxed w up r k) ≡ false))
+-- over the columns that a test lets in, by what it says of one
+module _ (w : Workspace) {test : NonBasicVarState → Float → Bool} {Says : NonBasicVarState → Float → Type 0}
+    (means : (f : NonBasicVarState) (a : Float) → test f a ≡ true ↔ Says f a) (r : Sv) where
+  looked-means : (k : ℕ) → eligibleAt w test r k ≡ true ↔ Eligible w Says r k
+  looked-means k = means (flagsOf (w .flags # listed r k)) (listedVal r k)
+
+  fails-at : (k : ℕ) → dualSoundAt w test r k ≡ false ↔ (Eligible w Says r k × (finite (dualRelaxed w r k) ≡ false))
   fails-at k =
       let e = turned (looked-means k) neither itself in
-      (λ h. e .0 (sym (dual-one-test k) ∙ h), λ x. dual-one-test k ∙ e .1 x)
+      (λ h. e .0 (sym (dual-one-test w r test k) ∙ h), λ x. dual-one-test w r test k ∙ e .1 x)
 
-  unsound-exactly : dualSound w up r ≡ false ↔ DualUnsound w up r
+  unsound-exactly : dualSound w test r ≡ false ↔ DualUnsound w Says r
   unfolding dualSound
   unsound-exactly = (λ h. let k = e .0 h in bad-quotient (k .0) (k .1) (k .2 .0) (k .2 .1), back)
     where
-      e : dualSound w up r ≡ false ↔ ((k : ℕ) × (k < r .pat .count) × (Eligible w up r k × (finite (dualRelaxed w up r k) ≡ false)))
+      e : dualSound w test r ≡ false ↔ ((k : ℕ) × (k < r .pat .count) × (Eligible w Says r k × (finite (dualRelaxed w r k) ≡ false)))
       e = some-fails (r .pat .count) fails-at
 
-      back : DualUnsound w up r → dualSound w up r ≡ false
+      back : DualUnsound w Says r → dualSound w test r ≡ false
       back (bad-quotient k l x h) = e .1 (k, l, (x, h))
-      back (bad-step k l x h) = e .1 (k, l, (x, false-by (λ f. not-both (dual-settles k f .finite-too) h)))
+      back (bad-step k l x h) = e .1 (k, l, (x, false-by (λ f. not-both (dual-settles w r k f .finite-too) h)))
 
-  sound-by : dualSound w up r ≡ true → DualSound w up r
-  sound-by h = record { quotients = one; steps = λ k l x. dual-settles k (one k l x) .finite-too }
+  sound-by : dualSound w test r ≡ true → DualSound w Says r
+  sound-by h = record { quotients = one; steps = λ k l x. dual-settles w r k (one k l x) .finite-too }
     where
-      one : (k : ℕ) → k < r .pat .count → Eligible w up r k → finite (dualRelaxed w up r k) ≡ true
+      one : (k : ℕ) → k < r .pat .count → Eligible w Says r k → finite (dualRelaxed w r k) ≡ true
       one k l x = true-by (λ f. not-both h (unsound-exactly .1 (bad-quotient k l x f)))
 
-  passes : DualSound w up r → dualSound w up r ≡ true
+  passes : DualSound w Says r → dualSound w test r ≡ true
   passes s = true-by (λ f. never-both (unsound-exactly .0 f))
     where
-      never-both : DualUnsound w up r → ⊥
+      never-both : DualUnsound w Says r → ⊥
       never-both (bad-quotient k l x h) = not-both (s .quotients k l x) h
       never-both (bad-step k l x h) = not-both (s .steps k l x) h
 
   -- ---- pass one
   abbrev most : Float
-  most = dualPassOne w up r
+  most = dualPassOne w test r
 
-  pub dual-pass-one : DualPassOne w up r (dualPassOne w up r)
+  pub dual-pass-one : DualPassOne w Says r (dualPassOne w test r)
   unfolding dualPassOne
-  dual-pass-one = go (dualPassOne w up r) (best by-below (eligibleAt w up r) (dualRelaxed w up r) (λ x. x) (dualRelaxed w up r) (λ k. refl) (dualPassOneTurn w up r) (λ k t. refl) +inf (r .pat .count))
+  dual-pass-one = go (dualPassOne w test r) (best by-below (eligibleAt w test r) (dualRelaxed w r) (λ x. x) (dualRelaxed w r) (λ k. refl) (dualPassOneTurn w test r) (λ k t. refl) +inf (r .pat .count))
     where
-      go : (t : Float) → Best lt lt (eligibleAt w up r) (dualRelaxed w up r) (dualRelaxed w up r) +inf +inf (r .pat .count) t → DualPassOne w up r t
+      go : (t : Float) → Best lt lt (eligibleAt w test r) (dualRelaxed w r) (dualRelaxed w r) +inf +inf (r .pat .count) t → DualPassOne w Says r t
       go _ (kept h) = record { smallest = λ k l x. h k l (looked-means k .1 x); one-of = inl refl }
       go _ (took k l t a h f) =
           record { smallest = λ j m x. h j m (looked-means j .1 x); one-of = inr (k, l, looked-means k .0 t, refl) }
 
   -- ---- pass two
   abbrev near : ℕ → Bool
-  near = dualCandidate w up r most
+  near = dualCandidate w test r most
 
-  near-parts : (k : ℕ) → near k ≡ true → (eligibleAt w up r k ≡ true) × (le (dualStepTo w up r k) most ≡ true)
+  near-parts : (k : ℕ) → near k ≡ true → (eligibleAt w test r k ≡ true) × (le (dualStepTo w r k) most ≡ true)
   unfolding dualCandidate
-  near-parts k h = both-true (eligibleAt w up r k) _ h
+  near-parts k h = both-true (eligibleAt w test r k) _ h
 
-  near-by : (k : ℕ) → Eligible w up r k → le (dualStepTo w up r k) most ≡ true → near k ≡ true
+  near-by : (k : ℕ) → Eligible w Says r k → le (dualStepTo w r k) most ≡ true → near k ≡ true
   unfolding dualCandidate
   near-by k x h = rw (looked-means k .1 x, h)
 
   number : (k : ℕ) → near k ≡ true → lt -inf (sizeAt r k) ≡ true
-  number k t = quotient-number (priceAt w up r k) (listedVal r k) most (near-parts k t .1)
+  number k t = quotient-number (priceAt w r k) (listedVal r k) most (near-parts k t .1)
 
   abbrev best-two : Leaving
-  best-two = dualPassTwo w up r most
+  best-two = dualPassTwo w test r most
 
   left : Left (r .pat .count) near (sizeAt r) number best-two
   unfolding dualPassTwo dualPassTwoTurn
-  left = passed (r .pat .count) near (sizeAt r) number (dualPassTwoTurn w up r most) (λ k b. refl)
+  left = passed (r .pat .count) near (sizeAt r) number (dualPassTwoTurn w test r most) (λ k b. refl)
 
-  enters-exactly : (k : ℕ) → k < r .pat .count → best-two .at ≡ k ↔ EntersBy w up r k
+  enters-exactly : (k : ℕ) → k < r .pat .count → best-two .at ≡ k ↔ EntersBy w test r k
   enters-exactly = wins-exactly (r .pat .count) near (sizeAt r) number left
 
   -- where every quotient is finite, a column that is eligible makes a candidate: the one that gave pass one's step
-  eligible-found : DualSound w up r → ((k : ℕ) → k < r .pat .count → near k ≡ true → ⊥) → NoneEligible w up r
+  eligible-found : DualSound w Says r → ((k : ℕ) → k < r .pat .count → near k ≡ true → ⊥) → NoneEligible w Says r
   eligible-found s n k l x =
       ⊎-elim
-      (λ (q : most ≡ +inf). not-both (finite-below _ (s .quotients k l x)) (subst (λ t. lt (dualRelaxed w up r k) t ≡ false) q (dual-pass-one .smallest k l x)))
+      (λ (q : most ≡ +inf). not-both (finite-below _ (s .quotients k l x)) (subst (λ t. lt (dualRelaxed w r k) t ≡ false) q (dual-pass-one .smallest k l x)))
       (λ j.
       let y = j .2 in
-      n (j .0) (j .1) (near-by (j .0) y (rw (j .3) (dual-settles (j .0) (s .quotients (j .0) (j .1) y) .no-larger))))
+      n (j .0) (j .1) (near-by (j .0) y (rw (j .3) (dual-settles w r (j .0) (s .quotients (j .0) (j .1) y) .no-larger))))
       (dual-pass-one .one-of)
 
-  none-so : NoneEligible w up r → (best-two .at ≡ r .pat .count)
+  none-so : NoneEligible w Says r → (best-two .at ≡ r .pat .count)
   none-so n = none-exactly (r .pat .count) near (sizeAt r) number left .1 (λ k l t. n k l (looked-means k .0 (near-parts k t .0)))
 
-  none-only : DualSound w up r → best-two .at ≡ r .pat .count → NoneEligible w up r
+  none-only : DualSound w Says r → best-two .at ≡ r .pat .count → NoneEligible w Says r
   none-only s q = eligible-found s (none-exactly (r .pat .count) near (sizeAt r) number left .0 q)
 
-  all-sound : NoneEligible w up r → DualSound w up r
+  all-sound : NoneEligible w Says r → DualSound w Says r
   all-sound n = record { quotients = λ k l x. absurd (n k l x); steps = λ k l x. absurd (n k l x) }
 
   up-to : best-two .at ≤ r .pat .count
   up-to = at-most (r .pat .count) near (sizeAt r) number left
 
 -- ---- what the ratio gives
-module _ (w : Workspace) (l : LeavingVar) (r : Sv) where
-  abbrev rises : Bool
-  rises = leavingRises w l
-
+module _ (w : Workspace) (l : LeavingVar) (r : Sv) {test : NonBasicVarState → Float → Bool} {Says : NonBasicVarState → Float → Type 0}
+    (means : (f : NonBasicVarState) (a : Float) → test f a ≡ true ↔ Says f a) where
   abbrev place : ℕ
-  place = dualPassTwo w rises r (dualPassOne w rises r) .at
+  place = dualPassTwo w test r (dualPassOne w test r) .at
 
-  gives : {x : DualRatio} → DualGives w l r x → dualRatio w l r ≡ x
-  unfolding dualRatio dualExchangeOf
-  gives (not-finite u) = rw (unsound-exactly w rises r .1 u, dualRatio)
+  gives : {x : DualRatio} → DualGivesBy w l r test Says x → dualRatioBy test w l r ≡ x
+  unfolding dualRatioBy dualExchangeOf
+  gives (not-finite u) = rw (unsound-exactly w means r .1 u, dualRatioBy)
   gives (nothing n) =
-      let past : ltb place (r .pat .count) ≡ false = le-ltb place (r .pat .count) (omega (arith, none-so w rises r n)) in
-      rw (passes w rises r (all-sound w rises r n), dualRatio, past)
+      let past : ltb place (r .pat .count) ≡ false = le-ltb place (r .pat .count) (omega (arith, none-so w means r n)) in
+      rw (passes w means r (all-sound w means r n), dualRatioBy, past)
   gives (exchanges s k x) =
-      let at : place ≡ k = enters-exactly w rises r k (x .inside) .1 x in
-      rw (passes w rises r s, dualRatio, at, lt-ltb k (r .pat .count) (x .inside), at)
+      let at : place ≡ k = enters-exactly w means r k (x .inside) .1 x in
+      rw (passes w means r s, dualRatioBy, at, lt-ltb k (r .pat .count) (x .inside), at)
 
-  some-outcome : (x : DualRatio) × DualGives w l r x
-  some-outcome = go (dualSound w rises r) refl
+  some-outcome : (x : DualRatio) × DualGivesBy w l r test Says x
+  some-outcome = go (dualSound w test r) refl
     where
-      found : DualSound w rises r → (b : Bool) → ltb place (r .pat .count) ≡ b → (x : DualRatio) × DualGives w l r x
-      found s true h = (_, exchanges s place (enters-exactly w rises r place (ltb-true _ _ h) .0 refl))
-      found s false h = (_, nothing (none-only w rises r s (omega (arith, up-to w rises r, ltb-false place (r .pat .count) h))))
+      found : DualSound w Says r → (b : Bool) → ltb place (r .pat .count) ≡ b → (x : DualRatio) × DualGivesBy w l r test Says x
+      found s true h = (_, exchanges s place (enters-exactly w means r place (ltb-true _ _ h) .0 refl))
+      found s false h = (_, nothing (none-only w means r s (omega (arith, up-to w means r, ltb-false place (r .pat .count) h))))
 
-      go : (b : Bool) → dualSound w rises r ≡ b → (x : DualRatio) × DualGives w l r x
-      go false h = (_, not-finite (unsound-exactly w rises r .0 h))
-      go true h = found (sound-by w rises r h) _ refl
+      go : (b : Bool) → dualSound w test r ≡ b → (x : DualRatio) × DualGivesBy w l r test Says x
+      go false h = (_, not-finite (unsound-exactly w means r .0 h))
+      go true h = found (sound-by w means r h) _ refl
 
-  -- 02: "the entering column is chosen by a two-pass rule like the primal one, on prices"
-  pub dual-ratio-exactly : (x : DualRatio) → dualRatio w l r ≡ x ↔ DualGives w l r x
-  dual-ratio-exactly x = (λ q. subst (DualGives w l r) (sym (gives (some-outcome .1)) ∙ q) (some-outcome .1), gives)
+  pub ratio-exactly : (x : DualRatio) → dualRatioBy test w l r ≡ x ↔ DualGivesBy w l r test Says x
+  ratio-exactly x = (λ q. subst (DualGivesBy w l r test Says) (sym (gives (some-outcome .1)) ∙ q) (some-outcome .1), gives)
 
-  of-26 : DualGives w l r Nothing → NoneEligible w rises r
+  of-26 : DualGivesBy w l r test Says Nothing → NoneEligible w Says r
   of-26 (nothing n) = n
 
   -- "No eligible column: 26"
-  pub infeasible-exactly : dualRatio w l r ≡ Nothing ↔ NoneEligible w (leavingRises w l) r
-  infeasible-exactly = (λ q. of-26 (dual-ratio-exactly Nothing .0 q), λ n. gives (nothing n))
+  pub nothing-exactly : dualRatioBy test w l r ≡ Nothing ↔ NoneEligible w Says r
+  nothing-exactly = (λ q. of-26 (ratio-exactly Nothing .0 q), λ n. gives (nothing n))
+
+-- ---- with a dual step's test
+module _ (w : Workspace) (l : LeavingVar) (r : Sv) where
+  -- 02: "the entering column is chosen by a two-pass rule like the primal one, on prices"
+  pub dual-ratio-exactly : (x : DualRatio) → dualRatio w l r ≡ x ↔ DualGives w l r x
+  dual-ratio-exactly = ratio-exactly w l r (eligible-means (leavingRises w l))
+
+  pub infeasible-exactly : dualRatio w l r ≡ Nothing ↔ NoneEligible w (EligibleBy (leavingRises w l)) r
+  infeasible-exactly = nothing-exactly w l r (eligible-means (leavingRises w l))
 
 -- 02's own words of 26, over the columns: a place that the row doesn't list holds 0.0, which is under EPS
-pub no-column : (n : ℕ) (w : Workspace) (up : Bool) (r : Sv) → n ≤ places → Vector n r → NoneEligible w up r ↔ NoColumn w up r n
+pub no-column : (n : ℕ) (w : Workspace) (up : Bool) (r : Sv) → n ≤ places → Vector n r → NoneEligible w (EligibleBy up) r ↔ NoColumn w up r n
 no-column n w up r h v = (λ f c l x. go f c l x (getD (r .pat .marks) c false) refl, λ f k l. f (listed r k) (v .places-below .below k l))
   where
     small : le eps (size f0) ≡ false
     small = unfold le lt eq size ofBits in refl
 
-    go : NoneEligible w up r → (c : ℕ) → c < n → EligibleColumn w up r c → (b : Bool) → getD (r .pat .marks) c false ≡ b → ⊥
+    go : NoneEligible w (EligibleBy up) r → (c : ℕ) → c < n → ColumnSays w (EligibleBy up) r c → (b : Bool) → getD (r .pat .marks) c false ≡ b → ⊥
     go f c l x true q =
         let k = marked-listed r (v .good) c q in
-        f (k .0) (k .1) (subst (EligibleColumn w up r) (sym (k .2)) x)
+        f (k .0) (k .1) (subst (ColumnSays w (EligibleBy up) r) (sym (k .2)) x)
     go f c l x false q =
         let z : r .vals ! c ≡ f0 = v .good .zeros c (omega arith) q in
         not-both (x .of-size) (subst (λ a. le eps (size a) ≡ false) (sym z) small)

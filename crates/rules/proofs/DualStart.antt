@@ -83,7 +83,7 @@ no-size (fin true m e) a b = le-ltb (0 * 1 * down e) (m * up e * 1) (omega (arit
 -- ---- one column of cost c and these bounds, at its start value x
 module _ (c lo hi : Float) (number : isNan c ≡ false) where
   abbrev flags : Float → NonBasicVarState
-  flags x = record { «at_min» = eq x lo; «at_max» = eq x hi }
+  flags x = record { «at_min» = eq x lo; «at_max» = eq x hi; «fixed» = false }
 
   abbrev Never : Float → Type 0
   Never x = mayEnter (flags x) c ≡ false
@@ -129,7 +129,7 @@ module _ (c lo hi : Float) (number : isNan c ≡ false) where
   start-never d = by-tests (eq lo hi) (infinite lo && infinite hi) (lt f0 c) (lt c f0) refl refl refl d
 
 -- ---- all of them
-flags-back : (a b : Bool) → flagsOf (flagsCell (record { «at_min» = a; «at_max» = b })) ≡ record { «at_min» = a; «at_max» = b }
+flags-back : (a b : Bool) → flagsOf (flagsCell (record { «at_min» = a; «at_max» = b; «fixed» = false })) ≡ record { «at_min» = a; «at_max» = b; «fixed» = false }
 unfolding flagsOf flagsCell
 flags-back false false = refl
 flags-back false true = refl

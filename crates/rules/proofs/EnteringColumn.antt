@@ -12,7 +12,7 @@ use Rattle.doubles.specs.Lists.{_!_, _#_}
 use Rattle.doubles.proofs.Tests.{not-both, false-by}
 use Rattle.doubles.proofs.Order.{lt-number, lt-le-trans, le-total, le-not-lt}
 use Rattle.doubles.proofs.Largest.{Best, kept, took, best, above, atLeast, by-above, only-one}
-use Rattle.rules.specs.Plan.{Problem, Workspace, nOf, flagsOf}
+use Rattle.rules.specs.Plan.{Problem, Workspace, nOf, flagsCell, flagsOf, held}
 use Rattle.rules.specs.Choose.{mayEnter, scoreOf, passesFilter, scoreAt, Best as Column, bestOf, betterTurn, bestColumn, otherVal, enteringOf, choose}
 use Rattle.rules.specs.Choices.{MayEnter, IsEntering, NoneEnters}
 use Rattle.rules.specs.declared.NonBasicVarState.{NonBasicVarState}
@@ -71,6 +71,15 @@ fixed-never f price p a b =
     signs : lt (neg eps) eps ≡ true
     signs = unfold lt neg ofBits in refl
 
+-- 02, Ask 9: "A fixed column never enters"
+pub held-never : (price : Float) → isNan price ≡ false → mayEnter held price ≡ false
+held-never price p = fixed-never held price p refl refl
+
+-- its cell says so
+pub held-cell : flagsOf (flagsCell held) ≡ held
+unfolding flagsOf flagsCell
+held-cell = refl
+
 -- one at neither bound may exactly when its price's size is at least EPS
 pub free-exactly : (f : NonBasicVarState) (price : Float) → isNan price ≡ false → f .«at_min» ≡ false → f .«at_max» ≡ false → mayEnter f price ≡ true ↔ le eps (size price) ≡ true
 free-exactly f price p a b =
@@ -79,10 +88,10 @@ free-exactly f price p a b =
 
 -- a price of exactly EPS in size, with the sign of the move, enters: at the lower bound, at the upper bound, and at
 -- neither in both directions
-pub at-eps-enters : (mayEnter (record { «at_min» = true; «at_max» = false }) (neg eps) ≡ true)
-    × (mayEnter (record { «at_min» = false; «at_max» = true }) eps ≡ true)
-    × (mayEnter (record { «at_min» = false; «at_max» = false }) (neg eps) ≡ true)
-    × (mayEnter (record { «at_min» = false; «at_max» = false }) eps ≡ true)
+pub at-eps-enters : (mayEnter (record { «at_min» = true; «at_max» = false; «fixed» = false }) (neg eps) ≡ true)
+    × (mayEnter (record { «at_min» = false; «at_max» = true; «fixed» = false }) eps ≡ true)
+    × (mayEnter (record { «at_min» = false; «at_max» = false; «fixed» = false }) (neg eps) ≡ true)
+    × (mayEnter (record { «at_min» = false; «at_max» = false; «fixed» = false }) eps ≡ true)
 unfolding mayEnter lt neg size ofBits
 at-eps-enters = (refl, refl, refl, refl)
 

@@ -8,13 +8,13 @@ use Rattle.doubles.specs.Num.{f0}
 use Rattle.rules.specs.Plan.{Plan, Memory, Problem, State, problemOf, nOf}
 use Rattle.rules.specs.Choose.{choose}
 use Rattle.rules.specs.DualRatio.{leavingRises}
-use Rattle.rules.specs.DualChoices.{DualGives, nothing, NoneEligible, NoColumn}
+use Rattle.rules.specs.DualChoices.{EligibleBy, DualGives, nothing, NoneEligible, NoColumn}
 use Rattle.rules.specs.FinalCheck.{valuesOf}
 use Rattle.rules.specs.Kinds.{Kind, dual, primal}
 use Rattle.rules.specs.Answers.{Row as Told, row, nowhere, keptRowAt, asRow}
 use Rattle.rules.specs.Solve.{solvePlan}
 use Rattle.rules.specs.Invariant.{ProblemFits}
-use Rattle.rules.specs.Conditions.{NoneBelow, Checks, DualStopsWith, dualRow, NoEntering, Ends, Line, optimal, unbounded, spent, singular, infeasible, not-finite, value-rejected, row-rejected}
+use Rattle.rules.specs.Conditions.{NoneBelow, Checks, DualStopsBy, dualRow, NoEntering, Ends, Line, optimal, unbounded, spent, singular, infeasible, not-finite, value-rejected, row-rejected}
 use Rattle.rules.specs.Steps.{Steps, none, turns, one-more, TurnsAt, RunsTo}
 use Rattle.rules.specs.declared.LeavingVar.{LeavingVar}
 use Rattle.rules.specs.declared.Choice.the-variants.{Nothing}
@@ -29,15 +29,15 @@ use Rattle.rules.proofs.Answers.{answer-exact}
 
 -- ---- 26
 module _ (P : Problem) (p : ProblemFits P) (s : State) where
-  over-columns : (l : LeavingVar) → NoneEligible (s .ws) (leavingRises (s .ws) l) (dualRow P s l) ↔ NoColumn (s .ws) (leavingRises (s .ws) l) (dualRow P s l) (nOf P)
+  over-columns : (l : LeavingVar) → NoneEligible (s .ws) (EligibleBy (leavingRises (s .ws) l)) (dualRow P s l) ↔ NoColumn (s .ws) (leavingRises (s .ws) l) (dualRow P s l) (nOf P)
   over-columns l = no-column (nOf P) (s .ws) (leavingRises (s .ws) l) (dualRow P s l) (omega (arith, p .plan)) (row-vector P p s (l .row))
 
-  of-nothing : {l : LeavingVar} → DualGives (s .ws) l (dualRow P s l) Dual·Nothing → NoneEligible (s .ws) (leavingRises (s .ws) l) (dualRow P s l)
+  of-nothing : {l : LeavingVar} → DualGives (s .ws) l (dualRow P s l) Dual·Nothing → NoneEligible (s .ws) (EligibleBy (leavingRises (s .ws) l)) (dualRow P s l)
   of-nothing (nothing n) = n
 
   -- a run ends so among its dual steps
   pub infeasible-ends : (r : ℕ) → Ends P dual s (Infeasible r) ↔ NoEntering P s r
-  unfolding Ends DualStopsWith
+  unfolding Ends DualStopsBy
   infeasible-ends r = (
     λ h.
         let l = h .0 in

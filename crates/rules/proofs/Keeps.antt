@@ -382,10 +382,10 @@ step-sound P p s g e enters i t q =
 module _ (P : Problem) (p : ProblemFits P) (s : State) (f : Fits P s) (l : LeavingVar) (h : l .row < mOf P) (i : PivotInfo) (t : State)
     (steps : dualStep P s l ≡ moved i t) where
   pub dual-fits : Fits P t
-  dual-fits = let x = dual-moves P p s l h i t steps in made-fits P p s f (x .0) t (x .1)
+  dual-fits = let x = dual-moves _ P p s l h i t steps in made-fits P p s f (x .0) t (x .1)
 
   pub dual-numbers : Numbers P s → Numbers P t
-  dual-numbers = let x = dual-moves P p s l h i t steps in made-numbers P p s f (x .0) t (x .1)
+  dual-numbers = let x = dual-moves _ P p s l h i t steps in made-numbers P p s f (x .0) t (x .1)
 
 pub dual-sound : (P : Problem) (p : ProblemFits P) (s : State) → Sound P s → (l : LeavingVar) → l .row < mOf P → (i : PivotInfo) (t : State)
     → dualStep P s l ≡ moved i t → Sound P t

@@ -1,6 +1,6 @@
 -- The tests that a step passed, and the state that it gives, for each kind of step. Assumes nothing.
 use mathlib.Core.Path.{_≡_, refl, ap, _∙_}
-use mathlib.Core.Bool.{true, _&&_}
+use mathlib.Core.Bool.{Bool, true, _&&_}
 use mathlib.Core.List.{List}
 use mathlib.Core.Logic.{_⊎_, inl, inr, ⊎-elim}
 use Prim.Native.Nat.{ℕ, _<_}
@@ -15,11 +15,12 @@ use Rattle.rules.specs.Choose.{choose}
 use Rattle.rules.specs.Basis.{rowCoeffsOf, helperOf, invRow, tauOf, touchAt, etaFits, basisAfter}
 use Rattle.rules.specs.Ratio.{rises}
 use Rattle.rules.specs.Choices.{Listed, maxStep, RatioGives, exchanges}
-use Rattle.rules.specs.DualChoices.{DualGives, exchanges as dual-exchanges}
+use Rattle.rules.specs.DualChoices.{DualGivesBy, exchanges as dual-exchanges}
 use Rattle.rules.specs.Pivot.{stored, storesFinite, newDualNorm, flipFinite, flipped, numbersFinite, etaFinite, exchanged, refactored}
-use Rattle.rules.specs.Step.{stateWithDualNorms, step, dualStep, moved}
+use Rattle.rules.specs.Step.{stateWithDualNorms, step, dualStepBy, moved}
 use Rattle.rules.specs.Conditions.{EtaBroken, FactorBroken, Exchanges, ExchangesBoth, StepBroken, StoresTo, stepColumn, Moves, dualRow}
 use Rattle.rules.specs.Invariant.{ProblemFits, Fits, Vector}
+use Rattle.rules.specs.declared.NonBasicVarState.{NonBasicVarState}
 use Rattle.rules.specs.declared.Entering.{Entering}
 use Rattle.rules.specs.declared.Choice.the-variants.{Enters}
 use Rattle.rules.specs.declared.LeavingVar.{LeavingVar}
@@ -31,7 +32,7 @@ use Rattle.rules.proofs.EnteringColumn.{enters-exactly}
 use Rattle.rules.proofs.LeavingRow.{candidate-means}
 use Rattle.rules.proofs.Vectors.{rows-places, column-vector, row-vector, vector-touchAt}
 use Rattle.rules.proofs.Stops.{room, flip-broken, numbers-broken, norms-broken, column-broken, moves-exactly}
-use Rattle.rules.proofs.DualStops.{dual-moves-exactly}
+use Rattle.rules.proofs.DualStops.{any-moves}
 
 -- the entering column is a column
 pub enters-below : (P : Problem) (w : Workspace) (e : Entering) → choose P w ≡ Enters e → e .col < nOf P
@@ -192,14 +193,14 @@ module _ (P : Problem) (p : ProblemFits P) (s : State) (f : Fits P s) (e : Enter
           (rw (l .row-there) (step-vector .places-below .below (l .place) (l .listed-place))) (x .numbers) (x .after))
 
 -- ---- a dual step: the entering column is a place of the row's list
-given-below : {n : ℕ} (w : Workspace) (l : LeavingVar) (r : Sv) (e : Entering) (value diff coeff : Float) → Below n r
-    → DualGives w l r (Dual·Exchange e value diff coeff) → e .col < n
+given-below : {n : ℕ} {test : NonBasicVarState → Float → Bool} {Says : NonBasicVarState → Float → Type 0} (w : Workspace) (l : LeavingVar) (r : Sv) (e : Entering) (value diff coeff : Float) → Below n r
+    → DualGivesBy w l r test Says (Dual·Exchange e value diff coeff) → e .col < n
 given-below w l r e value diff coeff b (dual-exchanges s k x) = b .below k (x .inside)
 
-pub dual-moves : (P : Problem) (p : ProblemFits P) (s : State) (l : LeavingVar) → l .row < mOf P → (i : PivotInfo) (t : State)
-    → dualStep P s l ≡ moved i t → (e : Entering) × Exchanged P s e t
-dual-moves P p s l hr i t q =
-    let x = dual-moves-exactly P s l i t .0 q .chosen in
+pub dual-moves : (test : NonBasicVarState → Float → Bool) (P : Problem) (p : ProblemFits P) (s : State) (l : LeavingVar) → l .row < mOf P
+    → (i : PivotInfo) (t : State) → dualStepBy test P s l ≡ moved i t → (e : Entering) × Exchanged P s e t
+dual-moves test P p s l hr i t q =
+    let x = any-moves test P s l i t q .chosen in
     let e = x .0 in
     let m = x .1 .4 in (
       e,

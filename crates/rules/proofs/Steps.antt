@@ -15,7 +15,7 @@ use Rattle.rules.specs.Pivot.{flipped, exchanged, refactored}
 use Rattle.rules.specs.Step.{step, dualStep, moved, stopped, Outcome, Ended, ended, next, atBudget, runOf, dualNext, dualAtBudget, dualRunOf, thenPrimal, bothRuns}
 use Rattle.rules.specs.Kinds.{Kind, dual, primal, firstKind, kindAfter, lastKindBy, lastKind}
 use Rattle.rules.specs.Solve.{endOf}
-use Rattle.rules.specs.Conditions.{Exchanges, ExchangesBoth, StoresTo, stepColumn, dualInfo, DualStopsWith}
+use Rattle.rules.specs.Conditions.{Exchanges, ExchangesBoth, StoresTo, stepColumn, dualInfo, DualStopsBy}
 use Rattle.rules.specs.Invariant.{ProblemFits, Fits, Sound, Tails}
 use Rattle.rules.specs.Steps.{Steps, none, one-dual, turns, one-more, Reached, Bounded}
 use Rattle.rules.specs.declared.Entering.{Entering}
@@ -31,7 +31,7 @@ use Rattle.rules.specs.declared.Stop.the-variants.{Finished, Spent, Unbo
 use Rattle.rules.proofs.Vectors.{vector-few}
 use Rattle.rules.proofs.DualLeaving.{leaves-below}
 use Rattle.rules.proofs.Stops.{moves-exactly}
-use Rattle.rules.proofs.DualStops.{dual-stops-exactly, dual-moves-exactly}
+use Rattle.rules.proofs.DualStops.{dual-stops-exactly, any-moves}
 use Rattle.rules.proofs.Moved.{Flips, columnOf, rowOf, helper, Pushes, Refactors, Exchanged, touched-vector, moves, dual-moves}
 use Rattle.rules.proofs.Keeps.{step-fits, step-sound, dual-fits, dual-sound, used-after, none-used}
 use Rattle.rules.proofs.Tails.{step-tails, dual-tails}
@@ -57,7 +57,7 @@ step-counts P s e i t q = stores-count P s e (stepColumn P s e) i t (moves-exact
 pub dual-counts : (P : Problem) (s : State) (l : LeavingVar) (i : PivotInfo) (t : State) → dualStep P s l ≡ moved i t
     → t .steps ≡ suc (s .steps)
 dual-counts P s l i t q =
-    let x = dual-moves-exactly P s l i t .0 q .chosen in
+    let x = any-moves _ P s l i t q .chosen in
     stores-count P s (x .0) (stepColumn P s (x .0)) (dualInfo P s l (x .1 .0) (x .1 .1) (x .1 .2)) t (x .1 .4 .1 .1 .1)
 
 module _ (P : Problem) (p : ProblemFits P) (s : State) (f : Fits P s) where
@@ -85,7 +85,7 @@ module _ (P : Problem) (p : ProblemFits P) (s : State) (f : Fits P s) where
       (moves P p s f e enters i t q)
 
   dual-grows : (l : LeavingVar) → l .row < mOf P → (i : PivotInfo) (t : State) → dualStep P s l ≡ moved i t → Grows P s t
-  dual-grows l h i t q = let x = dual-moves P p s l h i t q in made-grows (x .0) t (x .1)
+  dual-grows l h i t q = let x = dual-moves _ P p s l h i t q in made-grows (x .0) t (x .1)
 
 -- ---- k steps
 
@@ -251,7 +251,7 @@ module _ (P : Problem) (s₀ : State) (b : Kind) (budget : ℕ) where
   -- a stop leaves them where they are
   halts : (s : State) (l : LeavingVar) (w : Stop) → dualStep P s l ≡ stopped w → Steps P s₀ b dual (s .steps) s → s .steps ≤ budget
       → DualTo (ended w s)
-  unfolding DualStopsWith
+  unfolding DualStopsBy
   halts s l Finished q r h = absurd (dual-stops-exactly P s l Finished .0 q)
   halts s l Spent q r h = here r h
   halts s l Unbounded q r h = here r h

@@ -258,4 +258,4 @@ step-tails P p m s f g e enters i t steps =
 
 pub dual-tails : (P : Problem) (p : ProblemFits P) (m : Memory) (s : State) (f : Fits P s) (g : Tails P m s) (l : LeavingVar) → l .row < mOf P
     → (i : PivotInfo) (t : State) → dualStep P s l ≡ moved i t → Tails P m t
-dual-tails P p m s f g l h i t steps = let x = dual-moves P p s l h i t steps in made-tails P p m s f g (x .0) t (x .1)
+dual-tails P p m s f g l h i t steps = let x = dual-moves _ P p s l h i t steps in made-tails P p m s f g (x .0) t (x .1)

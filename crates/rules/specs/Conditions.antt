@@ -33,6 +33,7 @@ use Rattle.rules.specs.declared.Entering.{Entering}
 use Rattle.rules.specs.declared.Choice.the-variants.{Enters, Nothing}
 use Rattle.rules.specs.declared.LeavingVar.{LeavingVar}
 use Rattle.rules.specs.declared.RowChoice.the-variants.{Leaves}
+use Rattle.rules.specs.declared.DualRatio.{DualRatio}
 use Rattle.rules.specs.declared.DualRatio.the-variants.{Exchange as Dual·Exchange, Nothing as Dual·Nothing, NotFinite as Dual·NotFinite}
 use Rattle.rules.specs.declared.PivotInfo.{PivotInfo}
 use Rattle.rules.specs.declared.PivotInfo.the-variants.{Flip, Exchange}
@@ -382,31 +383,39 @@ module _ (P : Problem) (s : State) (l : LeavingVar) where
   abbrev pub dualInfo : Float → Float → Float → PivotInfo
   dualInfo value diff coeff = Exchange value diff (l .row) coeff (l .value)
 
-  -- the ratio on prices gives an exchange of which X holds
-  abbrev pub DualChosen : (Entering → PivotInfo → Type 0) → Type 0
-  DualChosen X =
-      (e : Entering) × ((value diff coeff : Float) × DualGives (s .ws) l dualRow (Dual·Exchange e value diff coeff)
-      × X e (dualInfo value diff coeff))
+  -- by what the ratio on prices gives of the row
+  module _ (Gives : DualRatio → Type 0) where
+    -- an exchange of which X holds
+    abbrev pub DualChosen : (Entering → PivotInfo → Type 0) → Type 0
+    DualChosen X =
+        (e : Entering) × ((value diff coeff : Float) × Gives (Dual·Exchange e value diff coeff) × X e (dualInfo value diff coeff))
 
-  -- 23, 25 and 26, in their order: row; ratio on prices; 26; column solve; all new numbers; eta entries or factor
-  unfoldable pub DualStopsWith : Stop → Type 0
-  DualStopsWith Finished = ⊥
-  DualStopsWith Stop·Spent = ⊥
-  DualStopsWith Stop·Unbounded = ⊥
-  DualStopsWith Stop·NotFinite =
-      EntryBroken dualRow
-      ⊎ DualGives (s .ws) l dualRow Dual·NotFinite
-      ⊎ DualChosen (λ e i. EntryBroken (stepColumn P s e) ⊎ StepBroken P s e (stepColumn P s e) i)
-  DualStopsWith Stop·Singular =
-      (¬ EntryBroken dualRow)
-      × DualChosen (λ e i. (¬ EntryBroken (stepColumn P s e)) × StepSingular P s e (stepColumn P s e) i)
-  DualStopsWith (Stop·Infeasible r) = (¬ EntryBroken dualRow) × (r ≡ l .row) × DualGives (s .ws) l dualRow Dual·Nothing
+    -- 23, 25 and 26, in their order: row; ratio on prices; 26; column solve; all new numbers; eta entries or factor
+    unfoldable pub DualStopsBy : Stop → Type 0
+    DualStopsBy Finished = ⊥
+    DualStopsBy Stop·Spent = ⊥
+    DualStopsBy Stop·Unbounded = ⊥
+    DualStopsBy Stop·NotFinite =
+        EntryBroken dualRow
+        ⊎ Gives Dual·NotFinite
+        ⊎ DualChosen (λ e i. EntryBroken (stepColumn P s e) ⊎ StepBroken P s e (stepColumn P s e) i)
+    DualStopsBy Stop·Singular =
+        (¬ EntryBroken dualRow)
+        × DualChosen (λ e i. (¬ EntryBroken (stepColumn P s e)) × StepSingular P s e (stepColumn P s e) i)
+    DualStopsBy (Stop·Infeasible r) = (¬ EntryBroken dualRow) × (r ≡ l .row) × Gives Dual·Nothing
 
-  -- the step is taken, told as i, to t: none of these stops it
-  pub record DualMoves (i : PivotInfo) (t : State) : Type 0 where
-    pub row : ¬ EntryBroken dualRow
-    pub chosen : DualChosen (λ e j. (¬ EntryBroken (stepColumn P s e)) × ((¬ StepBroken P s e (stepColumn P s e) j)
-        × ((i ≡ j) × StoresTo P s e (stepColumn P s e) j t)))
+    -- the step is taken, told as i, to t: none of these stops it
+    pub record DualMovesBy (i : PivotInfo) (t : State) : Type 0 where
+      pub row : ¬ EntryBroken dualRow
+      pub chosen : DualChosen (λ e j. (¬ EntryBroken (stepColumn P s e)) × ((¬ StepBroken P s e (stepColumn P s e) j)
+          × ((i ≡ j) × StoresTo P s e (stepColumn P s e) j t)))
+
+  -- with the test of a dual step
+  abbrev pub DualStopsWith : Stop → Type 0
+  DualStopsWith w = DualStopsBy (DualGives (s .ws) l dualRow) w
+
+  abbrev pub DualMoves : PivotInfo → State → Type 0
+  DualMoves i t = DualMovesBy (DualGives (s .ws) l dualRow) i t
 
 -- ---- why a run ends, said of the state that was reached and the kind of step that it stood in
 abbrev pub reached : Plan → Memory → State

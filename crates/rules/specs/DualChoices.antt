@@ -12,7 +12,7 @@ use Rattle.sparse.specs.Scattered.{Sv, listed, listedVal}
 use Rattle.rules.specs.Plan.{Problem, Workspace, mOf, flagsOf}
 use Rattle.rules.specs.Choices.{sizeAt}
 use Rattle.rules.specs.DualRow.{rowMin, rowMax, outsideAt, infeasibilityAt, rowScoreAt}
-use Rattle.rules.specs.DualRatio.{leavingRises, dualRelaxed, dualStepTo, dualPassOne, dualCandidate}
+use Rattle.rules.specs.DualRatio.{leavingRises, eligible, dualRelaxed, dualStepTo, dualPassOne, dualCandidate}
 use Rattle.rules.specs.declared.NonBasicVarState.{NonBasicVarState}
 use Rattle.rules.specs.declared.Entering.{Entering}
 use Rattle.rules.specs.declared.LeavingVar.{LeavingVar}
@@ -57,40 +57,53 @@ pub record Clamped (f : NonBasicVarState) (price x : Float) : Type 0 where
   pub at-upper : f .«at_max» ≡ true → lt f0 price ≡ true → x ≡ f0
   pub else-kept : (f .«at_min» ≡ true → lt price f0 ≡ false) → (f .«at_max» ≡ true → lt f0 price ≡ false) → x ≡ price ⊖ f0
 
-module _ (w : Workspace) (up : Bool) (r : Sv) where
-  -- 02: column c "has a row coefficient of size at least EPS and isn't already at the bound in the way of the move"
-  pub record EligibleColumn (c : ℕ) : Type 0 where
-    pub of-size : le eps (size (r .vals ! c)) ≡ true
-    pub free : FreeTo (entersUp up (r .vals ! c)) (flagsOf (w .flags # c))
+-- 02: a column "has a row coefficient of size at least EPS and isn't already at the bound in the way of the move"
+pub record EligibleBy (up : Bool) (f : NonBasicVarState) (a : Float) : Type 0 where
+  pub of-size : le eps (size a) ≡ true
+  pub free : FreeTo (entersUp up a) f
+
+-- Ask 9, where nothing moves: "every column with a coefficient of size at least EPS and no fixed mark is eligible"
+pub record EligibleUnmoved (f : NonBasicVarState) (a : Float) : Type 0 where
+  pub of-size : le eps (size a) ≡ true
+  pub not-fixed : f .«fixed» ≡ false
+
+-- the passes, by what their test says of a column's flags and its row coefficient
+module _ (w : Workspace) (Says : NonBasicVarState → Float → Type 0) (r : Sv) where
+  abbrev pub ColumnSays : ℕ → Type 0
+  ColumnSays c = Says (flagsOf (w .flags # c)) (r .vals ! c)
 
   -- the k-th listed one
   abbrev pub Eligible : ℕ → Type 0
-  Eligible k = EligibleColumn (listed r k)
+  Eligible k = ColumnSays (listed r k)
 
   -- 26: "no entering column exists for the leaving row", of the row's list and of all columns
   abbrev pub NoneEligible : Type 0
   NoneEligible = (k : ℕ) → k < r .pat .count → ¬ Eligible k
 
-  abbrev pub NoColumn : ℕ → Type 0
-  NoColumn n = (c : ℕ) → c < n → ¬ EligibleColumn c
+  abbrev pub NoneSays : ℕ → Type 0
+  NoneSays n = (c : ℕ) → c < n → ¬ ColumnSays c
 
   -- "Pass one: … the smallest, from +inf"
   pub record DualPassOne (t : Float) : Type 0 where
-    pub smallest : (k : ℕ) → k < r .pat .count → Eligible k → lt (dualRelaxed w up r k) t ≡ false
-    pub one-of : (t ≡ +inf) ⊎ ((k : ℕ) × (k < r .pat .count) × Eligible k × (t ≡ dualRelaxed w up r k))
+    pub smallest : (k : ℕ) → k < r .pat .count → Eligible k → lt (dualRelaxed w r k) t ≡ false
+    pub one-of : (t ≡ +inf) ⊎ ((k : ℕ) × (k < r .pat .count) × Eligible k × (t ≡ dualRelaxed w r k))
 
   -- "A quotient of an eligible column that isn't finite: 23"
   pub data DualUnsound : Type 0 where
-    bad-quotient : (k : ℕ) → k < r .pat .count → Eligible k → finite (dualRelaxed w up r k) ≡ false → DualUnsound
-    bad-step : (k : ℕ) → k < r .pat .count → Eligible k → finite (dualStepTo w up r k) ≡ false → DualUnsound
+    bad-quotient : (k : ℕ) → k < r .pat .count → Eligible k → finite (dualRelaxed w r k) ≡ false → DualUnsound
+    bad-step : (k : ℕ) → k < r .pat .count → Eligible k → finite (dualStepTo w r k) ≡ false → DualUnsound
 
   pub record DualSound : Type 0 where
-    pub quotients : (k : ℕ) → k < r .pat .count → Eligible k → finite (dualRelaxed w up r k) ≡ true
-    pub steps : (k : ℕ) → k < r .pat .count → Eligible k → finite (dualStepTo w up r k) ≡ true
+    pub quotients : (k : ℕ) → k < r .pat .count → Eligible k → finite (dualRelaxed w r k) ≡ true
+    pub steps : (k : ℕ) → k < r .pat .count → Eligible k → finite (dualStepTo w r k) ≡ true
 
-  -- "Pass two: … <= that, strictly largest coefficient size": the k-th listed column
-  abbrev pub EntersBy : ℕ → Type 0
-  EntersBy k = FirstLargest (dualCandidate w up r (dualPassOne w up r)) (sizeAt r) (r .pat .count) k
+-- 02's words over the columns of a dual step
+abbrev pub NoColumn : Workspace → Bool → Sv → ℕ → Type 0
+NoColumn w up r n = NoneSays w (EligibleBy up) r n
+
+-- "Pass two: … <= that, strictly largest coefficient size": the k-th listed column
+abbrev pub EntersBy : Workspace → (NonBasicVarState → Float → Bool) → Sv → ℕ → Type 0
+EntersBy w test r k = FirstLargest (dualCandidate w test r (dualPassOne w test r)) (sizeAt r) (r .pat .count) k
 
 module _ (w : Workspace) (l : LeavingVar) (r : Sv) where
   abbrev pub dualDiff : ℕ → Float
@@ -99,9 +112,14 @@ module _ (w : Workspace) (l : LeavingVar) (r : Sv) where
   abbrev pub dualEntering : ℕ → Entering
   dualEntering k = record { col = listed r k; price = w .prices ! listed r k; score = sizeAt r k; distance = size (dualDiff k) }
 
-  -- what the ratio gives
-  pub data DualGives : DualRatio → Type 0 where
-    not-finite : DualUnsound w (leavingRises w l) r → DualGives NotFinite
-    nothing : NoneEligible w (leavingRises w l) r → DualGives Nothing
-    exchanges : DualSound w (leavingRises w l) r → (k : ℕ) → EntersBy w (leavingRises w l) r k
-        → DualGives (Exchange (dualEntering k) (w .nbVarVals ! listed r k ⊕ dualDiff k) (dualDiff k) (listedVal r k))
+  -- what the ratio gives over the columns that a test lets in
+  module _ (test : NonBasicVarState → Float → Bool) (Says : NonBasicVarState → Float → Type 0) where
+    pub data DualGivesBy : DualRatio → Type 0 where
+      not-finite : DualUnsound w Says r → DualGivesBy NotFinite
+      nothing : NoneEligible w Says r → DualGivesBy Nothing
+      exchanges : DualSound w Says r → (k : ℕ) → EntersBy w test r k
+          → DualGivesBy (Exchange (dualEntering k) (w .nbVarVals ! listed r k ⊕ dualDiff k) (dualDiff k) (listedVal r k))
+
+  -- what it gives in a dual step
+  abbrev pub DualGives : DualRatio → Type 0
+  DualGives = DualGivesBy (eligible (leavingRises w l)) (EligibleBy (leavingRises w l))

@@ -30,16 +30,18 @@ mayMove false f = not (f .«at_min»)
 unfoldable pub eligible : Bool → NonBasicVarState → Float → Bool
 eligible up f a = (le eps a && mayMove (not up) f) || (le a (neg eps) && mayMove up f)
 
+-- docs/RULES-02.md, Ask 9, of a basic column that is fixed where it stands: "there is no move, so no bound is in the way: every
+-- column with a coefficient of size at least EPS and no fixed mark is eligible"
+unfoldable pub eligibleStill : NonBasicVarState → Float → Bool
+eligibleStill f a = le eps (size a) && not (f .«fixed»)
+
 -- "Price clamped: 0.0 where at_min and price < 0.0, or at_max and price > 0.0". Else it is the difference from 0.0: a
 -- double whatever the list of prices holds, like the primal limit, and the price itself, -0.0 too, where that is a
 -- double (`rules!DualColumn` `kept-price`)
 unfoldable pub clamped : NonBasicVarState → Float → Float
 clamped f d = elim ((f .«at_min» && lt d f0) || (f .«at_max» && lt f0 d)) [ true ↦ f0 | false ↦ d ⊖ f0 ]
 
-module _ (w : Workspace) (up : Bool) (r : Sv) where
-  abbrev pub eligibleAt : ℕ → Bool
-  eligibleAt k = eligible up (flagsOf (w .flags # listed r k)) (listedVal r k)
-
+module _ (w : Workspace) (r : Sv) where
   -- the clamped price of the k-th listed column, by its size
   abbrev pub priceAt : ℕ → Float
   priceAt k = size (clamped (flagsOf (w .flags # listed r k)) (w .prices ! listed r k))
@@ -51,23 +53,28 @@ module _ (w : Workspace) (up : Bool) (r : Sv) where
   abbrev pub dualStepTo : ℕ → Float
   dualStepTo k = priceAt k ⊘ size (listedVal r k)
 
+-- the two passes over the columns that a test of their flags and their row coefficient lets in
+module _ (w : Workspace) (test : NonBasicVarState → Float → Bool) (r : Sv) where
+  abbrev pub eligibleAt : ℕ → Bool
+  eligibleAt k = test (flagsOf (w .flags # listed r k)) (listedVal r k)
+
   -- "A quotient of an eligible column that isn't finite: 23"
   abbrev pub dualSoundAt : ℕ → Bool
-  dualSoundAt k = not (eligibleAt k) || (finite (dualRelaxed k) && finite (dualStepTo k))
+  dualSoundAt k = not (eligibleAt k) || (finite (dualRelaxed w r k) && finite (dualStepTo w r k))
 
   unfoldable pub dualSound : Bool
   dualSound = all (r .pat .count) dualSoundAt
 
   -- "the smallest, from +inf"
   abbrev pub dualPassOneTurn : ℕ → Float → Float
-  dualPassOneTurn k t = elim (eligibleAt k && lt (dualRelaxed k) t) [ true ↦ dualRelaxed k | false ↦ t ]
+  dualPassOneTurn k t = elim (eligibleAt k && lt (dualRelaxed w r k) t) [ true ↦ dualRelaxed w r k | false ↦ t ]
 
   unfoldable pub dualPassOne : Float
   dualPassOne = run dualPassOneTurn (r .pat .count) +inf
 
   -- "Pass two: size of clamped price / size of coefficient <= that"
   unfoldable pub dualCandidate : Float → ℕ → Bool
-  dualCandidate maxStep k = eligibleAt k && le (dualStepTo k) maxStep
+  dualCandidate maxStep k = eligibleAt k && le (dualStepTo w r k) maxStep
 
   -- "strictly largest coefficient size": the entering column so far, as a place of the row's list
   unfoldable pub dualPassTwoTurn : Float → ℕ → Leaving → Leaving
@@ -85,15 +92,18 @@ dualExchangeOf w l c pivot =
     Exchange (record { col = c; price = w .prices ! c; score = size pivot; distance = size diff }) (w .nbVarVals ! c ⊕ diff) diff pivot
 
 -- "No eligible column: 26"
-unfoldable pub dualRatio : Workspace → LeavingVar → Sv → DualRatio
-dualRatio w l r =
-    let up = leavingRises w l in
-    elim (dualSound w up r) [
+unfoldable pub dualRatioBy : (NonBasicVarState → Float → Bool) → Workspace → LeavingVar → Sv → DualRatio
+dualRatioBy test w l r =
+    elim (dualSound w test r) [
       | false ↦ NotFinite
       | true ↦
-          let b = dualPassTwo w up r (dualPassOne w up r) in
+          let b = dualPassTwo w test r (dualPassOne w test r) in
           elim (ltb (b .at) (r .pat .count)) [
             | true ↦ dualExchangeOf w l (listed r (b .at)) (listedVal r (b .at))
             | false ↦ Nothing
           ]
     ]
+
+-- the ratio of a dual step
+abbrev pub dualRatio : Workspace → LeavingVar → Sv → DualRatio
+dualRatio w l r = dualRatioBy (eligible (leavingRises w l)) w l r

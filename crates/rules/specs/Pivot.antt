@@ -26,9 +26,9 @@ stored c f l = run (storeTurn c f) (c .pat .count) l
 unfoldable pub storesFinite : Sv → (ℕ → Float) → Bool
 storesFinite c f = all (c .pat .count) (λ k. finite (f (listed c k)))
 
--- the flags of a variable that stands at x
+-- the flags of a variable that stands at x, by equality with its bounds: no mark
 unfoldable pub flagsAt : Problem → ℕ → Float → ℕ
-flagsAt P v x = flagsCell (record { «at_min» = eq x (varMin P v); «at_max» = eq x (varMax P v) })
+flagsAt P v x = flagsCell (record { «at_min» = eq x (varMin P v); «at_max» = eq x (varMax P v); «fixed» = false })
 
 -- ---- the new numbers of both kinds of step
 

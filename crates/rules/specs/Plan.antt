@@ -165,8 +165,13 @@ abbrev pub bit : Bool → ℕ
 bit true = 1
 bit false = 0
 
+-- docs/RULES-02.md, Ask 9: "flags cell 1 * at_min + 2 * at_max + 4 * fixed"
 unfoldable pub flagsCell : NonBasicVarState → ℕ
-flagsCell f = bit (f .«at_min») + 2 * bit (f .«at_max»)
+flagsCell f = bit (f .«at_min») + 2 * bit (f .«at_max») + 4 * bit (f .«fixed»)
 
 unfoldable pub flagsOf : ℕ → NonBasicVarState
-flagsOf x = record { «at_min» = eqb (x % 2) 1; «at_max» = eqb (x / 2 % 2) 1 }
+flagsOf x = record { «at_min» = eqb (x % 2) 1; «at_max» = eqb (x / 2 % 2) 1; «fixed» = eqb (x / 4 % 2) 1 }
+
+-- "a fixed column has all three, so it never enters and never leaves its place"
+abbrev pub held : NonBasicVarState
+held = record { «at_min» = true; «at_max» = true; «fixed» = true }

@@ -72,17 +72,26 @@ endOf P m =
     elim (dualFeasible (P .plan)) [ true ↦ bothRuns P (P .plan .budget) s | false ↦ runOf P (P .plan .budget) s ]
 
 -- ---- "The lowest number that applies is given"; "1 to 7 are refusals: all lent memory stays"
+abbrev pub orElse : {A : Type 0} → Bool → A → A → A
+orElse b a r = elim b [ true ↦ r | false ↦ a ]
+
 abbrev pub orRefuse : Bool → Answer → Memory → Solved → Solved
-orRefuse b a m r = elim b [ true ↦ r | false ↦ solved a m ]
+orRefuse b a m r = orElse b (solved a m) r
+
+-- 1 to 5, which are about the plan and what is lent, of every call that reads a plan: what is said, or how it goes on
+abbrev pub orRefused : {A : Type 0} → Plan → Memory → (Answer → A) → A → A
+orRefused p m says r =
+    orElse (passes1 p m) (says BadSize)
+    (orElse (passes2 p) (says BadNumber)
+    (orElse (eqb (firstBadRow p) (p .rows)) (says (BadEntry (firstBadRow p) (firstBadIn p (firstBadRow p))))
+    (orElse (eqb (firstCrossed p) (p .columns)) (says (CrossedBounds (firstCrossed p)))
+    (orElse (eqb (firstFalse p) (p .rows)) (says (FalseEmptyRow (firstFalse p)))
+    r))))
 
 unfoldable pub solvePlan : Plan → Memory → Solved
 solvePlan p m =
     let P = problemOf p in
-    orRefuse (passes1 p m) BadSize m
-    (orRefuse (passes2 p) BadNumber m
-    (orRefuse (eqb (firstBadRow p) (p .rows)) (BadEntry (firstBadRow p) (firstBadIn p (firstBadRow p))) m
-    (orRefuse (eqb (firstCrossed p) (p .columns)) (CrossedBounds (firstCrossed p)) m
-    (orRefuse (eqb (firstFalse p) (p .rows)) (FalseEmptyRow (firstFalse p)) m
+    orRefused p m (λ a. solved a m)
     (orRefuse (passes6 P) StartNotFinite m
     (orRefuse (passes7 P || dualFeasible p) SlackOutside m
-    (close P m (endOf P m))))))))
+    (close P m (endOf P m))))

@@ -63,7 +63,7 @@ unfoldable pub startNorm : Problem → ℕ → Float
 startNorm P j = each (column P j) (λ e t. t ⊕ e .val ⊗ e .val) f0 ⊕ f1
 
 abbrev pub startFlags : Plan → List Float → ℕ → ℕ
-startFlags p xs j = flagsCell (record { «at_min» = eq (xs ! j) (p .lowers ! j); «at_max» = eq (xs ! j) (p .uppers ! j) })
+startFlags p xs j = flagsCell (record { «at_min» = eq (xs ! j) (p .lowers ! j); «at_max» = eq (xs ! j) (p .uppers ! j); «fixed» = false })
 
 -- What the first state holds, over what was lent. Columns are non-basic in their order, and slacks basic in theirs, so the cell of variable v is v.
 unfoldable pub startWorkspace : Problem → List Float → Workspace → Workspace

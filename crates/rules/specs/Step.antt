@@ -14,8 +14,9 @@ use Rattle.rules.specs.Choose.{choose}
 use Rattle.rules.specs.Basis.{colCoeffs, rowCoeffsOf, helperOf, invRow, tauOf, touchAt, etaFits, basisAfter}
 use Rattle.rules.specs.Ratio.{ratio}
 use Rattle.rules.specs.DualRow.{chooseRow}
-use Rattle.rules.specs.DualRatio.{dualRatio}
+use Rattle.rules.specs.DualRatio.{leavingRises, eligible, dualRatioBy}
 use Rattle.rules.specs.Pivot.{stored, storesFinite, flipFinite, flipped, numbersFinite, newDualNorm, etaFinite, exchanged, refactored}
+use Rattle.rules.specs.declared.NonBasicVarState.{NonBasicVarState}
 use Rattle.rules.specs.declared.Entering.{Entering}
 use Rattle.rules.specs.declared.Choice.the-variants.{Enters, Nothing}
 use Rattle.rules.specs.declared.LeavingVar.{LeavingVar}
@@ -115,16 +116,21 @@ dualPivot P s l e value diff coeff =
     let c = colCoeffs P s (s .ws .nbVars # e .col) in
     orStop (listedFinite c) Stop·NotFinite (bothNorms P s e (touchAt c (l .row)) value diff (l .row) coeff (l .value))
 
--- "Row solve and row, as for an exchange; every listed entry finite, else 23", then the ratio on prices
-unfoldable pub dualStep : Problem → State → LeavingVar → Outcome
-dualStep P s l =
+-- "Row solve and row, as for an exchange; every listed entry finite, else 23", then the ratio on prices, over the columns that
+-- a test lets in
+unfoldable pub dualStepBy : (NonBasicVarState → Float → Bool) → Problem → State → LeavingVar → Outcome
+dualStepBy test P s l =
     let r = rowCoeffsOf P s (l .row) in
     orStop (listedFinite r) Stop·NotFinite
-    (elim (dualRatio (s .ws) l r) [
+    (elim (dualRatioBy test (s .ws) l r) [
       | Dual·NotFinite ↦ stopped Stop·NotFinite
       | Dual·Nothing ↦ stopped (Infeasible (l .row))
       | Dual·Exchange e value diff coeff ↦ dualPivot P s l e value diff coeff
     ])
+
+-- a dual step's own test: no bound is in the way
+abbrev pub dualStep : Problem → State → LeavingVar → Outcome
+dualStep P s l = dualStepBy (eligible (leavingRises (s .ws) l)) P s l
 
 -- ---- the run: it ends where no column enters, the budget is spent, or a step gives no state
 pub record Ended : Type 0 where

@@ -7,9 +7,11 @@ pub enum VarState {
     NonBasic(usize),
 }
 
+// 02, Ask 9: `fixed` is the mark of a column that is held still. It has all three then, so that no bound rule lets it move.
 pub struct NonBasicVarState {
     pub at_min: bool,
     pub at_max: bool,
+    pub fixed: bool,
 }
 
 // 01: "The entering column travels with its price, score and distance".

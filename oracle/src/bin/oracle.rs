@@ -1,5 +1,5 @@
 //! Reads plans, triangles and pairs of them in the exchange text from standard input and writes an
-//! answer line for each.
+//! answer line for each, and for each call after a plan.
 //!
 //! oracle [--state] [--why] [--shown NAME]..
 //!
@@ -9,7 +9,7 @@
 use std::io::{self, BufWriter, Write};
 use std::process::ExitCode;
 
-use oracle::exchange::{answer_line, factors_answer_line, tri_answer_line, Extras, Item, Reader};
+use oracle::exchange::{answer_lines, factors_answer_line, tri_answer_line, Extras, Item, Reader};
 use oracle::shown::{Correction, Options};
 use oracle::{gate, tri};
 
@@ -44,12 +44,14 @@ fn run() -> Result<(), String> {
 
     let mut out = BufWriter::new(io::stdout().lock());
     for item in Reader::new(io::stdin().lock()) {
-        let line = match item? {
-            Item::Plan(plan) => answer_line(&plan.id, &gate::solve(&plan, options), extras),
-            Item::Tri(tri) => tri_answer_line(&tri.id, &tri::solve(&tri)),
-            Item::Factors(both) => factors_answer_line(&both.id, &tri::solve_dense(&both)),
+        let lines = match item? {
+            Item::Plan(plan) => answer_lines(&plan.id, &gate::answers(&plan, options), extras),
+            Item::Tri(tri) => vec![tri_answer_line(&tri.id, &tri::solve(&tri))],
+            Item::Factors(both) => vec![factors_answer_line(&both.id, &tri::solve_dense(&both))],
         };
-        writeln!(out, "{}", line).map_err(|err| err.to_string())?;
+        for line in lines {
+            writeln!(out, "{}", line).map_err(|err| err.to_string())?;
+        }
     }
     out.flush().map_err(|err| err.to_string())
 }

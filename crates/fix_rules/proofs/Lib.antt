@@ -1,0 +1,4 @@
+pub mod Unkept
+pub mod Kept
+pub mod Calls
+pub mod Marks

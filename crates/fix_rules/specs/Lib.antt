@@ -1,0 +1,6 @@
+-- 02, Ask 9: fix and unfix, over a plan and the memory that a run left.
+pub mod Kept
+pub mod Unkept
+pub mod Fix
+pub mod Calls
+pub mod Conditions
