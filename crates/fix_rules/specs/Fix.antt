@@ -11,7 +11,7 @@ use Rattle.sparse.specs.Scattered.{Sv, listedFinite}
 use Rattle.rules.specs.Plan.{Problem, Workspace, State, nOf, varStateOf, flagsCell, flagsOf, held}
 use Rattle.rules.specs.Parts.{workspaceOf, stateWith}
 use Rattle.rules.specs.Basis.{colCoeffs}
-use Rattle.rules.specs.DualRatio.{leavingRises, eligible, eligibleStill}
+use Rattle.rules.specs.DualRatio.{leavingRises, testBy}
 use Rattle.rules.specs.Pivot.{stored, storesFinite, movedVal, flagsAt}
 use Rattle.rules.specs.Step.{Outcome, moved, stopped, dualStepBy, Ended, ended, runOf, bothRuns}
 use Rattle.rules.specs.declared.NonBasicVarState.{NonBasicVarState}
@@ -75,7 +75,7 @@ module _ (P : Problem) (s : State) (row : ℕ) (value : Float) where
 
   -- "Where the value equals the basic value there is no move, so no bound is in the way"
   unfoldable pub fixTest : NonBasicVarState → Float → Bool
-  fixTest = elim (eq value (s .ws .basicVarVals ! row)) [ true ↦ eligibleStill | false ↦ eligible (leavingRises (s .ws) fixLeaving) ]
+  fixTest = testBy (eq (s .ws .basicVarVals ! row) value) (leavingRises (s .ws) fixLeaving)
 
   -- "a dual step from its part 3 on"
   unfoldable pub fixStep : Outcome

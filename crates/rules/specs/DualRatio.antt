@@ -35,6 +35,10 @@ eligible up f a = (le eps a && mayMove (not up) f) || (le a (neg eps) && mayMove
 unfoldable pub eligibleStill : NonBasicVarState → Float → Bool
 eligibleStill f a = le eps (size a) && not (f .«fixed»)
 
+-- the test of a step whose leaving variable stands still, rises, or falls
+abbrev pub testBy : Bool → Bool → NonBasicVarState → Float → Bool
+testBy still up = elim still [ true ↦ eligibleStill | false ↦ eligible up ]
+
 -- "Price clamped: 0.0 where at_min and price < 0.0, or at_max and price > 0.0". Else it is the difference from 0.0: a
 -- double whatever the list of prices holds, like the primal limit, and the price itself, -0.0 too, where that is a
 -- double (`rules!DualColumn` `kept-price`)
