@@ -5,7 +5,7 @@ ghost use mathlib.Core.Path.{_≡_};
 ghost use mathlib.Core.List.{[]};
 ghost use Prim.Native.Nat.{_<_, _+_, _^_};
 ghost use lib.ListN.{length};
-ghost use Rattle.rules.specs.Plan.{slackMin, slackMax, varMin, varMax, flagsOf, flagsCell, varStateOf, varCell};
+ghost use Rattle.rules.specs.Plan.{slackMin, slackMax, varMin, varMax, flagsOf, flagsCell, varStateOf, varCell, bit};
 ghost use Rattle.rules.specs.Parts.{bounded};
 ghost use Rattle.cells.specs.Bounds.{Bounds};
 
@@ -74,29 +74,31 @@ pub fn var_cell(n: usize, state: rules::VarState) -> usize
     }
 }
 
-// What a cell of nb_var_states says. These two alone look at its bits.
+// What a cell of nb_var_states says. These two alone look at its bits. 02, Ask 9: the third is the fixed mark.
 pub fn read_flags(cell: usize) -> rules::NonBasicVarState
     ensures { λ r. ⌜ r ≡ flagsOf cell ⌝ }
 {
     rules::NonBasicVarState {
         at_min: cell % 2 == 1,
         at_max: cell / 2 % 2 == 1,
+        fixed: cell / 4 % 2 == 1,
     }
 }
 
 pub fn pack_flags(f: rules::NonBasicVarState) -> usize
     ensures { λ r. ⌜ r ≡ flagsCell f ⌝ }
 {
-    let at_min = f.at_min;
-    let at_max = f.at_max;
-    if at_min {
-        if at_max {
-            return 3;
-        }
+    let at_min = bit(f.at_min);
+    let at_max = bit(f.at_max);
+    let fixed = bit(f.fixed);
+    at_min + 2 * at_max + 4 * fixed
+}
+
+fn bit(b: bool) -> usize
+    ensures { λ r. ⌜ (r ≡ bit b) × (r < 2) ⌝ }
+{
+    if b {
         return 1;
-    }
-    if at_max {
-        return 2;
     }
     0
 }
