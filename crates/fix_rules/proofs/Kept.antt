@@ -62,11 +62,11 @@ module _ (P : Problem) (h : Etas) (count entries : ℕ) (o : storeFine (mOf P) h
       )
 
 -- ---- the factor
-record Triangle (lower : Bool) (rows : ℕ) (t : Matrix) : Type 0 where
-  first : t .starts # 0 ≡ 0
-  most : t .starts # rows ≤ maxTriEntries
-  columns : Columns (shape lower rows (t .starts) (t .rows))
-  vals : (j : ℕ) → j < rows → t .starts # (j + 1) ≤ length (t .vals)
+pub record Triangle (lower : Bool) (rows : ℕ) (t : Matrix) : Type 0 where
+  pub first : t .starts # 0 ≡ 0
+  pub most : t .starts # rows ≤ maxTriEntries
+  pub columns : Columns (shape lower rows (t .starts) (t .rows))
+  pub vals : (j : ℕ) → j < rows → t .starts # (j + 1) ≤ length (t .vals)
 
 module _ (lower : Bool) (rows : ℕ) (t : Matrix) (small : rows ≤ maxRows) (w : Filled t) (d : List Float) (long : rows ≤ length d)
     (o : triangleFine lower rows t ≡ true) where
@@ -148,10 +148,10 @@ module _ (rows : ℕ) (N : List ℕ) (D : List Float) (small : rows ≤ maxRows)
         let a = both-true (all rows (λ k. ltb (f .order # k) rows && eqb (f .number # (f .order # k)) k)) _ (passed .order-pass) in
         ltb-true (f .number # r) rows (all-at (λ r. ltb (f .number # r) rows) rows (a .1) r l)
 
-    lower-told : Triangle true rows (f .lower)
+    pub lower-told : Triangle true rows (f .lower)
     lower-told = triangle true rows (f .lower) small (exact .lower) (f .diag) diag-enough (passed .lower-pass)
 
-    upper-told : Triangle false rows (f .upper)
+    pub upper-told : Triangle false rows (f .upper)
     upper-told = triangle false rows (f .upper) small (exact .upper) (f .diag) diag-enough (passed .upper-pass)
 
     solid : Solid rows (f .number) (f .lower) (f .upper) (f .diag)

@@ -35,7 +35,7 @@ fn sizes_ok(
 }
 
 // The starts begin at 0, don't fall and end at the entry count.
-fn starts_ok(size: usize, entries: usize, starts: &[usize]) -> bool
+pub fn starts_ok(size: usize, entries: usize, starts: &[usize]) -> bool
     requires { ⌜ size < length (now starts) ⌝ }
     ensures { λ r. ⌜ r ≡ okStarts size entries (now (starts .entry)) ⌝ }
 {
@@ -84,7 +84,7 @@ fn column_ok(lower: bool, size: usize, starts: &[usize], rows: &[usize], col: us
     true
 }
 
-fn rows_ok(lower: bool, size: usize, starts: &[usize], rows: &[usize]) -> bool
+pub fn rows_ok(lower: bool, size: usize, starts: &[usize], rows: &[usize]) -> bool
     requires { ⌜ Readable (shape lower size (now starts) (now rows)) ⌝ }
     ensures { λ r. ⌜ r ≡ okRows (shape lower size (now (starts .entry)) (now (rows .entry))) ⌝ }
 {

@@ -43,7 +43,7 @@ fn rows_fine(rows: usize, starts: &[usize], count: usize, kept: &[usize]) -> boo
 }
 
 // Whether v is a variable whose cell leads back to where it stands.
-fn leads_back(vars: usize, states: &[usize], at: usize, v: usize) -> bool
+pub fn leads_back(vars: usize, states: &[usize], at: usize, v: usize) -> bool
     requires { ⌜ vars ≤ length (now states) ⌝ }
     ensures { λ r. ⌜ r ≡ leadsBack vars (now (states .entry)) at v ⌝ }
 {
@@ -54,7 +54,7 @@ fn leads_back(vars: usize, states: &[usize], at: usize, v: usize) -> bool
 }
 
 // The same of the variables at n places, of which the first is `from`.
-fn all_lead_back(vars: usize, states: &[usize], from: usize, n: usize, at: &[usize]) -> bool
+pub fn all_lead_back(vars: usize, states: &[usize], from: usize, n: usize, at: &[usize]) -> bool
     requires { ⌜ (vars ≤ length (now states)) × (from + n ≤ vars) × (n ≤ length (now at)) ⌝ }
     ensures { λ r. ⌜ r ≡ all n (λ k. leadsBack vars (now (states .entry)) (from + k) (now (at .entry) # k)) ⌝ }
 {
@@ -69,7 +69,7 @@ fn all_lead_back(vars: usize, states: &[usize], from: usize, n: usize, at: &[usi
 }
 
 // Whether the first n numbers are below a limit.
-fn all_below(limit: usize, n: usize, xs: &[usize]) -> bool
+pub fn all_below(limit: usize, n: usize, xs: &[usize]) -> bool
     requires { ⌜ n ≤ length (now xs) ⌝ }
     ensures { λ r. ⌜ r ≡ all n (λ k. ltb (now (xs .entry) # k) limit) ⌝ }
 {
