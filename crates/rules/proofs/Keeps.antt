@@ -21,8 +21,9 @@ use Rattle.rules.specs.Plan.{Problem, State, Workspace, Etas, Factored, 
 use Rattle.rules.specs.Choose.{choose}
 use Rattle.rules.specs.Basis.{etaUsed, etaFits, etaEntryAt, pushEta, basisAfter, noColumns, factoredAnew}
 use Rattle.rules.specs.Pivot.{storeTurn, stored, storesFinite, movedVal, newVal, newPrice, newNorm, etaFinite, flipFinite, flipped, numbersFinite, exchangedTo, exchanged, refactored}
-use Rattle.rules.specs.Step.{stateWithDualNorms, step, dualStep, moved}
+use Rattle.rules.specs.Step.{stateWithDualNorms, step, dualStepBy, moved}
 use Rattle.rules.specs.Conditions.{stepColumn}
+use Rattle.rules.specs.declared.NonBasicVarState.{NonBasicVarState}
 use Rattle.rules.specs.declared.Entering.{Entering}
 use Rattle.rules.specs.declared.Choice.the-variants.{Enters}
 use Rattle.rules.specs.declared.LeavingVar.{LeavingVar}
@@ -42,14 +43,14 @@ module _ (c : Sv) (f : ℕ → Float) (l : List Float) where
       keeps (storeTurn c f) l (λ _ t. length t ≡ length l) (c .pat .count) (λ k t _ e. length-set t (listed c k) (f (listed c k)) ∙ e) refl (c .pat .count)
       (le-refl (c .pat .count))
 
-  stored-finite : storesFinite c f ≡ true → (j : ℕ) → finite (l ! j) ≡ true → finite (stored c f l ! j) ≡ true
+  pub stored-finite : storesFinite c f ≡ true → (j : ℕ) → finite (l ! j) ≡ true → finite (stored c f l ! j) ≡ true
   unfolding stored storesFinite
   stored-finite p j q =
       keeps (storeTurn c f) l (λ _ t. finite (t ! j) ≡ true) (c .pat .count)
       (λ k t h e. set-either (λ x. finite x ≡ true) t (listed c k) (f (listed c k)) nan j (all-at (λ k. finite (f (listed c k))) (c .pat .count) p k h) e) q
       (c .pat .count) (le-refl (c .pat .count))
 
-set-finite : (l : List Float) (i : ℕ) (x : Float) (j : ℕ) → finite x ≡ true → finite (l ! j) ≡ true → finite (set l i x ! j) ≡ true
+pub set-finite : (l : List Float) (i : ℕ) (x : Float) (j : ℕ) → finite x ≡ true → finite (l ! j) ≡ true → finite (set l i x ! j) ≡ true
 set-finite l i x j a b = set-either (λ y. finite y ≡ true) l i x nan j a b
 
 -- ---- a flip
@@ -378,16 +379,16 @@ pub step-sound : (P : Problem) (p : ProblemFits P) (s : State) → Sound P s →
 step-sound P p s g e enters i t q =
     record { fits = step-fits P p s (g .fits) e enters i t q; numbers = step-numbers P p s (g .fits) e enters i t q (g .numbers) }
 
--- ---- a dual step
-module _ (P : Problem) (p : ProblemFits P) (s : State) (f : Fits P s) (l : LeavingVar) (h : l .row < mOf P) (i : PivotInfo) (t : State)
-    (steps : dualStep P s l ≡ moved i t) where
+-- ---- a dual step, whatever its test
+module _ {test : NonBasicVarState → Float → Bool} (P : Problem) (p : ProblemFits P) (s : State) (f : Fits P s) (l : LeavingVar)
+    (h : l .row < mOf P) (i : PivotInfo) (t : State) (steps : dualStepBy test P s l ≡ moved i t) where
   pub dual-fits : Fits P t
   dual-fits = let x = dual-moves _ P p s l h i t steps in made-fits P p s f (x .0) t (x .1)
 
   pub dual-numbers : Numbers P s → Numbers P t
   dual-numbers = let x = dual-moves _ P p s l h i t steps in made-numbers P p s f (x .0) t (x .1)
 
-pub dual-sound : (P : Problem) (p : ProblemFits P) (s : State) → Sound P s → (l : LeavingVar) → l .row < mOf P → (i : PivotInfo) (t : State)
-    → dualStep P s l ≡ moved i t → Sound P t
+pub dual-sound : {test : NonBasicVarState → Float → Bool} (P : Problem) (p : ProblemFits P) (s : State) → Sound P s → (l : LeavingVar)
+    → l .row < mOf P → (i : PivotInfo) (t : State) → dualStepBy test P s l ≡ moved i t → Sound P t
 dual-sound P p s g l h i t q =
     record { fits = dual-fits P p s (g .fits) l h i t q; numbers = dual-numbers P p s (g .fits) l h i t q (g .numbers) }
