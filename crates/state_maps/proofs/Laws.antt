@@ -52,17 +52,22 @@ unfolding rowsFine
 rows-count ks count kept h = eqb-true count (length ks) (both-true _ _ h .0)
 
 -- ---- cells
+
+-- those at n places, of which the first is 0
+pub from-zero : (vars : ℕ) (states : List ℕ) (n : ℕ) (at : List ℕ)
+    → all n (λ k. leadsBack vars states (0 + k) (at # k)) ≡ all n (λ k. leadsBack vars states k (at # k))
+from-zero vars states n at =
+    all-same _ _ n (λ k l. ap (λ (x : ℕ). leadsBack vars states x (at # k)) (from k))
+  where
+    from : (k : ℕ) → 0 + k ≡ k
+    from k = omega arith
+
 pub cells-are : (n m : ℕ) (w : Workspace) {a b c : Bool}
     → a ≡ all n (λ k. leadsBack (n + m) (w .varStates) (0 + k) (w .nbVars # k))
     → b ≡ all m (λ k. leadsBack (n + m) (w .varStates) (n + k) (w .basicVars # k))
     → c ≡ all (n + m) (λ k. ltb (w .varStates # k) (n + m)) → a && b && c ≡ cellsFine n m w
 unfolding cellsFine
-cells-are n m w e f g =
-    rw
-    (e ∙ all-same _ (λ k. leadsBack (n + m) (w .varStates) k (w .nbVars # k)) n (λ k l. ap (λ (x : ℕ). leadsBack (n + m) (w .varStates) x (w .nbVars # k)) (from k)), f, g)
-  where
-    from : (k : ℕ) → 0 + k ≡ k
-    from k = omega arith
+cells-are n m w e f g = rw (e ∙ from-zero (n + m) (w .varStates) n (w .nbVars), f, g)
 
 -- ---- the whole
 pub other-rows : (p : Plan) (m : Memory) {b : Bool} → b ≡ rowsFine (keptRows p) (m .counts # 0) (m .kept) → b ≡ false
