@@ -21,9 +21,8 @@ use Rattle.rules.specs.Plan.{Problem, State, Workspace, Etas, Factored, 
 use Rattle.rules.specs.Choose.{choose}
 use Rattle.rules.specs.Basis.{etaUsed, etaFits, etaEntryAt, pushEta, basisAfter, noColumns, factoredAnew}
 use Rattle.rules.specs.Pivot.{storeTurn, stored, storesFinite, movedVal, newVal, newPrice, newNorm, etaFinite, flipFinite, flipped, numbersFinite, exchangedTo, exchanged, refactored}
-use Rattle.rules.specs.Step.{stateWithDualNorms, step, dualStepBy, moved}
+use Rattle.rules.specs.Step.{stateWithDualNorms, step, dualStep, moved}
 use Rattle.rules.specs.Conditions.{stepColumn}
-use Rattle.rules.specs.declared.NonBasicVarState.{NonBasicVarState}
 use Rattle.rules.specs.declared.Entering.{Entering}
 use Rattle.rules.specs.declared.Choice.the-variants.{Enters}
 use Rattle.rules.specs.declared.LeavingVar.{LeavingVar}
@@ -327,7 +326,7 @@ module _ (P : Problem) (p : ProblemFits P) (s : State) (f : Fits P s) (e : Enter
   norms-long : mOf P ≤ length (dualNormsOf P s e z)
   norms-long = simp stored-long (f .lengths .dualNorms-long)
 
-  made-fits : Fits P t
+  pub made-fits : Fits P t
   made-fits =
       ⊎-elim
       (λ (y : Pushes P s e z t).
@@ -342,7 +341,7 @@ module _ (P : Problem) (p : ProblemFits P) (s : State) (f : Fits P s) (e : Enter
       (x .col-below) (x .row-below) (y .factor) (y .made))))
       (x .stores)
 
-  made-numbers : Numbers P s → Numbers P t
+  pub made-numbers : Numbers P s → Numbers P t
   made-numbers g =
       let norms : (r : ℕ) → r < mOf P → finite (dualNormsOf P s e z ! r) ≡ true = λ r h.
       stored-finite (columnOf P s e z) (dualNormOf P s e z) (s .ws .dualNorms) (x .passes .norms) r (g .dualNorm r h) in
@@ -379,16 +378,16 @@ pub step-sound : (P : Problem) (p : ProblemFits P) (s : State) → Sound P s →
 step-sound P p s g e enters i t q =
     record { fits = step-fits P p s (g .fits) e enters i t q; numbers = step-numbers P p s (g .fits) e enters i t q (g .numbers) }
 
--- ---- a dual step, whatever its test
-module _ {test : NonBasicVarState → Float → Bool} (P : Problem) (p : ProblemFits P) (s : State) (f : Fits P s) (l : LeavingVar)
-    (h : l .row < mOf P) (i : PivotInfo) (t : State) (steps : dualStepBy test P s l ≡ moved i t) where
+-- ---- a dual step
+module _ (P : Problem) (p : ProblemFits P) (s : State) (f : Fits P s) (l : LeavingVar) (h : l .row < mOf P) (i : PivotInfo) (t : State)
+    (steps : dualStep P s l ≡ moved i t) where
   pub dual-fits : Fits P t
   dual-fits = let x = dual-moves _ P p s l h i t steps in made-fits P p s f (x .0) t (x .1)
 
   pub dual-numbers : Numbers P s → Numbers P t
   dual-numbers = let x = dual-moves _ P p s l h i t steps in made-numbers P p s f (x .0) t (x .1)
 
-pub dual-sound : {test : NonBasicVarState → Float → Bool} (P : Problem) (p : ProblemFits P) (s : State) → Sound P s → (l : LeavingVar)
-    → l .row < mOf P → (i : PivotInfo) (t : State) → dualStepBy test P s l ≡ moved i t → Sound P t
+pub dual-sound : (P : Problem) (p : ProblemFits P) (s : State) → Sound P s → (l : LeavingVar) → l .row < mOf P → (i : PivotInfo) (t : State)
+    → dualStep P s l ≡ moved i t → Sound P t
 dual-sound P p s g l h i t q =
     record { fits = dual-fits P p s (g .fits) l h i t q; numbers = dual-numbers P p s (g .fits) l h i t q (g .numbers) }

@@ -4,7 +4,6 @@ use mathlib.Core.Bool.{Bool, true, false}
 use mathlib.Core.Logic.{⊎-elim}
 use Prim.Native.Nat.{ℕ, zero, suc, _+_, _-_, _*_, _<_, _≤_}
 use native.Mathlib.Omega.{arith}
-use lib.Ieee.{Float}
 use Rattle.doubles.specs.Loop.{until}
 use Rattle.sparse.specs.Scattered.{Sv}
 use Rattle.rules.specs.Plan.{Memory, Problem, State, mOf}
@@ -13,13 +12,12 @@ use Rattle.rules.specs.Choose.{choose}
 use Rattle.rules.specs.Basis.{etaUsed}
 use Rattle.rules.specs.DualRow.{chooseRow}
 use Rattle.rules.specs.Pivot.{flipped, exchanged, refactored}
-use Rattle.rules.specs.Step.{step, dualStep, dualStepBy, moved, stopped, Outcome, Ended, ended, next, atBudget, runOf, dualNext, dualAtBudget, dualRunOf, thenPrimal, bothRuns}
+use Rattle.rules.specs.Step.{step, dualStep, moved, stopped, Outcome, Ended, ended, next, atBudget, runOf, dualNext, dualAtBudget, dualRunOf, thenPrimal, bothRuns}
 use Rattle.rules.specs.Kinds.{Kind, dual, primal, firstKind, kindAfter, lastKindBy, lastKind}
 use Rattle.rules.specs.Solve.{endOf}
 use Rattle.rules.specs.Conditions.{Exchanges, ExchangesBoth, StoresTo, stepColumn, dualInfo, DualStopsBy}
 use Rattle.rules.specs.Invariant.{ProblemFits, Fits, Sound, Tails}
 use Rattle.rules.specs.Steps.{Steps, none, one-dual, turns, one-more, Reached, Bounded}
-use Rattle.rules.specs.declared.NonBasicVarState.{NonBasicVarState}
 use Rattle.rules.specs.declared.Entering.{Entering}
 use Rattle.rules.specs.declared.Choice.{Choice}
 use Rattle.rules.specs.declared.Choice.the-variants.{Enters, Nothing}
@@ -56,8 +54,8 @@ stores-count P s e c (Exchange value diff row coeff leaving) t h =
 pub step-counts : (P : Problem) (s : State) (e : Entering) (i : PivotInfo) (t : State) → step P s e ≡ moved i t → t .steps ≡ suc (s .steps)
 step-counts P s e i t q = stores-count P s e (stepColumn P s e) i t (moves-exactly P s e i t .0 q .after)
 
-pub dual-counts : {test : NonBasicVarState → Float → Bool} (P : Problem) (s : State) (l : LeavingVar) (i : PivotInfo) (t : State)
-    → dualStepBy test P s l ≡ moved i t → t .steps ≡ suc (s .steps)
+pub dual-counts : (P : Problem) (s : State) (l : LeavingVar) (i : PivotInfo) (t : State) → dualStep P s l ≡ moved i t
+    → t .steps ≡ suc (s .steps)
 dual-counts P s l i t q =
     let x = any-moves _ P s l i t q .chosen in
     stores-count P s (x .0) (stepColumn P s (x .0)) (dualInfo P s l (x .1 .0) (x .1 .1) (x .1 .2)) t (x .1 .4 .1 .1 .1)
