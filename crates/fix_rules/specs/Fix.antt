@@ -39,29 +39,38 @@ unmarked P s c = withFlags s c (flagsAt P (s .ws .nbVars # c) (s .ws .nbVarVals 
 
 -- ---- fix of a non-basic column, at place c: "diff = value - its value; basic values of listed rows -= diff * coefficient;
 -- objective += diff * price"
+abbrev pub fixDiff : State → ℕ → Float → Float
+fixDiff s c value = value ⊖ s .ws .nbVarVals ! c
+
+abbrev pub fixObjective : State → ℕ → Float → Float
+fixObjective s c value = s .objective ⊕ fixDiff s c value ⊗ s .ws .prices ! c
+
+-- its column, solved, is given
+module _ (s : State) (c : ℕ) (column : Sv) (value : Float) where
+  -- "all finite, else 23"
+  abbrev pub shiftFiniteBy : Bool
+  shiftFiniteBy = storesFinite column (movedVal (s .ws) column (fixDiff s c value)) && finite (fixObjective s c value)
+
+  -- "the value; the mark. No step"
+  abbrev pub shiftedBy : State
+  shiftedBy =
+      let w = s .ws in
+      marked
+      (stateWith
+      (workspaceOf (w .basicVars) (stored column (movedVal w column (fixDiff s c value)) (w .basicVarVals)) (w .nbVars) (set (w .nbVarVals) c value) (w .prices) (w .norms) (w .dualNorms) (w .flags) (w .varStates) (w .etas))
+      (s .etaCount) (fixObjective s c value) (s .steps) (s .factor))
+      c
+
 module _ (P : Problem) (s : State) (c : ℕ) (value : Float) where
   abbrev pub fixColumn : Sv
   fixColumn = colCoeffs P s (s .ws .nbVars # c)
 
-  abbrev pub fixDiff : Float
-  fixDiff = value ⊖ s .ws .nbVarVals ! c
-
-  abbrev pub fixObjective : Float
-  fixObjective = s .objective ⊕ fixDiff ⊗ s .ws .prices ! c
-
   -- "column solve (entries finite, else 23)", "all finite, else 23"
   unfoldable pub shiftFinite : Bool
-  shiftFinite = listedFinite fixColumn && (storesFinite fixColumn (movedVal (s .ws) fixColumn fixDiff) && finite fixObjective)
+  shiftFinite = listedFinite fixColumn && shiftFiniteBy s c fixColumn value
 
-  -- "the value; the mark. No step"
   unfoldable pub shifted : State
-  shifted =
-      let w = s .ws in
-      marked
-      (stateWith
-      (workspaceOf (w .basicVars) (stored fixColumn (movedVal w fixColumn fixDiff) (w .basicVarVals)) (w .nbVars) (set (w .nbVarVals) c value) (w .prices) (w .norms) (w .dualNorms) (w .flags) (w .varStates) (w .etas))
-      (s .etaCount) fixObjective (s .steps) (s .factor))
-      c
+  shifted = shiftedBy s c fixColumn value
 
   -- "then the run of Ask 8: dual steps, then primal ones"
   unfoldable pub fixNonBasic : Ended
