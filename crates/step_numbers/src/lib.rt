@@ -59,8 +59,8 @@ pub fn new_norm(
 
 // ---- the tests. 01: "every number to be stored must be finite"
 
-// The basic values of a flip.
-fn moved_finite(
+// The basic values where a column that stays non-basic moves by `diff`.
+pub fn moved_finite(
     basic_var_vals: &[f64],
     values: &[f64; doubles::PLACES],
     list: &[usize; doubles::PLACES],

@@ -6,7 +6,8 @@ use Prim.Native.Nat.{ℕ}
 use lib.Ieee.{Float}
 use Rattle.sparse.specs.Scattered.{Sv}
 use Rattle.rules.specs.Plan.{Workspace}
-use Rattle.rules.specs.DualRatio.{leavingRises, dualSound, dualPassOne, dualCandidate, dualPassTwoTurn, dualPassTwo, dualExchangeOf, dualRatio}
+use Rattle.rules.specs.DualRatio.{leavingRises, dualSound, dualPassOne, dualCandidate, dualPassTwoTurn, dualPassTwo, dualExchangeOf, testBy, dualRatioBy}
+use Rattle.rules.specs.declared.NonBasicVarState.{NonBasicVarState}
 use Rattle.rules.specs.declared.LeavingVar.{LeavingVar}
 use Rattle.step_prices.specs.Lent.{pricedOf, columnsOf, Passing, Pricing}
 use Rattle.step_prices.specs.Parts.{maxStepOf}
@@ -17,18 +18,20 @@ pricingPart w = columnsOf (w .basicVarVals) (w .nbVarVals) (w .prices) (w .flags
 abbrev pub passingPart : Workspace → Workspace
 passingPart w = pricedOf (w .prices) (w .flags)
 
-pub dual-ratio-part : (w : Workspace) (l : LeavingVar) (r : Sv) → dualRatio w l r ≡ dualRatio (pricingPart w) l r
-unfolding dualRatio leavingRises dualSound dualPassOne dualPassTwo dualPassTwoTurn dualCandidate dualExchangeOf
-dual-ratio-part w l r = refl
+pub dual-ratio-part : (still : Bool) (w : Workspace) (l : LeavingVar) (r : Sv)
+    → dualRatioBy (testBy still (leavingRises w l)) w l r ≡ dualRatioBy (testBy still (leavingRises (pricingPart w) l)) (pricingPart w) l r
+unfolding dualRatioBy leavingRises dualSound dualPassOne dualPassTwo dualPassTwoTurn dualCandidate dualExchangeOf
+dual-ratio-part still w l r = refl
 
 -- inside the ratio
-pub max-step-part : (w : Workspace) (up : Bool) (r : Sv) → maxStepOf (passingPart w) up r ≡ maxStepOf w up r
+pub max-step-part : (w : Workspace) (test : NonBasicVarState → Float → Bool) (r : Sv) → maxStepOf (passingPart w) test r ≡ maxStepOf w test r
 unfolding maxStepOf dualSound dualPassOne
-max-step-part w up r = refl
+max-step-part w test r = refl
 
-pub pass-two-part : (w : Workspace) (up : Bool) (r : Sv) (t : Float) → dualPassTwo (passingPart w) up r t .at ≡ dualPassTwo w up r t .at
+pub pass-two-part : (w : Workspace) (test : NonBasicVarState → Float → Bool) (r : Sv) (t : Float)
+    → dualPassTwo (passingPart w) test r t .at ≡ dualPassTwo w test r t .at
 unfolding dualPassTwo dualPassTwoTurn dualCandidate
-pass-two-part w up r t = refl
+pass-two-part w test r t = refl
 
 pub passing-part : {w : Workspace} {list : List ℕ} {count : ℕ} → Passing w list count → Passing (passingPart w) list count
 passing-part f =

@@ -12,7 +12,7 @@ use Rattle.doubles.proofs.Loops.{done, all-fails}
 use Rattle.sparse.specs.Scattered.{Sv, listed, listedVal}
 use Rattle.rules.specs.Plan.{Workspace, flagsOf}
 use Rattle.rules.specs.Ratio.{Leaving, leavingOf}
-use Rattle.rules.specs.DualRatio.{eligible, clamped, eligibleAt, dualRelaxed, dualSoundAt, dualSound, dualPassOneTurn, dualPassOne, dualCandidate, dualPassTwoTurn, dualPassTwo}
+use Rattle.rules.specs.DualRatio.{clamped, eligibleAt, dualRelaxed, dualSoundAt, dualSound, dualPassOneTurn, dualPassOne, dualCandidate, dualPassTwoTurn, dualPassTwo}
 use Rattle.rules.specs.declared.NonBasicVarState.{NonBasicVarState}
 use Rattle.rules.proofs.DualColumn.{dual-one-test}
 use Rattle.step_prices.specs.Parts.{relaxedOf, stepOf, shrunk, maxStepOf, taken}
@@ -27,12 +27,12 @@ and-true : (x : Bool) → x && true ≡ x
 and-true true = refl
 and-true false = refl
 
-module _ (up : Bool) (f : NonBasicVarState) (d a : Float) {g : NonBasicVarState} {x : Bool} (v : g ≡ f) (b : x ≡ eligible up g a) where
-  seen : {y : Bool} → x ≡ y → eligible up f a ≡ y
-  seen h = sym (b ∙ ap (λ f. eligible up f a) v) ∙ h
+module _ (test : NonBasicVarState → Float → Bool) (f : NonBasicVarState) (d a : Float) {g : NonBasicVarState} {x : Bool} (v : g ≡ f) (b : x ≡ test g a) where
+  seen : {y : Bool} → x ≡ y → test f a ≡ y
+  seen h = sym (b ∙ ap (λ f. test f a) v) ∙ h
 
   -- ---- pass one's turn, by the code's tests
-  pub shrunk-passed : (t : Float) → x ≡ false → Step t ≡ shrunk up f d a t
+  pub shrunk-passed : (t : Float) → x ≡ false → Step t ≡ shrunk test f d a t
   unfolding shrunk
   shrunk-passed t h = rw (seen h, shrunk)
 
@@ -43,32 +43,32 @@ module _ (up : Bool) (f : NonBasicVarState) (d a : Float) {g : NonBasicVarState}
     is : quotient ≡ relaxedOf f d a
     is = rw (r, q, v, e)
 
-    pub shrunk-less : finite quotient ≡ true → lt quotient t ≡ true → Step quotient ≡ shrunk up f d a t
+    pub shrunk-less : finite quotient ≡ true → lt quotient t ≡ true → Step quotient ≡ shrunk test f d a t
     unfolding shrunk
     shrunk-less k u = rw (seen h, rw is at k, rw is at u, shrunk) (ap Step is)
 
-    pub shrunk-kept : finite quotient ≡ true → lt quotient t ≡ false → Step t ≡ shrunk up f d a t
+    pub shrunk-kept : finite quotient ≡ true → lt quotient t ≡ false → Step t ≡ shrunk test f d a t
     unfolding shrunk
     shrunk-kept k u = rw (seen h, rw is at k, rw is at u, shrunk)
 
-    pub shrunk-23 : finite quotient ≡ false → NotFinite ≡ shrunk up f d a t
+    pub shrunk-23 : finite quotient ≡ false → NotFinite ≡ shrunk test f d a t
     unfolding shrunk
     shrunk-23 k = rw (seen h, rw is at k, shrunk)
 
   -- ---- pass two's test
-  pub taken-passed : (t best : Float) → x ≡ false → false ≡ taken up f d a t best
+  pub taken-passed : (t best : Float) → x ≡ false → false ≡ taken test f d a t best
   unfolding taken
   taken-passed t best h = rw (seen h)
 
   pub taken-by : {p c s : Float} (t best : Float) → x ≡ true → c ≡ clamped g d → p ≡ size c → s ≡ size a → lt best s ≡ true
-      → le (p ⊘ s) t ≡ taken up f d a t best
+      → le (p ⊘ s) t ≡ taken test f d a t best
   unfolding taken
   taken-by t best h q r e larger = rw (seen h, rw e at larger, r, q, v, e) (sym (and-true _))
 
-pub taken-small : (up : Bool) (f : NonBasicVarState) (d a : Float) {s : Float} (t best : Float) → s ≡ size a → lt best s ≡ false
-    → false ≡ taken up f d a t best
+pub taken-small : (test : NonBasicVarState → Float → Bool) (f : NonBasicVarState) (d a : Float) {s : Float} (t best : Float) → s ≡ size a → lt best s ≡ false
+    → false ≡ taken test f d a t best
 unfolding taken
-taken-small up f d a t best e h = rw (rw e at h) (sym (and-false (eligible up f a && le (stepOf f d a) t)))
+taken-small test f d a t best e h = rw (rw e at h) (sym (and-false (test f a && le (stepOf f d a) t)))
 
 -- ---- the loops' turns
 picked : (x y z : Bool) (q t u : Float) → elim x [ true ↦ elim y [ true ↦ elim z [ true ↦ Step q | false ↦ Step t ] | false ↦ NotFinite ] | false ↦ Step t ] ≡ Step u
@@ -85,45 +85,45 @@ refused true true false q t h = absurd (let z : _≡_ {A = ℕ} 0 1 = cc in omeg
 refused true false z q t h = refl
 refused false y z q t h = absurd (let z : _≡_ {A = ℕ} 0 1 = cc in omega arith)
 
-module _ (w : Workspace) (up : Bool) (r : Sv) where
+module _ (w : Workspace) (test : NonBasicVarState → Float → Bool) (r : Sv) where
   abbrev shrunkAt : ℕ → Float → MaxStep
-  shrunkAt k t = shrunk up (flagsOf (w .flags # listed r k)) (w .prices ! listed r k) (listedVal r k) t
+  shrunkAt k t = shrunk test (flagsOf (w .flags # listed r k)) (w .prices ! listed r k) (listedVal r k) t
 
   abbrev takenAt : ℕ → Float → Float → Bool
-  takenAt k t best = taken up (flagsOf (w .flags # listed r k)) (w .prices ! listed r k) (listedVal r k) t best
+  takenAt k t best = taken test (flagsOf (w .flags # listed r k)) (w .prices ! listed r k) (listedVal r k) t best
 
   -- one quotient tested in pass one's turn settles both
   pub one-more : (k : ℕ) (t : Float) {u : Float} {x : MaxStep} → x ≡ shrunkAt k t → x ≡ Step u
-      → (dualSoundAt w up r k ≡ true) × (u ≡ dualPassOneTurn w up r k t)
+      → (dualSoundAt w test r k ≡ true) × (u ≡ dualPassOneTurn w test r k t)
   unfolding shrunk
   one-more k t {u} b h =
-      let q = dualRelaxed w up r k in
-      let y = picked (eligibleAt w up r k) (finite q) (lt q t) q t u (sym b ∙ h) in
-      (dual-one-test w up r k ∙ y .0, y .1)
+      let q = dualRelaxed w r k in
+      let y = picked (eligibleAt w test r k) (finite q) (lt q t) q t u (sym b ∙ h) in
+      (dual-one-test w r test k ∙ y .0, y .1)
 
   pub two-takes : (maxStep : Float) (k : ℕ) (b : Leaving) {x : Bool} {s : Float} → x ≡ takenAt k maxStep (b .size) → x ≡ true
-      → s ≡ size (listedVal r k) → leavingOf k s ≡ dualPassTwoTurn w up r maxStep k b
+      → s ≡ size (listedVal r k) → leavingOf k s ≡ dualPassTwoTurn w test r maxStep k b
   unfolding taken dualCandidate dualPassTwoTurn
   two-takes maxStep k b q h e = rw (sym q ∙ h, dualPassTwoTurn) (ap (leavingOf k) e)
 
   pub two-keeps : (maxStep : Float) (k : ℕ) (b : Leaving) {x : Bool} → x ≡ takenAt k maxStep (b .size) → x ≡ false
-      → b ≡ dualPassTwoTurn w up r maxStep k b
+      → b ≡ dualPassTwoTurn w test r maxStep k b
   unfolding taken dualCandidate dualPassTwoTurn
   two-keeps maxStep k b q h = rw (sym q ∙ h, dualPassTwoTurn)
 
   -- ---- what a pass answers
-  pub max-step-23 : (k : ℕ) (t : Float) {x : MaxStep} → x ≡ shrunkAt k t → x ≡ NotFinite → k < r .pat .count → NotFinite ≡ maxStepOf w up r
+  pub max-step-23 : (k : ℕ) (t : Float) {x : MaxStep} → x ≡ shrunkAt k t → x ≡ NotFinite → k < r .pat .count → NotFinite ≡ maxStepOf w test r
   unfolding shrunk dualSound maxStepOf
   max-step-23 k t b h l =
-      let q = dualRelaxed w up r k in
-      rw (all-fails (dualSoundAt w up r) (r .pat .count) k l (dual-one-test w up r k ∙ refused (eligibleAt w up r k) (finite q) (lt q t) q t (sym b ∙ h)), maxStepOf)
+      let q = dualRelaxed w r k in
+      rw (all-fails (dualSoundAt w test r) (r .pat .count) k l (dual-one-test w r test k ∙ refused (eligibleAt w test r k) (finite q) (lt q t) q t (sym b ∙ h)), maxStepOf)
 
-  pub max-step-is : (k : ℕ) {t : Float} → k ≤ r .pat .count → r .pat .count ≤ k → all k (dualSoundAt w up r) ≡ true → t ≡ run (dualPassOneTurn w up r) k +inf
-      → Step t ≡ maxStepOf w up r
+  pub max-step-is : (k : ℕ) {t : Float} → k ≤ r .pat .count → r .pat .count ≤ k → all k (dualSoundAt w test r) ≡ true → t ≡ run (dualPassOneTurn w test r) k +inf
+      → Step t ≡ maxStepOf w test r
   unfolding dualSound dualPassOne maxStepOf
   max-step-is k l g s e = rw (rw (le-antisymm l g) at s, maxStepOf) (ap Step (done _ _ k _ l g e))
 
   pub enters-at : (maxStep : Float) (k : ℕ) {b : Leaving} → k ≤ r .pat .count → r .pat .count ≤ k
-      → b ≡ run (dualPassTwoTurn w up r maxStep) k (leavingOf (r .pat .count) -inf) → b .at ≡ dualPassTwo w up r maxStep .at
+      → b ≡ run (dualPassTwoTurn w test r maxStep) k (leavingOf (r .pat .count) -inf) → b .at ≡ dualPassTwo w test r maxStep .at
   unfolding dualPassTwo
   enters-at maxStep k l g e = ap (λ x. x .at) (done _ _ k _ l g e)

@@ -5,7 +5,7 @@ use lib.Ieee.{Float, lt, le}
 use Rattle.doubles.specs.Num.{_⊕_, _⊖_, _⊘_, eps, finite, size}
 use Rattle.sparse.specs.Scattered.{Sv}
 use Rattle.rules.specs.Plan.{Workspace}
-use Rattle.rules.specs.DualRatio.{eligible, clamped, dualSound, dualPassOne}
+use Rattle.rules.specs.DualRatio.{clamped, dualSound, dualPassOne}
 use Rattle.rules.specs.declared.NonBasicVarState.{NonBasicVarState}
 use Rattle.rules.specs.declared.DualRatio.{DualRatio}
 use Rattle.rules.specs.declared.DualRatio.the-variants.{Exchange}
@@ -19,10 +19,10 @@ relaxedOf f d a = (size (clamped f d) ⊕ eps) ⊘ size a
 abbrev pub stepOf : NonBasicVarState → Float → Float → Float
 stepOf f d a = size (clamped f d) ⊘ size a
 
--- pass one's turn at such a column, with the test of 23
-unfoldable pub shrunk : Bool → NonBasicVarState → Float → Float → Float → MaxStep
-shrunk up f d a t =
-    elim (eligible up f a) [
+-- pass one's turn at such a column, over those that a test lets in, with the test of 23
+unfoldable pub shrunk : (NonBasicVarState → Float → Bool) → NonBasicVarState → Float → Float → Float → MaxStep
+shrunk test f d a t =
+    elim (test f a) [
       | true ↦ elim (finite (relaxedOf f d a)) [
         | true ↦ elim (lt (relaxedOf f d a) t) [ true ↦ Step (relaxedOf f d a) | false ↦ Step t ]
         | false ↦ NotFinite
@@ -30,12 +30,12 @@ shrunk up f d a t =
       | false ↦ Step t
     ]
 
-unfoldable pub maxStepOf : Workspace → Bool → Sv → MaxStep
-maxStepOf w up r = elim (dualSound w up r) [ true ↦ Step (dualPassOne w up r) | false ↦ NotFinite ]
+unfoldable pub maxStepOf : Workspace → (NonBasicVarState → Float → Bool) → Sv → MaxStep
+maxStepOf w test r = elim (dualSound w test r) [ true ↦ Step (dualPassOne w test r) | false ↦ NotFinite ]
 
 -- pass two's test of a column against the largest size so far
-unfoldable pub taken : Bool → NonBasicVarState → Float → Float → Float → Float → Bool
-taken up f d a maxStep best = (eligible up f a && le (stepOf f d a) maxStep) && lt best (size a)
+unfoldable pub taken : (NonBasicVarState → Float → Bool) → NonBasicVarState → Float → Float → Float → Float → Bool
+taken test f d a maxStep best = (test f a && le (stepOf f d a) maxStep) && lt best (size a)
 
 -- the exchange of column c, from its numbers and the move of the leaving variable
 unfoldable pub exchangeBy : ℕ → Float → Float → Float → Float → Float → DualRatio

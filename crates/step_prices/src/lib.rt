@@ -6,7 +6,7 @@ ghost use mathlib.Core.Bool.{Bool};
 ghost use mathlib.Core.List.{List};
 ghost use Rattle.sparse.specs.Scattered.{sv};
 ghost use Rattle.rules.specs.Plan.{flagsOf};
-ghost use Rattle.rules.specs.DualRatio.{mayMove, dualPassTwo, dualRatio};
+ghost use Rattle.rules.specs.DualRatio.{leavingRises, mayMove, eligibleStill, testBy, dualPassTwo, dualRatioBy};
 ghost use Rattle.rules.specs.DualRatio as DualRatio;
 ghost use Rattle.step_prices.specs.Lent.{pricedOf, columnsOf, Passing, Pricing};
 ghost use Rattle.step_prices.specs.Parts.{shrunk, maxStepOf, taken, exchangeBy};
@@ -27,6 +27,24 @@ fn eligible(up: bool, f: rules::NonBasicVarState, a: f64) -> bool
     ensures { λ r. ⌜ r ≡ DualRatio.eligible up f a ⌝ }
 {
     ((doubles::EPS <= a) & may_move(!up, f)) | ((a <= -doubles::EPS) & may_move(up, f))
+}
+
+// docs/RULES-02.md, Ask 9: "nothing has to move, and no bound is in the way: every place with a coefficient of at least EPS or
+// at most -EPS, and no fixed mark, is eligible".
+fn eligible_still(f: rules::NonBasicVarState, a: f64) -> bool
+    ensures { λ r. ⌜ r ≡ eligibleStill f a ⌝ }
+{
+    (doubles::EPS <= doubles::abs(a)) & !f.fixed
+}
+
+// The test of a step whose leaving variable stands still, rises, or falls.
+fn lets_in(still: bool, up: bool, f: rules::NonBasicVarState, a: f64) -> bool
+    ensures { λ r. ⌜ r ≡ testBy still up f a ⌝ }
+{
+    if still {
+        return eligible_still(f, a);
+    }
+    eligible(up, f, a)
 }
 
 // The price counts as 0.0 where its sign is the wrong one for the bound that the column is at. Else it is the
@@ -50,11 +68,11 @@ pub enum MaxStep {
 
 // Pass one uses (size of clamped price + EPS) / size of coefficient, strictly smaller. "A quotient of an eligible
 // column that isn't finite: 23": where this one is finite, so is pass two's.
-fn shrink(up: bool, cell: usize, price: f64, a: f64, step: f64) -> MaxStep
-    ensures { λ x. ⌜ x ≡ shrunk up (flagsOf cell) price a step ⌝ }
+fn shrink(still: bool, up: bool, cell: usize, price: f64, a: f64, step: f64) -> MaxStep
+    ensures { λ x. ⌜ x ≡ shrunk (testBy still up) (flagsOf cell) price a step ⌝ }
 {
     let f = cells::read_flags(cell);
-    if eligible(up, f, a) {
+    if lets_in(still, up, f, a) {
         let quotient = (doubles::abs(clamped(f, price)) + doubles::EPS) / doubles::abs(a);
         if doubles::is_finite(quotient) {
             if quotient < step {
@@ -68,6 +86,7 @@ fn shrink(up: bool, cell: usize, price: f64, a: f64, step: f64) -> MaxStep
 }
 
 fn pass_one(
+    still: bool,
     up: bool,
     prices: &[f64],
     flags: &[usize],
@@ -76,14 +95,14 @@ fn pass_one(
     count: usize,
 ) -> MaxStep
     requires { ⌜ Passing (pricedOf (now prices) (now flags)) (now list) count ⌝ }
-    ensures { λ x. ⌜ ((m : List Bool) → x ≡ maxStepOf (pricedOf (now (prices .entry)) (now (flags .entry))) up
-        (sv (now (values .entry)) m (now (list .entry)) count)) ⌝ }
+    ensures { λ x. ⌜ ((m : List Bool) → x ≡ maxStepOf (pricedOf (now (prices .entry)) (now (flags .entry)))
+        (testBy still up) (sv (now (values .entry)) m (now (list .entry)) count)) ⌝ }
 {
     let mut step = doubles::infinity();
     let mut k = 0;
     while k < count {
         let c = list[k];
-        let next = shrink(up, flags[c], prices[c], values[c], step);
+        let next = shrink(still, up, flags[c], prices[c], values[c], step);
         let MaxStep::Step(t) = next else {
             return MaxStep::NotFinite;
         };
@@ -95,13 +114,13 @@ fn pass_one(
 
 // Pass two takes size of clamped price / size of coefficient <= max_step, strictly largest coefficient size. The size
 // is asked first: most columns are settled without a division.
-fn takes(up: bool, cell: usize, price: f64, a: f64, max_step: f64, best: f64) -> bool
-    ensures { λ x. ⌜ x ≡ taken up (flagsOf cell) price a «max_step» best ⌝ }
+fn takes(still: bool, up: bool, cell: usize, price: f64, a: f64, max_step: f64, best: f64) -> bool
+    ensures { λ x. ⌜ x ≡ taken (testBy still up) (flagsOf cell) price a «max_step» best ⌝ }
 {
     let size = doubles::abs(a);
     if best < size {
         let f = cells::read_flags(cell);
-        if eligible(up, f, a) {
+        if lets_in(still, up, f, a) {
             return doubles::abs(clamped(f, price)) / size <= max_step;
         }
         return false;
@@ -111,6 +130,7 @@ fn takes(up: bool, cell: usize, price: f64, a: f64, max_step: f64, best: f64) ->
 
 // The place of the entering column in the list, and `count` where there is none.
 fn pass_two(
+    still: bool,
     up: bool,
     prices: &[f64],
     flags: &[usize],
@@ -120,8 +140,8 @@ fn pass_two(
     max_step: f64,
 ) -> usize
     requires { ⌜ Passing (pricedOf (now prices) (now flags)) (now list) count ⌝ }
-    ensures { λ x. ⌜ ((m : List Bool) → x ≡ dualPassTwo (pricedOf (now (prices .entry)) (now (flags .entry))) up
-        (sv (now (values .entry)) m (now (list .entry)) count) «max_step» .at) ⌝ }
+    ensures { λ x. ⌜ ((m : List Bool) → x ≡ dualPassTwo (pricedOf (now (prices .entry)) (now (flags .entry)))
+        (testBy still up) (sv (now (values .entry)) m (now (list .entry)) count) «max_step» .at) ⌝ }
 {
     let mut at = count;
     let mut best = -doubles::infinity();
@@ -129,7 +149,7 @@ fn pass_two(
     while k < count {
         let c = list[k];
         let a = values[c];
-        if takes(up, flags[c], prices[c], a, max_step, best) {
+        if takes(still, up, flags[c], prices[c], a, max_step, best) {
             at = k;
             best = doubles::abs(a);
         }
@@ -158,8 +178,10 @@ fn exchange(col: usize, price: f64, value: f64, from: f64, to: f64, pivot: f64) 
 }
 
 // 02, Ask 8: "the entering column is chosen by a two-pass rule like the primal one, on prices"; 26 where there is none.
+// `still`: 02, Ask 9, the leaving variable is fixed where it stands.
 pub fn dual_ratio(
     l: rules::LeavingVar,
+    still: bool,
     basic_var_vals: &[f64],
     nb_var_vals: &[f64],
     prices: &[f64],
@@ -170,19 +192,21 @@ pub fn dual_ratio(
 ) -> rules::DualRatio
     requires { ⌜ Pricing (columnsOf (now «basic_var_vals») (now «nb_var_vals») (now prices) (now flags)) l (now list)
         count ⌝ }
-    ensures { λ r. ⌜ ((m : List Bool) → r ≡ dualRatio (columnsOf (now («basic_var_vals» .entry))
-        (now («nb_var_vals» .entry)) (now (prices .entry)) (now (flags .entry))) l
-        (sv (now (values .entry)) m (now (list .entry)) count)) ⌝ }
+    ensures { λ r. ⌜ ((m : List Bool) → r ≡ dualRatioBy
+        (testBy still (leavingRises (columnsOf (now («basic_var_vals» .entry)) (now («nb_var_vals» .entry))
+        (now (prices .entry)) (now (flags .entry))) l))
+        (columnsOf (now («basic_var_vals» .entry)) (now («nb_var_vals» .entry)) (now (prices .entry))
+        (now (flags .entry))) l (sv (now (values .entry)) m (now (list .entry)) count)) ⌝ }
 {
     let row = l.row;
     let from = basic_var_vals[row];
     let to = l.value;
     let up = from < to;
-    let first = pass_one(up, prices, flags, values, list, count);
+    let first = pass_one(still, up, prices, flags, values, list, count);
     let MaxStep::Step(step) = first else {
         return rules::DualRatio::NotFinite;
     };
-    let at = pass_two(up, prices, flags, values, list, count, step);
+    let at = pass_two(still, up, prices, flags, values, list, count, step);
     if at < count {
         let col = list[at];
         return exchange(col, prices[col], nb_var_vals[col], from, to, values[col]);

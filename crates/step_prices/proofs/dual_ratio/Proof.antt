@@ -32,7 +32,7 @@ returns : tie.Need-returns
 unfolding leavingRises
 returns c =
     let s : tie.Start = search in
-    λ m. ratio-23 (lent s) _ _ (c .before .before .pass-one .ensures m ∙ max-step-part (lent s) _ _) (c .enum-told .given .1)
+    λ m. ratio-23 _ (lent s) _ _ (c .before .before .pass-one .ensures m ∙ max-step-part (lent s) _ _) (c .enum-told .given .1)
 
 pass-two-requires : tie.Need-pass-two-requires
 pass-two-requires c κs = let s : tie.Start = search in passing-part (s .pre .passing)
@@ -90,7 +90,7 @@ returns-2 c =
     let v : tie.After-first = search in
     let t : tie.After-pass-two = search in
     let a : tie.Then1 = search in
-    λ m. ratio-exchanges (lent s) _ _ (o .pass-one .ensures m ∙ max-step-part (lent s) _ _) (v .first .given .1) (t .pass-two .ensures m ∙ pass-two-part (lent s) _ _ _) (a .if1 .taken) (c .exchange .ensures)
+    λ m. ratio-exchanges _ (lent s) _ _ (o .pass-one .ensures m ∙ max-step-part (lent s) _ _) (v .first .given .1) (t .pass-two .ensures m ∙ pass-two-part (lent s) _ _ _) (a .if1 .taken) (c .exchange .ensures)
 
 returns-3 : tie.Need-returns-3
 unfolding leavingRises
@@ -99,7 +99,7 @@ returns-3 c =
     let o : tie.After-pass-one = search in
     let v : tie.After-first = search in
     let t : tie.After-pass-two = search in
-    λ m. ratio-none (lent s) _ _ (o .pass-one .ensures m ∙ max-step-part (lent s) _ _) (v .first .given .1) (t .pass-two .ensures m ∙ pass-two-part (lent s) _ _ _) (c .if1 .left)
+    λ m. ratio-none _ (lent s) _ _ (o .pass-one .ensures m ∙ max-step-part (lent s) _ _) (v .first .given .1) (t .pass-two .ensures m ∙ pass-two-part (lent s) _ _ _) (c .if1 .left)
 
 pub dual-ratio-spec : {M : Type 1} → statement M
 dual-ratio-spec =

@@ -11,20 +11,20 @@ use Rattle.doubles.specs.Loop.{run, all}
 use Rattle.doubles.proofs.Loops.{next, all-next}
 use Rattle.sparse.specs.Scattered.{Sv, sv}
 use Rattle.rules.specs.Plan.{Workspace}
-use Rattle.rules.specs.DualRatio.{dualSoundAt, dualPassOneTurn}
+use Rattle.rules.specs.DualRatio.{testBy, dualSoundAt, dualPassOneTurn}
 use Rattle.step_prices.specs.Lent.{pricedOf, Column}
 use Rattle.step_prices.proofs.Passes.{one-more, max-step-23, max-step-is}
 use Rattle.step_prices.proofs.pass_one.Statement.{statement}
 use Rattle.step_prices.proofs.pass_one.Tie as tie
 
 abbrev Inv-loop : tie.InvT-loop
-Inv-loop up prices flags values list count step₀ k₀ step k =
+Inv-loop still up prices flags values list count step₀ k₀ step k =
     (k ≤ count)
-    × (all k (dualSoundAt (pricedOf prices flags) up (sv values [] list count)) ≡ true)
-    × (step ≡ run (dualPassOneTurn (pricedOf prices flags) up (sv values [] list count)) k Num.+inf)
+    × (all k (dualSoundAt (pricedOf prices flags) (testBy still up) (sv values [] list count)) ≡ true)
+    × (step ≡ run (dualPassOneTurn (pricedOf prices flags) (testBy still up) (sv values [] list count)) k Num.+inf)
 
 abbrev μ-loop : tie.MeasureT-loop
-μ-loop up prices flags values list count step₀ k₀ step k = count - k
+μ-loop still up prices flags values list count step₀ k₀ step k = count - k
 
 abbrev entry : tie.At-loop Inv-loop μ-loop → tie.Start Inv-loop μ-loop
 entry a = search

@@ -13,19 +13,19 @@ use Rattle.doubles.proofs.Loops.{next}
 use Rattle.sparse.specs.Scattered.{Sv, sv}
 use Rattle.rules.specs.Ratio.{leavingOf}
 use Rattle.rules.specs.Plan.{Workspace}
-use Rattle.rules.specs.DualRatio.{dualCandidate, dualPassTwoTurn, dualPassTwo}
+use Rattle.rules.specs.DualRatio.{testBy, dualCandidate, dualPassTwoTurn, dualPassTwo}
 use Rattle.step_prices.specs.Lent.{pricedOf, Column}
 use Rattle.step_prices.proofs.Passes.{two-takes, two-keeps, enters-at}
 use Rattle.step_prices.proofs.pass_two.Statement.{statement}
 use Rattle.step_prices.proofs.pass_two.Tie as tie
 
 abbrev Inv-loop : tie.InvT-loop
-Inv-loop up prices flags values list count max-step at₀ best₀ k₀ at best k =
+Inv-loop still up prices flags values list count max-step at₀ best₀ k₀ at best k =
     (k ≤ count)
-    × (leavingOf at best ≡ run (dualPassTwoTurn (pricedOf prices flags) up (sv values [] list count) max-step) k (leavingOf count Num.-inf))
+    × (leavingOf at best ≡ run (dualPassTwoTurn (pricedOf prices flags) (testBy still up) (sv values [] list count) max-step) k (leavingOf count Num.-inf))
 
 abbrev μ-loop : tie.MeasureT-loop
-μ-loop up prices flags values list count max-step at₀ best₀ k₀ at best k = count - k
+μ-loop still up prices flags values list count max-step at₀ best₀ k₀ at best k = count - k
 
 abbrev entry : tie.At-loop Inv-loop μ-loop → tie.Start Inv-loop μ-loop
 entry a = search
@@ -100,7 +100,8 @@ loop-again c =
 returns : tie.Need-returns Inv-loop μ-loop
 unfolding dualPassTwo dualPassTwoTurn dualCandidate
 returns c =
-    λ m. enters-at (lent (c .before)) _ (row (c .before)) _ (c .before .loop .k) (c .before .loop .inv .0) (c .loop-test .left) (c .before .loop .inv .1)
+    let s = entry (c .before) in
+    λ m. enters-at (lent (c .before)) (testBy (s .args .still) (s .args .up)) (row (c .before)) (s .args .max-step) (c .before .loop .k) (c .before .loop .inv .0) (c .loop-test .left) (c .before .loop .inv .1)
 
 pub pass-two-spec : {M : Type 1} → statement M
 pass-two-spec =

@@ -10,8 +10,8 @@ abs-requires c κs = search needs
 read-flags-requires : tie.Need-read-flags-requires
 read-flags-requires c κs = search needs
 
-eligible-requires : tie.Need-eligible-requires
-eligible-requires c κs = search needs
+lets-in-requires : tie.Need-lets-in-requires
+lets-in-requires c κs = search needs
 
 clamped-requires : tie.Need-clamped-requires
 clamped-requires c κs = search needs
@@ -23,14 +23,14 @@ returns : tie.Need-returns
 returns c =
     let a : tie.After-abs = search in
     let v : tie.After-read-flags = search in
-    let b : tie.After-eligible = search in
+    let b : tie.After-lets-in = search in
     let q : tie.After-clamped = search in
-    taken-by _ _ _ _ (v .read-flags .ensures) (b .eligible .ensures) _ _ (q .before .if2 .taken) (q .clamped .ensures) (c .abs2 .ensures) (a .abs .ensures) (v .before .if1 .taken)
+    taken-by _ _ _ _ (v .read-flags .ensures) (b .lets-in .ensures) _ _ (q .before .if2 .taken) (q .clamped .ensures) (c .abs2 .ensures) (a .abs .ensures) (v .before .if1 .taken)
 
 returns-2 : tie.Need-returns-2
 returns-2 c =
     let v : tie.After-read-flags = search in
-    taken-passed _ _ _ _ (v .read-flags .ensures) (c .before .eligible .ensures) _ _ (c .if2 .left)
+    taken-passed _ _ _ _ (v .read-flags .ensures) (c .before .lets-in .ensures) _ _ (c .if2 .left)
 
 returns-3 : tie.Need-returns-3
 returns-3 c = taken-small _ _ _ _ _ _ (c .before .abs .ensures) (c .if1 .left)
@@ -41,7 +41,7 @@ takes-spec =
     (tie.spec
     abs-requires
     read-flags-requires
-    eligible-requires
+    lets-in-requires
     clamped-requires
     abs-requires-2
     returns
