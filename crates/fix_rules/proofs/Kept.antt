@@ -99,7 +99,7 @@ module _ (rows : ℕ) (N : List ℕ) (D : List Float) (small : rows ≤ maxRows)
   abbrev f : Factor
   f = factorIn rows N D
 
-  exact : Exact f
+  pub exact : Exact f
   exact =
       record {
         order-long = part-long 0 orderEnd N (omega (arith, ns));
@@ -220,15 +220,16 @@ module _ (p : Plan) (m : Memory) (one : passes1 p m ≡ true) (two : passes2 p �
   rows-most : mOf P ≤ maxRows
   rows-most = omega (arith, problem-fits .few, problem-fits .plan)
 
-  record Parts : Type 0 where
+  pub record Parts : Type 0 where
     maps-pass : mapsFine p m ≡ true
+    pub flags-pass : flagsFine (nOf P) (m .ws .flags) ≡ true
     store-pass : storeFine (mOf P) (m .ws .etas) (etasKept m) (entriesKept m) ≡ true
-    factor-pass : not (hasFactor m) || factorFine (mOf P) (m .factorNumbers) (m .factorCoeffs) ≡ true
+    pub factor-pass : not (hasFactor m) || factorFine (mOf P) (m .factorNumbers) (m .factorCoeffs) ≡ true
     workspace-pass : workspaceFinite (nOf P) (mOf P) (entriesKept m) (m .ws) ≡ true
     numbers-pass : not (hasFactor m) || factorFinite (mOf P) (m .factorNumbers) (m .factorCoeffs) ≡ true
     objective-pass : finite (m .objective ! 0) ≡ true
 
-  parts : Parts
+  pub parts : Parts
   unfolding passes41
   parts =
       let N = m .factorNumbers in
@@ -243,6 +244,7 @@ module _ (p : Plan) (m : Memory) (one : passes1 p m ≡ true) (two : passes2 p �
       let h = both-true (not (hasFactor m) || factorFinite (mOf P) N D) _ (g .1) in
       record {
         maps-pass = b .0;
+        flags-pass = c .0;
         store-pass = d .0;
         factor-pass = e .0;
         workspace-pass = g .0;
