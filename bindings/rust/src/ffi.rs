@@ -140,6 +140,31 @@ call! {
 }
 
 call! {
+    /// Holds a column still and goes on from the state that the last call left. Reads and writes what
+    /// `tevalumi_solve` does.
+    fn tevalumi_fix(
+        columns: usize, rows: usize, entries: usize, budget: usize, tolerance: f64,
+        costs: &[f64], lowers: &[f64], uppers: &[f64],
+        starts: &[usize], cols: &[usize], coeffs: &[f64], ops: &[u8], rhs: &[f64],
+        values: &mut [f64], numbers: &mut [usize], doubles: &mut [f64],
+        factor_numbers: &mut [usize], factor_coeffs: &mut [f64],
+        column: usize, value: f64,
+    ) -> Answer
+}
+
+call! {
+    /// Lets a column go that was held still. Reads and writes what `tevalumi_solve` does.
+    fn tevalumi_unfix(
+        columns: usize, rows: usize, entries: usize, budget: usize, tolerance: f64,
+        costs: &[f64], lowers: &[f64], uppers: &[f64],
+        starts: &[usize], cols: &[usize], coeffs: &[f64], ops: &[u8], rhs: &[f64],
+        values: &mut [f64], numbers: &mut [usize], doubles: &mut [f64],
+        factor_numbers: &mut [usize], factor_coeffs: &mut [f64],
+        column: usize,
+    ) -> Answer
+}
+
+call! {
     /// Opens a sheet: writes its kept numbers alone.
     fn tevalumi_open(
         rows: usize, columns: usize,

@@ -5,7 +5,9 @@
 
 use std::fmt;
 
-use crate::raw::{limits, ops, sections, solve_into, Answer, Place, PlanRef, Status, Workspace};
+use crate::raw::{
+    fix_into, limits, ops, sections, solve_into, unfix_into, Answer, Place, PlanRef, Status, Workspace,
+};
 
 /// An enum indicating whether to minimize or maximize objective function.
 #[derive(Clone, Copy, Debug, PartialEq, Eq, Hash)]
@@ -415,7 +417,7 @@ impl Failure {
         self.answer.status
     }
 
-    /// Document 01's number: 1 to 7 or 20 to 26.
+    /// Document 01's number: 1 to 7, 20 to 26, or 41 to 44 of a fix.
     pub fn number(&self) -> u8 {
         self.answer.status.number()
     }
@@ -497,8 +499,8 @@ impl std::error::Error for Failure {}
 #[derive(Clone, Debug, PartialEq)]
 pub enum Error {
     /// Constraints can't simultaneously be satisfied: numbers 4 (a lower bound above its upper bound),
-    /// 5 (a constraint without terms that is false) and 26 (no variable can mend a constraint, as far as
-    /// coefficients of at least 1e-8 in size say).
+    /// 5 (a constraint without terms that is false), 26 (no variable can mend a constraint, as far as
+    /// coefficients of at least 1e-8 in size say) and 43 (a variable fixed outside its bounds).
     Infeasible,
     /// The objective function is unbounded: number 20.
     Unbounded,
@@ -509,7 +511,10 @@ pub enum Error {
 impl From<Failure> for Error {
     fn from(failure: Failure) -> Error {
         match failure.status() {
-            Status::CrossedBounds | Status::FalseEmptyRow | Status::Infeasible => Error::Infeasible,
+            Status::CrossedBounds
+            | Status::FalseEmptyRow
+            | Status::Infeasible
+            | Status::ValueOutside => Error::Infeasible,
             Status::Unbounded => Error::Unbounded,
             _ => Error::Other(failure),
         }
@@ -568,6 +573,8 @@ pub struct Solution {
     kept: Vec<usize>,
     /// What the run left.
     work: Box<Workspace>,
+    /// The variables that are held still, with their values.
+    fixed: Vec<(Variable, f64)>,
 }
 
 impl fmt::Debug for Solution {
@@ -606,6 +613,7 @@ impl Solution {
             prices,
             kept,
             work: Box::new(work.clone()),
+            fixed: Vec::new(),
         }
     }
 
@@ -674,7 +682,111 @@ impl Solution {
     ) -> Result<Self, Error> {
         let mut problem = self.problem;
         problem.add_constraint(expr, cmp_op, rhs);
-        problem.solve()
+        let mut solution = problem.solve()?;
+        for (var, val) in self.fixed {
+            solution = solution.fix_var(var, val)?;
+        }
+        Ok(solution)
+    }
+
+    /// Fix the variable to the specified value and return the solution to the updated problem.
+    ///
+    /// This method will consume the solution and not return it in case of error. The solver goes on from
+    /// this solution, mostly in a few steps, which [`steps`](Solution::steps) then counts.
+    ///
+    /// ```
+    /// # use tevalumi::*;
+    /// let mut problem = Problem::new(OptimizationDirection::Maximize);
+    /// let x = problem.add_var(3.0, (0.0, f64::INFINITY));
+    /// let y = problem.add_var(1.0, (0.0, 2.0));
+    /// problem.add_constraint([(x, 1.0), (y, 1.0)], ComparisonOp::Le, 4.0);
+    /// let solution = problem.solve()?;
+    /// assert_eq!((solution[x], solution[y], solution.objective()), (4.0, 0.0, 12.0));
+    ///
+    /// let solution = solution.fix_var(x, 3.0)?;
+    /// assert_eq!((solution[x], solution[y], solution.objective()), (3.0, 1.0, 10.0));
+    ///
+    /// let (solution, was_fixed) = solution.unfix_var(x);
+    /// assert!(was_fixed);
+    /// assert_eq!((solution[x], solution[y], solution.objective()), (4.0, 0.0, 12.0));
+    /// # Ok::<(), Error>(())
+    /// ```
+    ///
+    /// # Errors
+    ///
+    /// Will return an error if the problem becomes infeasible with the additional constraint, or where
+    /// the solver ends otherwise than with a solution; [`fix`](Solution::fix) has the number.
+    ///
+    /// # Panics
+    ///
+    /// Will panic if the variable belongs to a larger problem.
+    pub fn fix_var(self, var: Variable, val: f64) -> Result<Self, Error> {
+        assert!(var.0 < self.num_vars);
+        self.fix(var, val).map_err(Error::from)
+    }
+
+    /// If the variable was fixed with [`fix_var`](Solution::fix_var) before, remove that constraint
+    /// and return the solution to the updated problem and a boolean indicating if the variable was
+    /// really fixed before.
+    ///
+    /// # Panics
+    ///
+    /// Will panic if the variable belongs to a larger problem, and, as minilp's, if the solver finds no
+    /// solution without the constraint; [`unfix`](Solution::unfix) returns the error.
+    pub fn unfix_var(self, var: Variable) -> (Self, bool) {
+        assert!(var.0 < self.num_vars);
+        self.unfix(var)
+            .expect("the problem was solvable before the variable was fixed")
+    }
+
+    /// As [`fix_var`](Solution::fix_var), with document 01's number, the place and the sentence of an
+    /// error.
+    ///
+    /// # Errors
+    ///
+    /// 43 where the value isn't finite or is outside the variable's bounds; else how the run ended.
+    pub fn fix(mut self, var: Variable, val: f64) -> Result<Self, Failure> {
+        let mut values = vec![0.0; self.num_vars + self.num_constraints];
+        let plan = self.problem.plan();
+        let answer = fix_into(&plan, &mut self.work, &mut values, var.0, val);
+        let mut fixed = self.fixed;
+        fixed.retain(|&(other, _)| other != var);
+        fixed.push((var, val));
+        Solution::gone_on(self.problem, &self.work, answer, values, fixed)
+    }
+
+    /// As [`unfix_var`](Solution::unfix_var), with the error in place of a panic.
+    ///
+    /// # Errors
+    ///
+    /// How the run after it ended, where that isn't with a solution.
+    pub fn unfix(mut self, var: Variable) -> Result<(Self, bool), Failure> {
+        let mut values = vec![0.0; self.num_vars + self.num_constraints];
+        let plan = self.problem.plan();
+        let answer = unfix_into(&plan, &mut self.work, &mut values, var.0);
+        if answer.status == Status::NotFixed {
+            return Ok((self, false));
+        }
+        let mut fixed = self.fixed;
+        fixed.retain(|&(other, _)| other != var);
+        let solution = Solution::gone_on(self.problem, &self.work, answer, values, fixed)?;
+        Ok((solution, true))
+    }
+
+    /// The solution that a call over the workspace has left.
+    fn gone_on(
+        problem: Problem,
+        work: &Workspace,
+        answer: Answer,
+        values: Vec<f64>,
+        fixed: Vec<(Variable, f64)>,
+    ) -> Result<Solution, Failure> {
+        if answer.status != Status::Optimal {
+            return Err(Failure::new(&problem, work, answer));
+        }
+        let mut solution = Solution::new(&problem, work, answer, values);
+        solution.fixed = fixed;
+        Ok(solution)
     }
 
     /// How many steps the solver took.

@@ -93,10 +93,11 @@ pub mod ops {
     pub const GE: u8 = 2;
 }
 
-/// What a solve ends with: document 01's numbers.
+/// What a solve, a fix or an unfix ends with: document 01's numbers, with document 02's.
 ///
-/// 1 to 7 are refusals: no lent cell has changed. 20 to 26 leave the values alone, and the
-/// workspace holds the state after the last whole step.
+/// 1 to 7 and 41 to 44 are refusals: no lent cell has changed. 20 to 26 leave the values alone, and
+/// the workspace holds the state after the last whole step. 41 to 44 are those of [`fix_into`] and
+/// [`unfix_into`] alone, which never give 6 and 7.
 #[derive(Clone, Copy, Debug, PartialEq, Eq, Hash)]
 pub enum Status {
     /// 0: the plan is solved, the values are written.
@@ -139,11 +140,20 @@ pub enum Status {
     /// least EPS (1e-8) in size there and room for the move. As far as such coefficients say, no values
     /// keep every row and bound.
     Infeasible = 26,
+    /// 41: the last call over the workspace didn't end in 0, or its maps, lists, store, factor or
+    /// numbers aren't those that a call over this plan left.
+    NotKept = 41,
+    /// 42: the plan has no such column.
+    UnknownColumn = 42,
+    /// 43: the value to fix a column at isn't finite or is outside the column's bounds.
+    ValueOutside = 43,
+    /// 44: the column to unfix isn't fixed.
+    NotFixed = 44,
 }
 
 impl Status {
     /// Every status, in the order of its number.
-    pub const ALL: [Status; 15] = [
+    pub const ALL: [Status; 19] = [
         Status::Optimal,
         Status::BadSize,
         Status::BadNumber,
@@ -159,6 +169,10 @@ impl Status {
         Status::Rejected,
         Status::Singular,
         Status::Infeasible,
+        Status::NotKept,
+        Status::UnknownColumn,
+        Status::ValueOutside,
+        Status::NotFixed,
     ];
 
     /// Document 01's number.
@@ -173,9 +187,9 @@ impl Status {
             .find(|status| usize::from(status.number()) == number)
     }
 
-    /// Whether this is a refusal (1 to 7): nothing was solved and no lent cell has changed.
+    /// Whether this is a refusal (1 to 7, 41 to 44): nothing was solved and no lent cell has changed.
     pub const fn is_refusal(self) -> bool {
-        matches!(self.number(), 1..=7)
+        matches!(self.number(), 1..=7 | 41..=44)
     }
 
     /// A plain sentence, without its full stop.
@@ -196,6 +210,10 @@ impl Status {
             Status::Rejected => "the final check rejects the values",
             Status::Singular => "the basis after an exchange can't be factored: every remaining entry of some column is under EPS",
             Status::Infeasible => "the solver finds no column that could mend a row: none that has room to move has a coefficient of at least 1e-8 in size there",
+            Status::NotKept => "the memory isn't what an Optimal run over this plan left",
+            Status::UnknownColumn => "the plan has no such column",
+            Status::ValueOutside => "the value isn't finite or is outside the column's bounds",
+            Status::NotFixed => "the column isn't fixed",
         }
     }
 }
@@ -407,6 +425,125 @@ pub fn solve_lent(plan: &PlanRef<'_>, work: &mut WorkspaceMut<'_>, values: &mut 
         work.doubles,
         work.factor_numbers,
         work.factor_coeffs,
+    ))
+}
+
+/// Holds a column of a solved plan still at a value, and goes on from the state in the workspace: in a
+/// few steps, where solving anew takes them all. The column stays there, whatever later calls do,
+/// until it is fixed elsewhere or [`unfix_into`] lets it go.
+///
+/// The plan is the one that the last call over the workspace solved. A call that doesn't end in 0
+/// leaves a workspace that later ones refuse with 41, until a solve ends in 0 again.
+///
+/// ```
+/// use tevalumi::raw::{fix_into, solve_into, unfix_into, PlanRef, Status, Workspace};
+///
+/// // Minimise -3 x0 - x1 with x0 >= 0, 0 <= x1 <= 2 and x0 + x1 <= 4.
+/// let plan = PlanRef {
+///     columns: 2,
+///     rows: 1,
+///     entries: 2,
+///     budget: 100,
+///     tolerance: 1e-6,
+///     costs: &[-3.0, -1.0],
+///     lowers: &[0.0, 0.0],
+///     uppers: &[f64::INFINITY, 2.0],
+///     starts: &[0, 2],
+///     cols: &[0, 1],
+///     coeffs: &[1.0, 1.0],
+///     ops: &[0],
+///     rhs: &[4.0],
+/// };
+/// let mut work = Workspace::new();
+/// let mut values = [0.0; 3];
+/// solve_into(&plan, &mut work, &mut values);
+/// assert_eq!(values, [4.0, 0.0, 0.0]);
+/// let answer = fix_into(&plan, &mut work, &mut values, 0, 3.0);
+/// assert_eq!((answer.status, answer.objective), (Status::Optimal, -10.0));
+/// assert_eq!(values, [3.0, 1.0, 0.0]);
+/// let answer = unfix_into(&plan, &mut work, &mut values, 0);
+/// assert_eq!((answer.status, answer.objective), (Status::Optimal, -12.0));
+/// assert_eq!(values, [4.0, 0.0, 0.0]);
+/// ```
+pub fn fix_into(
+    plan: &PlanRef<'_>,
+    work: &mut Workspace,
+    values: &mut [f64],
+    column: usize,
+    value: f64,
+) -> Answer {
+    fix_lent(plan, &mut work.lend(), values, column, value)
+}
+
+/// As [`fix_into`], with memory of the caller's own.
+pub fn fix_lent(
+    plan: &PlanRef<'_>,
+    work: &mut WorkspaceMut<'_>,
+    values: &mut [f64],
+    column: usize,
+    value: f64,
+) -> Answer {
+    Answer::from_numbers(ffi::tevalumi_fix(
+        plan.columns,
+        plan.rows,
+        plan.entries,
+        plan.budget,
+        plan.tolerance,
+        plan.costs,
+        plan.lowers,
+        plan.uppers,
+        plan.starts,
+        plan.cols,
+        plan.coeffs,
+        plan.ops,
+        plan.rhs,
+        values,
+        work.numbers,
+        work.doubles,
+        work.factor_numbers,
+        work.factor_coeffs,
+        column,
+        value,
+    ))
+}
+
+/// Lets a column go that [`fix_into`] holds, and goes on from the state in the workspace.
+pub fn unfix_into(
+    plan: &PlanRef<'_>,
+    work: &mut Workspace,
+    values: &mut [f64],
+    column: usize,
+) -> Answer {
+    unfix_lent(plan, &mut work.lend(), values, column)
+}
+
+/// As [`unfix_into`], with memory of the caller's own.
+pub fn unfix_lent(
+    plan: &PlanRef<'_>,
+    work: &mut WorkspaceMut<'_>,
+    values: &mut [f64],
+    column: usize,
+) -> Answer {
+    Answer::from_numbers(ffi::tevalumi_unfix(
+        plan.columns,
+        plan.rows,
+        plan.entries,
+        plan.budget,
+        plan.tolerance,
+        plan.costs,
+        plan.lowers,
+        plan.uppers,
+        plan.starts,
+        plan.cols,
+        plan.coeffs,
+        plan.ops,
+        plan.rhs,
+        values,
+        work.numbers,
+        work.doubles,
+        work.factor_numbers,
+        work.factor_coeffs,
+        column,
     ))
 }
 

@@ -17,7 +17,7 @@ use minilp::{
 const THEIRS: &str = include_str!("minilp/lib.rs.txt");
 
 /// Each is used below as minilp's users do.
-const HAD: [&str; 31] = [
+const HAD: [&str; 33] = [
     "enum OptimizationDirection",
     "struct Variable",
     "fn idx",
@@ -45,6 +45,8 @@ const HAD: [&str; 31] = [
     "fn objective",
     "fn var_value",
     "fn iter",
+    "fn fix_var",
+    "fn unfix_var",
     "impl std::ops::Index<Variable> for Solution",
     "struct SolutionIter",
     "impl<'a> Iterator for SolutionIter<'a>",
@@ -54,7 +56,7 @@ const HAD: [&str; 31] = [
 /// Had, but by another line: `pub use mps::MpsFile`.
 const USED: [&str; 1] = ["use mps::MpsFile"];
 
-const LEFT_OUT: [&str; 3] = ["fn fix_var", "fn unfix_var", "fn add_gomory_cut"];
+const LEFT_OUT: [&str; 1] = ["fn add_gomory_cut"];
 
 #[test]
 fn every_public_item_is_had_or_left_out() {
