@@ -116,6 +116,7 @@ fn write_flags(n: usize, lowers: &[f64], uppers: &[f64], xs: &[f64], flags: &mut
         let f = rules::NonBasicVarState {
             at_min: xs[j] == lowers[j],
             at_max: xs[j] == uppers[j],
+            fixed: false,
         };
         flags[j] = cells::pack_flags(f);
     }

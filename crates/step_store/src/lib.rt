@@ -17,8 +17,8 @@ ghost use Rattle.step_numbers.specs.Lent.{numbersOf, Listing};
 ghost use Rattle.step_store.specs.Halves.{numbersStored, basisStored, swapped, emptied};
 ghost use Rattle.step_store.specs.Lent.{Bounded, Flips, Swaps};
 
-// The basic values of a flip.
-fn store_moved(
+// The basic values where a column that stays non-basic moves by `diff`, as a flip and 02's Ask 9 move it.
+pub fn store_moved(
     basic_var_vals: &mut [f64],
     values: &[f64; doubles::PLACES],
     list: &[usize; doubles::PLACES],
@@ -128,8 +128,8 @@ pub fn store_norms(
     }
 }
 
-// at_min and at_max of the variable v that stands at x.
-fn flags_at(
+// at_min and at_max of the variable v that stands at x, with no fixed mark.
+pub fn flags_at(
     n: usize,
     lowers: &[f64],
     uppers: &[f64],
@@ -144,7 +144,11 @@ fn flags_at(
 {
     let at_min = x == cells::var_min(n, lowers, ops, kept, v);
     let at_max = x == cells::var_max(n, uppers, ops, kept, v);
-    cells::pack_flags(rules::NonBasicVarState { at_min, at_max })
+    cells::pack_flags(rules::NonBasicVarState {
+        at_min,
+        at_max,
+        fixed: false,
+    })
 }
 
 // A flip: the entering variable moves to its other bound and stays where it is.
