@@ -35,6 +35,8 @@ pub struct Request {
     /// Where a page goes, and a list in glpsol's form.
     pub html: OsString,
     pub sol: OsString,
+    /// The columns that `solve` holds still, with their values.
+    pub fixes: Vec<String>,
     /// What `what-if` changes, and the journal's file.
     pub sets: Vec<String>,
     pub journal: OsString,
@@ -111,13 +113,16 @@ options:
   --json       print one JSON object a plan, on one line
   --sol FILE   write a solved plan in the form of `glpsol -o`
   --html FILE  write one page to keep or print
+  --fix COLUMN=X
+               hold a column of the solved plan still at X and go on from there; again for more. The
+               plan is shown before and after, with the steps that each took and those of a fresh solve
 
 in LP:  `x <= -3` alone leaves the lower bound 0, as GLPK and Clp read it, and the bounds cross
 in MPS: a negative UP without a lower bound means no lower bound; bounds of 1e20 and more mean
         none; a range becomes two rows; N rows after the first are left out; the objective's right
         side is a constant with its sign turned (in files of glpsol, as glpsol does, not turned)
 
-exit status: 0 Optimal; 1 refused (answers 1 to 7); 3 not solved (answers 20 to 26);
+exit status: 0 Optimal; 1 refused (answers 1 to 7; a fix: 43); 3 not solved (answers 20 to 26);
              2 the command line or the file is wrong
 ";
 
@@ -312,7 +317,7 @@ pub fn parse(args: &[OsString]) -> Result<Command, Usage> {
         Some("replay") => with_journal(rest).map(|request| Command::Desk(Act::Replay, request)),
         _ => Ok(Command::Plans(
             Task::Solve,
-            request(rest, &["--bits", "--sol", "--html"])?,
+            request(rest, &["--bits", "--sol", "--html", "--fix"])?,
         )),
     }
 }
@@ -405,6 +410,7 @@ fn request(args: &[OsString], own: &[&str]) -> Result<Request, Usage> {
             "--sheets" if own.contains(&option) => request.sheets = true,
             "--groups" if own.contains(&option) => request.groups = groups(&value()?)?,
             "--set" if own.contains(&option) => request.sets.push(value()?),
+            "--fix" if own.contains(&option) => request.fixes.push(value()?),
             "-o" | "--journal" | "--html" | "--sol" if own.contains(&option) => {
                 let file = given.map(OsString::from).or_else(|| args.next().cloned());
                 let file = file.ok_or(format!("expected a file behind {option}"))?;

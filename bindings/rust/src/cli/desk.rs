@@ -221,7 +221,7 @@ fn edit_of(set: &str, plan: &Plan, sheet: &Sheet) -> Result<Edit, String> {
 }
 
 /// The place of a name, which must stand once.
-fn found(
+pub fn found(
     name: &str,
     what: &str,
     places: usize,

@@ -41,7 +41,7 @@ impl Solved {
             let stands = match flag {
                 1 => Stands::AtLower,
                 2 => Stands::AtUpper,
-                3 => Stands::Fixed,
+                3 | 7 => Stands::Fixed,
                 _ => Stands::Free,
             };
             if let Some(end) = ends.get_mut(var) {
@@ -98,6 +98,11 @@ pub fn solve(plan: &Plan) -> Solved {
         cut(plan, &mut memory, &mut values_lent, name, length);
     }
     let answer = solve_lent(&lent(plan), &mut memory, values_lent);
+    after(plan, answer, values, work)
+}
+
+/// An answer of a call with what it left.
+pub fn after(plan: &Plan, answer: Answer, mut values: Vec<f64>, work: Box<Workspace>) -> Solved {
     if answer.status.is_refusal() {
         return Solved {
             answer,

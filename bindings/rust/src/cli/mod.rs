@@ -5,6 +5,7 @@ pub mod args;
 pub mod audit;
 pub mod desk;
 pub mod engine;
+pub mod fix;
 pub mod html;
 pub mod kept;
 pub mod lp;
@@ -253,9 +254,32 @@ impl Case<'_> {
 
     fn solve(&self, files: &dyn Files) -> Result<Told, Outcome> {
         let (plan, bits) = (self.plan, self.request.bits);
-        let optimal = self.solved.answer.status == Status::Optimal;
-        let list = optimal.then(|| sol::printed(plan, &self.solved));
+        let fixes = fix::named(plan, &self.request.fixes)
+            .map_err(|what| wrong(format!("{}: {what}", self.file)))?;
+        let held = match self.solved.answer.status {
+            Status::Optimal => fix::hold(plan, &self.solved, &fixes),
+            _ => Vec::new(),
+        };
+        let last = held.last().map_or(&self.solved, |held| &held.after);
+        let optimal = last.answer.status == Status::Optimal;
+        let list = optimal.then(|| sol::printed(plan, last));
         put(&self.request.sol, list, files)?;
+        if !held.is_empty() {
+            let text = report::head(plan, &self.solved, bits)
+                + &report::values(plan, &self.solved, bits)
+                + &fix::text(plan, &held, bits);
+            let name = self.request.file.to_string_lossy();
+            let out = match self.request.json {
+                true => report::as_json(&name, plan, last, bits, &fix::as_json(plan, &held)),
+                false => text,
+            };
+            let told = Told {
+                out,
+                exit: report::exit(last.answer.status),
+                page: None,
+            };
+            return Ok(self.with_page(told, || fix::page(plan, &held, last)));
+        }
         let text =
             report::head(plan, &self.solved, bits) + &report::values(plan, &self.solved, bits);
         let told = self.told(text, "", self.exit());

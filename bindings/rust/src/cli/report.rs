@@ -7,7 +7,7 @@ use super::html::{Bar, Page};
 use super::plan::{counted, Plan, EQ, GE, LE};
 use super::show::{bits, json, number, quoted, Side, Table};
 
-/// The exit status: 0 Optimal, 1 for refusals 1 to 7, 3 for 20 to 26.
+/// The exit status: 0 Optimal, 1 for refusals 1 to 7 and 41 to 44, 3 for 20 to 26.
 pub fn exit(status: Status) -> u8 {
     match status {
         Status::Optimal => 0,
@@ -56,15 +56,22 @@ pub fn head(plan: &Plan, solved: &Solved, with_bits: bool) -> String {
     if answer.status.is_refusal() {
         return out;
     }
+    out += &result(plan, solved, with_bits);
+    out + &format!("steps      {}\n", answer.steps)
+}
+
+/// The line of the objective.
+pub fn result(plan: &Plan, solved: &Solved, with_bits: bool) -> String {
+    let answer = &solved.answer;
     let objective = plan.objective(answer.objective);
-    out += &format!("objective  {}", number(objective));
+    let mut out = format!("objective  {}", number(objective));
     if with_bits {
         out += &format!("  {}", bits(objective));
     }
     if answer.status != Status::Optimal {
         out += " after the last whole step, no result";
     }
-    out + &format!("\nsteps      {}\n", answer.steps)
+    out + "\n"
 }
 
 /// Columns and rows by name, with what people look for beside each.
