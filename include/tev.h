@@ -134,6 +134,24 @@ static inline TevalumiAnswer tev_solve(const TevPlan *plan, TevWork *work) {
         TEV_ARRAY(work->values), TEV_STATE(work), TEV_ARRAY(work->factor_numbers), TEV_ARRAY(work->factor_coeffs));
 }
 
+/* Holds a column of the solved plan still, and goes on from what work holds. */
+static inline TevalumiAnswer tev_fix(const TevPlan *plan, TevWork *work, size_t column, double value) {
+    return tevalumi_fix(plan->columns, plan->rows, plan->entries, plan->budget, plan->tolerance,
+        TEV_ARRAY(plan->costs), TEV_ARRAY(plan->lowers), TEV_ARRAY(plan->uppers), TEV_ARRAY(plan->starts),
+        TEV_ARRAY(plan->cols), TEV_ARRAY(plan->coeffs), TEV_ARRAY(plan->ops), TEV_ARRAY(plan->rhs),
+        TEV_ARRAY(work->values), TEV_STATE(work), TEV_ARRAY(work->factor_numbers), TEV_ARRAY(work->factor_coeffs),
+        column, value);
+}
+
+/* Lets it go. */
+static inline TevalumiAnswer tev_unfix(const TevPlan *plan, TevWork *work, size_t column) {
+    return tevalumi_unfix(plan->columns, plan->rows, plan->entries, plan->budget, plan->tolerance,
+        TEV_ARRAY(plan->costs), TEV_ARRAY(plan->lowers), TEV_ARRAY(plan->uppers), TEV_ARRAY(plan->starts),
+        TEV_ARRAY(plan->cols), TEV_ARRAY(plan->coeffs), TEV_ARRAY(plan->ops), TEV_ARRAY(plan->rhs),
+        TEV_ARRAY(work->values), TEV_STATE(work), TEV_ARRAY(work->factor_numbers), TEV_ARRAY(work->factor_coeffs),
+        column);
+}
+
 /* ---- The audit sheet of a plan ---- */
 
 /* A whole number that some cell of a sheet could hold; which one may is tevalumi_open's to say. */

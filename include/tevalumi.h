@@ -70,7 +70,8 @@ typedef struct {
  *   KEPT                           the plan's numbers of its kept (not empty) rows
  *   BASIC_VARS, BASIC_VAR_VALS     of the kept rows; variable columns + k is the slack of kept row k
  *   NB_VARS, NB_VAR_VALS, PRICES, NORMS, FLAGS
- *                                  columns cells; flags are 1 at the lower bound + 2 at the upper bound
+ *                                  columns cells; flags are 1 at the lower bound + 2 at the upper bound + 4
+ *                                  held still (all three then)
  *   VAR_STATES                     columns + kept rows: a variable's place, columns + row where it is basic
  *   ETA_LEAVING, ETA_STARTS        a column's leaving row, and where its entries start
  *   ETA_ROWS, ETA_COEFFS           the entries
@@ -140,6 +141,52 @@ TevalumiAnswer tevalumi_solve(
     double *doubles, size_t doubles_len,
     size_t *factor_numbers, size_t factor_numbers_len,
     double *factor_coeffs, size_t factor_coeffs_len);
+
+/* ---- Columns held still ----
+ * A call over a plan and the memory that the last call over it left: it goes on from there, mostly in a few
+ * steps. tevalumi_fix holds a column still at a value, tevalumi_unfix lets it go. A held column stays where
+ * it is through later calls, until it is held elsewhere or let go.
+ *
+ * status  as of tevalumi_solve, without 6 and 7; and refused:
+ *         41 the last call didn't end in 0, or the memory isn't what a call over this plan leaves: its
+ *            maps, flags, eta store, factor, or a number in use that isn't finite
+ *         42 there is no such column     43 the value isn't finite, or is outside the column's bounds
+ *         44 the column to let go isn't held
+ * steps   of this call, at most the budget
+ * A call that doesn't end in 0 leaves memory that later ones refuse with 41, until a solve ends in 0. */
+TevalumiAnswer tevalumi_fix(
+    size_t columns, size_t rows, size_t entries, size_t budget, double tolerance,
+    const double *costs, size_t costs_len,
+    const double *lowers, size_t lowers_len,
+    const double *uppers, size_t uppers_len,
+    const size_t *starts, size_t starts_len,
+    const size_t *cols, size_t cols_len,
+    const double *coeffs, size_t coeffs_len,
+    const uint8_t *ops, size_t ops_len,
+    const double *rhs, size_t rhs_len,
+    double *values, size_t values_len,
+    size_t *numbers, size_t numbers_len,
+    double *doubles, size_t doubles_len,
+    size_t *factor_numbers, size_t factor_numbers_len,
+    double *factor_coeffs, size_t factor_coeffs_len,
+    size_t column, double value);
+
+TevalumiAnswer tevalumi_unfix(
+    size_t columns, size_t rows, size_t entries, size_t budget, double tolerance,
+    const double *costs, size_t costs_len,
+    const double *lowers, size_t lowers_len,
+    const double *uppers, size_t uppers_len,
+    const size_t *starts, size_t starts_len,
+    const size_t *cols, size_t cols_len,
+    const double *coeffs, size_t coeffs_len,
+    const uint8_t *ops, size_t ops_len,
+    const double *rhs, size_t rhs_len,
+    double *values, size_t values_len,
+    size_t *numbers, size_t numbers_len,
+    double *doubles, size_t doubles_len,
+    size_t *factor_numbers, size_t factor_numbers_len,
+    double *factor_coeffs, size_t factor_coeffs_len,
+    size_t column);
 
 /* ---- Triangles ----
  * Solves a triangle that is stored by columns, or two of them, one after the other.
