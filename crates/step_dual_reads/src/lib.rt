@@ -6,7 +6,7 @@ ghost use mathlib.Core.List.{List};
 ghost use Rattle.sparse.specs.Scattered.{sv};
 ghost use Rattle.rules.specs.Parts.{bounded};
 ghost use Rattle.rules.specs.DualRow.{chooseRow};
-ghost use Rattle.rules.specs.DualRatio.{dualRatio};
+ghost use Rattle.rules.specs.DualRatio.{leavingRises, testBy, dualRatioBy};
 ghost use Rattle.step_leaving.specs.Lent.{Leaving};
 ghost use Rattle.step_prices.specs.Lent.{Pricing};
 ghost use Rattle.state.specs.Packed.{packed, Sized};
@@ -38,7 +38,7 @@ pub fn choose_row(
     )
 }
 
-// The entering column of the leaving row l, or none.
+// The entering column of the leaving row l, or none. `still`: the leaving variable is fixed where it stands.
 pub fn dual_ratio(
     numbers: &[usize],
     doubles: &[f64],
@@ -46,13 +46,16 @@ pub fn dual_ratio(
     list: &[usize; doubles::PLACES],
     count: usize,
     l: rules::LeavingVar,
+    still: bool,
 ) -> rules::DualRatio
     requires { ⌜ Sized (now numbers) (now doubles) × Pricing (packed (now numbers) (now doubles)) l (now list) count ⌝ }
-    ensures { λ r. ⌜ ((m : List Bool) → r ≡ dualRatio (packed (now (numbers .entry)) (now (doubles .entry))) l
-        (sv (now (values .entry)) m (now (list .entry)) count)) ⌝ }
+    ensures { λ r. ⌜ ((m : List Bool) → r ≡ dualRatioBy
+        (testBy still (leavingRises (packed (now (numbers .entry)) (now (doubles .entry))) l))
+        (packed (now (numbers .entry)) (now (doubles .entry))) l (sv (now (values .entry)) m (now (list .entry)) count)) ⌝ }
 {
     step_prices::dual_ratio(
         l,
+        still,
         &doubles[state::BASIC_VAR_VALS..state::BASIC_VAR_VALS_END],
         &doubles[state::NB_VAR_VALS..state::NB_VAR_VALS_END],
         &doubles[state::PRICES..state::PRICES_END],

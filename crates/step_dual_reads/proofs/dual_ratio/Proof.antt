@@ -50,7 +50,7 @@ returns : tie.Need-returns
 returns c m =
     let s : tie.Start = search in
     let a = s .args in
-    c .dual-ratio .ensures m ∙ sym (dual-ratio-part (packed (a .numbers .now) (a .doubles .now)) (a .l) (sv (a .values .now) m (a .list .now) (a .count)))
+    c .dual-ratio .ensures m ∙ sym (dual-ratio-part (a .still) (packed (a .numbers .now) (a .doubles .now)) (a .l) (sv (a .values .now) m (a .list .now) (a .count)))
 
 pub dual-ratio-spec : {M : Type 1} → statement M
 dual-ratio-spec =
