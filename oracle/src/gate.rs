@@ -3,7 +3,7 @@
 //! which is theirs. Then the calls of document 02's Ask 9, over the memory that a call left.
 
 use crate::{
-    answer::{Answer, Outcome},
+    answer::{Answer, Outcome, State},
     limits,
     memory::Memory,
     plan::{Call, Lent, Plan},
@@ -80,16 +80,29 @@ impl Session {
         Some(answer)
     }
 
-    // One call over the memory, refused with 1 to 5 and 41 before it begins.
+    /// What stands in a lent cell; a double by its bits.
+    pub fn peek(&self, lent: Lent, index: usize) -> u64 {
+        self.memory.peek(lent, index)
+    }
+
+    /// The state that a call would go on with.
+    pub fn left(&self) -> Option<State> {
+        self.resumed().ok().map(|solver| solver.state())
+    }
+
+    // Refused with 1 to 5 and 41 before a call begins.
+    fn resumed(&self) -> Result<Solver, Outcome> {
+        let mut solver = prepare(&self.plan, self.options)?;
+        let columns = self.plan.columns as usize;
+        let left = self.memory.state(columns, solver.kept_rows());
+        let (state, objective) = left.ok_or(Outcome::NoRun)?;
+        solver.resume(&state, objective);
+        Ok(solver)
+    }
+
+    // One call over the memory.
     fn go_on(&self, run: impl FnOnce(&mut Solver, &Plan) -> Result<(), Outcome>) -> Answer {
-        let resumed = prepare(&self.plan, self.options).and_then(|mut solver| {
-            let columns = self.plan.columns as usize;
-            let left = self.memory.state(columns, solver.kept_rows());
-            let (state, objective) = left.ok_or(Outcome::NoRun)?;
-            solver.resume(&state, objective);
-            Ok(solver)
-        });
-        match resumed {
+        match self.resumed() {
             Ok(solver) => answer(solver, self.plan.tolerance, |solver| {
                 run(solver, &self.plan)
             }),

@@ -157,6 +157,18 @@ impl Memory {
         }
     }
 
+    /// What stands in a cell; a double by its bits.
+    pub fn peek(&self, lent: Lent, index: usize) -> u64 {
+        let (array, section) = section(lent);
+        let place = section.range().start + index;
+        match array {
+            Lent::Numbers => self.numbers[place] as u64,
+            Lent::Doubles => self.doubles[place].to_bits(),
+            Lent::FactorNumbers => self.factor_numbers[place] as u64,
+            _ => self.factor_coeffs[place].to_bits(),
+        }
+    }
+
     /// What a call leaves: the state of its answer where it has one, over the fronts of the sections.
     pub fn keep(&mut self, answer: &Answer) {
         let Some(state) = &answer.state else {

@@ -4,7 +4,9 @@ use std::io::Cursor;
 
 use oracle::answer::{Answer, Outcome, State};
 use oracle::call_families;
-use oracle::exchange::{answer_line, factors_answer_line, tri_answer_line, Extras, Item, Reader};
+use oracle::exchange::{
+    answer_line, answer_lines, factors_answer_line, tri_answer_line, Extras, Item, Reader,
+};
 use oracle::families;
 use oracle::fresh;
 use oracle::gate;
@@ -43,16 +45,17 @@ fn line(plan: &Plan, options: Options) -> String {
 
 /// Every answer line of a text, compared with a kept list.
 fn assert_answers(text: &str, answers: &str) {
-    let items = items(text);
-    assert_eq!(items.len(), answers.lines().count());
-    for (item, expected) in items.iter().zip(answers.lines()) {
-        let line = match item {
-            Item::Plan(plan) => {
-                answer_line(&plan.id, &gate::solve(plan, Options::default()), STATE)
-            }
-            Item::Tri(tri) => tri_answer_line(&tri.id, &tri::solve(tri)),
-            Item::Factors(both) => factors_answer_line(&both.id, &tri::solve_dense(both)),
-        };
+    let lines = items(text).into_iter().flat_map(|item| match item {
+        Item::Plan(plan) => {
+            let all = gate::answers(&plan, Options::default());
+            answer_lines(&plan.id, &all, STATE)
+        }
+        Item::Tri(tri) => vec![tri_answer_line(&tri.id, &tri::solve(&tri))],
+        Item::Factors(both) => vec![factors_answer_line(&both.id, &tri::solve_dense(&both))],
+    });
+    let lines: Vec<String> = lines.collect();
+    assert_eq!(lines.len(), answers.lines().count());
+    for (line, expected) in lines.iter().zip(answers.lines()) {
         assert_eq!(line, expected);
     }
 }
@@ -100,6 +103,14 @@ fn fixed_pairs_as_kept() {
     assert_answers(
         include_str!("../fixed-lu.txt"),
         include_str!("../fixed-lu.answers"),
+    );
+}
+
+#[test]
+fn fixed_calls_as_kept() {
+    assert_answers(
+        include_str!("../fixed-calls.txt"),
+        include_str!("../fixed-calls.answers"),
     );
 }
 

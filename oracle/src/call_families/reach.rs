@@ -1,0 +1,286 @@
+//! What seeded lists of calls reach: kinds of calls with their answers, counted. All ours.
+
+use std::collections::BTreeMap;
+
+use super::damage::{self, CAUSES};
+use super::List;
+use crate::answer::{Answer, State};
+use crate::plan::{Call, Plan};
+
+/// The kinds of a plan's calls with their answers.
+fn kinds(plan: &Plan) -> Vec<String> {
+    let bare = Plan {
+        calls: vec![],
+        ..plan.clone()
+    };
+    let mut list = List::new(bare);
+    let mut kinds = vec![];
+    let mut poked = None;
+    for call in &plan.calls {
+        let what = kind(&list, call);
+        let Some(answer) = list.session.call(call) else {
+            poked = Some(call);
+            continue;
+        };
+        let number = answer.outcome.number();
+        kinds.push("calls".into());
+        kinds.push(format!("answer {}", number));
+        kinds.push(format!("{}, answer {}", what, number));
+        let was_optimal = list.is_optimal();
+        match (poked.take(), &list.state) {
+            (Some(&Call::Poke { lent, index, bits }), Some(state))
+                if number == 41 && was_optimal =>
+            {
+                kinds.push(format!(
+                    "41 by {}",
+                    damage::named(state, (lent, index, bits))
+                ));
+            }
+            (Some(_), _) => kinds.push(format!("right after a poke, answer {}", number)),
+            (None, _) => {}
+        }
+        if let (Some(before), Some(after)) = (&list.state, &answer.state) {
+            kinds.extend(fixes(&list, call, number));
+            kinds.extend(steps(call, before, after, &answer));
+        }
+        list.note(answer);
+    }
+    kinds
+}
+
+/// What a call is about.
+fn kind(list: &List, call: &Call) -> String {
+    let state = match &list.state {
+        Some(state) if list.number == 0 => state,
+        Some(_) => return "after an end".into(),
+        None => return "after a refused plan".into(),
+    };
+    match *call {
+        Call::Fix { column, .. } | Call::Unfix { column } if column >= list.plan.columns => {
+            "unknown column".into()
+        }
+        Call::Fix { column, value } => match list.value(column as usize) {
+            (now, None) if now == value => "fix of a basic column at its value".into(),
+            (_, None) => "fix of a basic column".into(),
+            (_, Some(place)) if state.flags[place] == 7 => "fix of a fixed column".into(),
+            (_, Some(_)) => "fix of a non-basic column".into(),
+        },
+        Call::Unfix { column } => {
+            let column = column as usize;
+            match is_bound(&list.plan, column, list.value(column).0) {
+                true => "unfix at a bound".into(),
+                false => "unfix between bounds".into(),
+            }
+        }
+        Call::Reprice { .. } => "reprice".into(),
+        Call::Poke { .. } => "poke".into(),
+    }
+}
+
+fn is_bound(plan: &Plan, column: usize, value: f64) -> bool {
+    value == plan.lower[column] || value == plan.upper[column]
+}
+
+/// Where a fix that isn't refused finds its column, and where it takes it.
+fn fixes(list: &List, call: &Call, number: u8) -> Vec<String> {
+    let &Call::Fix { column, value } = call else {
+        return vec![];
+    };
+    let column = column as usize;
+    let stands = match list.value(column).1 {
+        Some(_) => "a non-basic column",
+        None => "a basic column",
+    };
+    let at = match is_bound(&list.plan, column, value) {
+        true => "at a bound",
+        false => "inside its bounds",
+    };
+    vec![
+        format!("{} is fixed", stands),
+        format!("{} is fixed {}", stands, at),
+        format!("answer {} out of a fix", number),
+    ]
+}
+
+/// Which steps a call took.
+fn steps(call: &Call, before: &State, after: &State, answer: &Answer) -> Vec<String> {
+    let mut kinds = vec![];
+    let name = match call {
+        Call::Fix { .. } => "fix",
+        Call::Unfix { .. } => "unfix",
+        _ => "reprice",
+    };
+    match (after.dual_steps, answer.steps - after.dual_steps) {
+        (0, 0) => kinds.push(format!("{} without steps", name)),
+        (0, _) => kinds.push(format!("{} with primal steps alone", name)),
+        (_, 0) => kinds.push(format!("{} with dual steps alone", name)),
+        _ => kinds.push(format!("{} with both kinds of step", name)),
+    }
+    if before.factor.is_some() {
+        kinds.push(format!("{} with a factor", name));
+    }
+    if after.factorings > before.factorings {
+        kinds.push(format!("{} that factors", name));
+    }
+    let marks = |state: &State| state.flags.iter().filter(|&&cell| cell == 7).count();
+    if marks(before) > 1 {
+        kinds.push(format!("{} beside other marks", name));
+    }
+    kinds
+}
+
+/// The fixed list: the first two plans for each kind.
+#[derive(Default)]
+pub struct Fixed {
+    taken: BTreeMap<String, u64>,
+}
+
+impl Fixed {
+    pub fn takes(&mut self, plan: &Plan) -> bool {
+        let mut takes = false;
+        for kind in kinds(plan) {
+            let taken = self.taken.entry(kind).or_default();
+            if *taken < 2 {
+                *taken += 1;
+                takes = true;
+            }
+        }
+        takes
+    }
+}
+
+#[derive(Default)]
+pub struct Survey {
+    plans: u64,
+    counts: BTreeMap<String, u64>,
+}
+
+impl Survey {
+    pub fn add(&mut self, plan: &Plan) {
+        self.plans += 1;
+        for kind in kinds(plan) {
+            *self.counts.entry(kind).or_default() += 1;
+        }
+    }
+
+    pub fn table(&self) -> String {
+        let mut table = format!("{} plans\n", self.plans);
+        for (name, count) in &self.counts {
+            table += &format!("{}: {}\n", name, count);
+        }
+        table
+    }
+
+    /// What must be reached: a name, the least count and the count.
+    pub fn targets(&self) -> Vec<(String, u64, u64)> {
+        let mut targets = vec![("plans".to_string(), 8_000, self.plans)];
+        let mut at_least = |least: u64, name: &str| {
+            let count = self.counts.get(name).copied().unwrap_or(0);
+            targets.push((name.to_string(), least, count));
+        };
+        for (least, name) in ALL {
+            at_least(least, name);
+        }
+        for (what, answers) in ANSWERS {
+            for &(number, least) in answers {
+                at_least(least, &format!("{}, answer {}", what, number));
+            }
+        }
+        for cause in CAUSES {
+            at_least(200, &format!("41 by {}", cause.name));
+        }
+        for (least, name) in STEPS {
+            at_least(least, name);
+        }
+        targets
+    }
+}
+
+/// All calls, by their answers and by what they fix.
+const ALL: [(u64, &str); 15] = [
+    (20_000, "calls"),
+    (2_000, "answer 41"),
+    (200, "answer 42"),
+    (200, "answer 43"),
+    (200, "answer 44"),
+    (2_000, "a basic column is fixed"),
+    (2_000, "a non-basic column is fixed"),
+    (500, "a basic column is fixed at a bound"),
+    (500, "a basic column is fixed inside its bounds"),
+    (500, "a non-basic column is fixed at a bound"),
+    (500, "a non-basic column is fixed inside its bounds"),
+    (200, "answer 21 out of a fix"),
+    (40, "answer 23 out of a fix"),
+    (200, "answer 24 out of a fix"),
+    (1_000, "answer 26 out of a fix"),
+];
+
+/// What calls are about, and the least count of their answers.
+const ANSWERS: [(&str, &[(u8, u64)]); 10] = [
+    (
+        "fix of a basic column",
+        &[
+            (0, 1_000),
+            (21, 100),
+            (23, 4),
+            (24, 80),
+            (26, 500),
+            (41, 300),
+            (43, 100),
+        ],
+    ),
+    (
+        "fix of a basic column at its value",
+        &[(0, 1_000), (21, 2), (24, 5), (26, 10)],
+    ),
+    (
+        "fix of a non-basic column",
+        &[
+            (0, 1_500),
+            (21, 40),
+            (23, 20),
+            (24, 80),
+            (26, 300),
+            (41, 200),
+            (43, 100),
+        ],
+    ),
+    (
+        "fix of a fixed column",
+        &[(0, 300), (21, 5), (26, 80), (43, 30)],
+    ),
+    ("unfix at a bound", &[(0, 400), (21, 3), (44, 150)]),
+    ("unfix between bounds", &[(0, 400), (21, 30), (44, 150)]),
+    ("unknown column", &[(41, 20), (42, 150)]),
+    ("after a refused plan", &[(5, 100), (41, 60)]),
+    (
+        "right after a poke",
+        &[
+            (0, 300),
+            (24, 80),
+            (25, 2),
+            (26, 150),
+            (42, 15),
+            (43, 30),
+            (44, 40),
+        ],
+    ),
+    ("reprice", &[(0, 700), (20, 40), (24, 2)]),
+];
+
+const STEPS: [(u64, &str); 14] = [
+    (2_000, "fix without steps"),
+    (2_000, "fix with dual steps alone"),
+    (3, "fix with primal steps alone"),
+    (100, "fix with both kinds of step"),
+    (200, "fix with a factor"),
+    (60, "fix that factors"),
+    (300, "fix beside other marks"),
+    (400, "unfix without steps"),
+    (500, "unfix with primal steps alone"),
+    (60, "unfix with a factor"),
+    (150, "unfix beside other marks"),
+    (150, "reprice with primal steps alone"),
+    (300, "reprice that factors"),
+    (250, "reprice with a factor"),
+];
