@@ -1,22 +1,20 @@
--- 41 refuses no honest memory: what a run, a fix or an unfix leaves passes the test where it ended in 0. Assumes nothing.
+-- 41 refuses no honest memory: what a run, a fix or an unfix that ends in 0 leaves passes the test. Assumes nothing.
 use mathlib.Core.Path.{_≡_, refl, sym, subst}
-use mathlib.Core.Bool.{Bool, true, false, not, _&&_, _||_}
-use mathlib.Core.List.{List}
-use mathlib.Core.Logic.{_⊎_, inl, ⊎-elim}
-use Prim.Native.Nat.{ℕ, zero, suc, _+_, _-_, _<_, _≤_}
+use mathlib.Core.Bool.{Bool, true, false, not, _||_}
+use mathlib.Core.Logic.{inl, ⊎-elim}
+use Prim.Native.Nat.{ℕ, zero, suc, _-_, _<_, _≤_}
 use native.Mathlib.Numerals.{add-one}
 use native.Mathlib.Omega.{arith}
 use lib.Dec.{ltb, leb, eqb}
-use lib.ListN.{length, drop, length-set, List·getD-append}
+use lib.ListN.{drop, List·getD-append}
 use lib.Ieee.{Float}
 use borrow.Author.Tests.{ltb-true, ltb-false, lt-ltb, le-leb, eqb-true, eq-eqb}
 use Rattle.doubles.specs.Num.{finite}
 use Rattle.doubles.specs.Limits.{etaColumns, etaEntries}
-use Rattle.doubles.specs.Loop.{all}
-use Rattle.doubles.specs.Lists.{_!_, _#_}
+use Rattle.doubles.specs.Lists.{_#_}
 use Rattle.doubles.proofs.Bools.{truth}
 use Rattle.doubles.proofs.Loops.{both-true, all-by}
-use Rattle.lu_gate.specs.Gate.{okStarts, finiteAt}
+use Rattle.lu_gate.specs.Gate.{finiteAt}
 use Rattle.lu_factor_rules.specs.Packed.{lowerIn, upperIn, diagIn}
 use Rattle.rules.specs.Plan.{Plan, Problem, Memory, Etas, Factored, State, problemOf, nOf, mOf, varStateOf, bit}
 use Rattle.rules.specs.Refusals.{passes1, passes2, firstBadRow, firstCrossed, firstFalse}
@@ -25,8 +23,7 @@ use Rattle.rules.specs.Basis.{etaUsed}
 use Rattle.rules.specs.Step.{Outcome, moved, stopped, Ended, ended, runOf, bothRuns}
 use Rattle.rules.specs.Answers.{asRow, numberOf}
 use Rattle.rules.specs.Solve.{Solved, answerOf, memoryAfter, close, endOf, orElse, solvePlan}
-use Rattle.rules.specs.Conditions.{NoneBelow}
-use Rattle.rules.specs.Invariant.{ProblemFits, Store, FactorNumbers, Fits, Numbers, Sound}
+use Rattle.rules.specs.Invariant.{ProblemFits, Store, FactorNumbers, Numbers}
 use Rattle.rules.specs.declared.VarState.{VarState}
 use Rattle.rules.specs.declared.VarState.the-variants.{Basic, NonBasic}
 use Rattle.rules.specs.declared.Stop.the-variants.{Spent, NotFinite}
@@ -37,11 +34,15 @@ use Rattle.rules.proofs.Start.{passed-fits}
 use Rattle.rules.proofs.Ran.{solved-closes}
 use Rattle.state_maps.specs.Maps.{mapsFine}
 use Rattle.state_maps.proofs.Exact.{fine-exactly}
-use Rattle.fix_rules.specs.Kept.{flagsFine, storeFine, factorFine, workspaceFinite, factorFinite, knownFlags, passes41, keptState}
-use Rattle.fix_rules.specs.Fix.{marked, unmarked, shiftFinite, shifted, fixLeaving, fixTest, fixStep, fixNonBasic, afterFixStep, fixBasic, fixed, unfixed}
-use Rattle.fix_rules.specs.Calls.{Called, asFixRow, closeCall, passes42, passes43, passes44, orRefusedCall, fixPlan, unfixPlan}
+use Rattle.fix_rules.specs.Kept.{flagsFine, storeFine, factorFine, workspaceFinite, factorFinite, knownFlags}
+use Rattle.fix_rules.specs.Kept.{passes41, keptState}
+use Rattle.fix_rules.specs.Fix.{marked, unmarked, shiftFinite, shifted, fixLeaving, fixTest, fixStep}
+use Rattle.fix_rules.specs.Fix.{fixNonBasic, afterFixStep, fixBasic, fixed, unfixed}
+use Rattle.fix_rules.specs.Calls.{Called, asFixRow, closeCall, passes42, passes43, passes44, orRefusedCall}
+use Rattle.fix_rules.specs.Calls.{fixPlan, unfixPlan}
 use Rattle.fix_rules.proofs.Runs.{run-keeps, both-keep}
-use Rattle.fix_rules.proofs.Honest.{Honest, and, starts-fine, step-honest, dual-honest, marked-honest, unmarked-honest, shifted-honest, start-honest, kept-honest}
+use Rattle.fix_rules.proofs.Honest.{Honest, and, starts-fine, start-honest, kept-honest, step-honest}
+use Rattle.fix_rules.proofs.Honest.{dual-honest, marked-honest, unmarked-honest, shifted-honest}
 
 -- ---- the store of an honest state passes
 module _ (P : Problem) (h : Etas) (count : ℕ) (g : Store P h count) where
@@ -60,8 +61,9 @@ module _ (P : Problem) (h : Etas) (count : ℕ) (g : Store P h count) where
       and (le-leb count etaColumns (g .columns-fit))
       (and (starts-fine count (h .starts) (g .begins) (λ k l. g .column k l .rises))
       (and (le-leb (h .starts # count) etaEntries (g .entries-fit))
-      (and (all-by (λ k. ltb (h .leaving # k) (mOf P)) count (λ k l. lt-ltb (h .leaving # k) (mOf P) (g .column k l .leaves)))
-      (all-by (λ i. ltb (h .rows # i) (mOf P)) (h .starts # count) (λ i l. lt-ltb (h .rows # i) (mOf P) (entries-below count (omega arith) i l))))))
+      (and (all-by (λ k. ltb (h .leaving # k) (mOf P)) count (λ k l. lt-ltb _ _ (g .column k l .leaves)))
+      (all-by (λ i. ltb (h .rows # i) (mOf P)) (h .starts # count)
+      (λ i l. lt-ltb _ _ (entries-below count (omega arith) i l))))))
 
 -- ---- so do its numbers
 module _ (P : Problem) (s : State) (g : Numbers P s) where
@@ -76,13 +78,15 @@ module _ (P : Problem) (s : State) (g : Numbers P s) where
       (and (all-by (finiteAt (w .dualNorms)) (mOf P) (g .dualNorm))
       (all-by (finiteAt (w .etas .coeffs)) (etaUsed s) (g .eta))))))
 
-factor-finite : (m : ℕ) (F : Factored) → FactorNumbers m F → F .there ≡ true → factorFinite m (F .numbers) (F .coeffs) ≡ true
+factor-finite : (m : ℕ) (F : Factored) → FactorNumbers m F → F .there ≡ true
+    → factorFinite m (F .numbers) (F .coeffs) ≡ true
 unfolding factorFinite
 factor-finite m F g t =
     let N = F .numbers in
     let D = F .coeffs in
     and (all-by (finiteAt (lowerIn N D .vals)) (lowerIn N D .starts # m) (g .lower t))
-    (and (all-by (finiteAt (upperIn N D .vals)) (upperIn N D .starts # m) (g .upper t)) (all-by (finiteAt (diagIn D)) m (g .diag t)))
+    (and (all-by (finiteAt (upperIn N D .vals)) (upperIn N D .starts # m) (g .upper t))
+    (all-by (finiteAt (diagIn D)) m (g .diag t)))
 
 -- what is asked of a factor where there is one, and the cell that says so
 of-factor : (b c : Bool) → (b ≡ true → c ≡ true) → not (eqb (bit b) 1) || c ≡ true
@@ -105,6 +109,7 @@ module _ (p : Plan) (m : Memory) (e : Ended) where
   unfolding close memoryAfter passes41 flagsFine
   close-passes h q =
       let n = h .sound .numbers in
+      let F = s .factor in
       let maps = fine-exactly p (close P m e .memory) .1 (record {
         counted = refl;
         rows = λ r l. List·getD-append (P .kept) (drop (mOf P) (m .kept)) 0 r l;
@@ -114,10 +119,10 @@ module _ (p : Plan) (m : Memory) (e : Ended) where
       (and maps
       (and (all-by (λ c. knownFlags (s .ws .flags # c)) (nOf P) (h .flags))
       (and (store-fine P (s .ws .etas) (s .etaCount) (h .sound .fits .store))
-      (and (of-factor (s .factor .there) (factorFine (mOf P) (s .factor .numbers) (s .factor .coeffs)) (h .factor))
-      (and (cell-fine (s .factor .there))
+      (and (of-factor (F .there) (factorFine (mOf P) (F .numbers) (F .coeffs)) (h .factor))
+      (and (cell-fine (F .there))
       (and (workspace-finite P s n)
-      (and (of-factor (s .factor .there) (factorFinite (mOf P) (s .factor .numbers) (s .factor .coeffs)) (factor-finite (mOf P) (s .factor) (n .factor)))
+      (and (of-factor (F .there) (factorFinite (mOf P) (F .numbers) (F .coeffs)) (factor-finite (mOf P) F (n .factor)))
       (n .objective))))))))
 
 -- ---- every end of a run from an honest state is honest
@@ -137,10 +142,15 @@ module _ (P : Problem) (p : ProblemFits P) where
   unfolding endOf
   end-honest m h = go (dualFeasible (P .plan))
     where
-      go : (b : Bool)
-          → Ends (elim b [ true ↦ bothRuns P (P .plan .budget) (startState P m) | false ↦ runOf P (P .plan .budget) (startState P m) ])
-      go true = both-honest (P .plan .budget) (startState P m) h
-      go false = run-honest (P .plan .budget) (startState P m) h
+      k : ℕ
+      k = P .plan .budget
+
+      start : State
+      start = startState P m
+
+      go : (b : Bool) → Ends (elim b [ true ↦ bothRuns P k start | false ↦ runOf P k start ])
+      go true = both-honest k start h
+      go false = run-honest k start h
 
   module _ (s : State) (h : Honest P s) (value : Float) where
     non-basic : (c : ℕ) → finite value ≡ true → Ends (fixNonBasic P s c value)
@@ -155,8 +165,9 @@ module _ (P : Problem) (p : ProblemFits P) where
     after-step : (j row : ℕ) → row < mOf P → (o : Outcome) → fixStep P s row value ≡ o → Ends (afterFixStep P s j o)
     unfolding fixStep
     after-step j row l (moved i t) q =
-        both-honest (P .plan .budget) (marked t (t .ws .varStates # j))
-        (marked-honest P t (dual-honest P p s h (fixTest P s row value) (fixLeaving P s row value) l i t q) (t .ws .varStates # j))
+        let c = t .ws .varStates # j in
+        both-honest (P .plan .budget) (marked t c)
+        (marked-honest P t (dual-honest P p s h (fixTest P s row value) (fixLeaving P s row value) l i t q) c)
     after-step j row l (stopped w) q = h
 
     basic : (j row : ℕ) → row < mOf P → Ends (fixBasic P s j row value)
@@ -177,15 +188,20 @@ module _ (P : Problem) (p : ProblemFits P) where
         standing : Bool → VarState
         standing b = elim b [ true ↦ NonBasic cell | false ↦ Basic (cell - nOf P) ]
 
-        go : (b : Bool) → ltb cell (nOf P) ≡ b → Ends (elim (standing b) [ NonBasic c ↦ fixNonBasic P s c value | Basic r ↦ fixBasic P s j r value ])
+        go : (b : Bool) → ltb cell (nOf P) ≡ b
+            → Ends (elim (standing b) [ NonBasic c ↦ fixNonBasic P s c value | Basic r ↦ fixBasic P s j r value ])
         go true e = non-basic cell v
-        go false e = basic j (cell - nOf P) (omega (arith, ltb-false cell (nOf P) e, h .sound .fits .maps .variable j (omega arith) .cell))
+        go false e =
+            let inside = h .sound .fits .maps .variable j (omega arith) .cell in
+            basic j (cell - nOf P) (omega (arith, ltb-false cell (nOf P) e, inside))
 
   unfixed-honest : (s : State) → Honest P s → (j : ℕ) → Ends (unfixed P s j)
   unfolding unfixed
-  unfixed-honest s h j = run-honest (P .plan .budget) (unmarked P s (s .ws .varStates # j)) (unmarked-honest P s h (s .ws .varStates # j))
+  unfixed-honest s h j =
+      let c = s .ws .varStates # j in
+      run-honest (P .plan .budget) (unmarked P s c) (unmarked-honest P s h c)
 
--- ---- the three calls
+-- ---- the three calls: where one answers 0 the memory that it leaves passes
 module _ (p : Plan) (m : Memory) where
   pub solved-passes : numberOf (solvePlan p m .answer) ≡ 0 → passes41 p (solvePlan p m .memory) ≡ true
   unfolding close
@@ -198,11 +214,11 @@ module _ (p : Plan) (m : Memory) where
       subst (λ (r : Solved). numberOf (r .answer) ≡ 0 → passes41 p (r .memory) ≡ true) (sym (solved-closes p m none))
       (close-passes p m (endOf P m) (end-honest P fits m start)) q
 
-  -- a call that ends in 0 leaves memory that passes
   abbrev Leaves : Called → Type 0
   Leaves r = asFixRow (r .answer) .number ≡ 0 → passes41 p (r .memory) ≡ true
 
-  rung : (b : Bool) (a r : Called) → ¬ (asFixRow (a .answer) .number ≡ 0) → (b ≡ true → Leaves r) → Leaves (orElse b a r)
+  rung : (b : Bool) (a r : Called) → ¬ (asFixRow (a .answer) .number ≡ 0) → (b ≡ true → Leaves r)
+      → Leaves (orElse b a r)
   rung true a r n h = h refl
   rung false a r n h = λ q. absurd (n q)
 
@@ -212,7 +228,8 @@ module _ (p : Plan) (m : Memory) where
 
   module _ (j : ℕ) where
     past-42 : (r : Called)
-        → (passes1 p m ≡ true → passes2 p ≡ true → firstBadRow p ≡ p .rows → passes41 p m ≡ true → j < p .columns → Leaves r)
+        → (passes1 p m ≡ true → passes2 p ≡ true → firstBadRow p ≡ p .rows → passes41 p m ≡ true → j < p .columns
+        → Leaves r)
         → Leaves (orRefusedCall p m j r)
     unfolding asFixRow asRow
     past-42 r h =
@@ -225,20 +242,24 @@ module _ (p : Plan) (m : Memory) where
         rung (passes42 p j) _ _ (λ q. omega (arith, q)) (λ known.
         h one two (eqb-true _ _ three) kept (ltb-true _ _ known))))))))
 
-    pub fixed-passes : (value : Float) → asFixRow (fixPlan p j value m .answer) .number ≡ 0 → passes41 p (fixPlan p j value m .memory) ≡ true
+    pub fixed-passes : (value : Float) → asFixRow (fixPlan p j value m .answer) .number ≡ 0
+        → passes41 p (fixPlan p j value m .memory) ≡ true
     unfolding fixPlan passes43 asFixRow
     fixed-passes value =
         let P = problemOf p in
         past-42 _ (λ one two three kept known.
         rung (passes43 p j value) _ _ (λ q. omega (arith, q)) (λ inside.
+        let fits = passed-fits p m one two three in
+        let h = kept-honest p m one two three kept in
         call-leaves (fixed P (keptState P m) j value)
-        (fixed-honest P (passed-fits p m one two three) (keptState P m) (kept-honest p m one two three kept) value j known (both-true (finite value) _ inside .0))))
+        (fixed-honest P fits (keptState P m) h value j known (both-true (finite value) _ inside .0))))
 
     pub unfixed-passes : asFixRow (unfixPlan p j m .answer) .number ≡ 0 → passes41 p (unfixPlan p j m .memory) ≡ true
     unfolding unfixPlan asFixRow
     unfixed-passes =
         let P = problemOf p in
         past-42 _ (λ one two three kept known.
-        rung (passes44 p m j) _ _ (λ q. omega (arith, q)) (λ marked.
-        call-leaves (unfixed P (keptState P m) j)
-        (unfixed-honest P (passed-fits p m one two three) (keptState P m) (kept-honest p m one two three kept) j)))
+        rung (passes44 p m j) _ _ (λ q. omega (arith, q)) (λ held.
+        let fits = passed-fits p m one two three in
+        let h = kept-honest p m one two three kept in
+        call-leaves (unfixed P (keptState P m) j) (unfixed-honest P fits (keptState P m) h j)))

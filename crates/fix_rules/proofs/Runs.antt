@@ -5,7 +5,8 @@ use Rattle.doubles.specs.Loop.{until, Next, done, more}
 use Rattle.rules.specs.Plan.{Problem, State}
 use Rattle.rules.specs.Choose.{choose}
 use Rattle.rules.specs.DualRow.{chooseRow}
-use Rattle.rules.specs.Step.{Outcome, moved, stopped, step, dualStep, Ended, ended, next, atBudget, runOf, dualNext, dualAtBudget, dualRunOf, thenPrimal, bothRuns}
+use Rattle.rules.specs.Step.{Outcome, moved, stopped, step, dualStep, Ended, ended, next, atBudget, runOf}
+use Rattle.rules.specs.Step.{dualNext, dualAtBudget, dualRunOf, thenPrimal, bothRuns}
 use Rattle.rules.specs.declared.Entering.{Entering}
 use Rattle.rules.specs.declared.Choice.{Choice}
 use Rattle.rules.specs.declared.Choice.the-variants.{Enters, Nothing}
@@ -22,19 +23,21 @@ module _ {S R : Type 0} (turn : S → Next S R) (last : S → R) (Q : S → Type
   Turned (done r) = D r
   Turned (more t) = Q t
 
-  until-keeps : ((s : S) → Q s → Turned (turn s)) → ((s : S) → Q s → D (last s)) → (k : ℕ) (s : S) → Q s → D (until turn last k s)
+  until-keeps : ((s : S) → Q s → Turned (turn s)) → ((s : S) → Q s → D (last s)) → (k : ℕ) (s : S) → Q s
+      → D (until turn last k s)
   unfolding until
   until-keeps by-turn by-last zero s q = by-last s q
   until-keeps by-turn by-last (suc k) s q = go (until-keeps by-turn by-last k) (turn s) (by-turn s q)
     where
-      go : ((t : S) → Q t → D (until turn last k t)) → (x : Next S R) → Turned x → D (elim x [ done r ↦ r | more t ↦ until turn last k t ])
+      go : ((t : S) → Q t → D (until turn last k t)) → (x : Next S R) → Turned x
+          → D (elim x [ done r ↦ r | more t ↦ until turn last k t ])
       go rest (done r) h = h
       go rest (more t) h = rest t h
 
 -- ---- the runs
 module _ (P : Problem) (Q : State → Type 0)
-    (by-step : (s : State) → Q s → (e : Entering) → choose P (s .ws) ≡ Enters e → (i : PivotInfo) (t : State) → step P s e ≡ moved i t → Q t)
-    where
+    (by-step : (s : State) → Q s → (e : Entering) → choose P (s .ws) ≡ Enters e → (i : PivotInfo) (t : State)
+    → step P s e ≡ moved i t → Q t) where
   abbrev Ends : Ended → Type 0
   Ends e = Q (e .state)
 
@@ -63,8 +66,8 @@ module _ (P : Problem) (Q : State → Type 0)
   unfolding runOf
   run-keeps k s q = until-keeps (next P) (atBudget P) Q Ends primal-turn primal-last k s q
 
-  module _ (by-dual : (s : State) → Q s → (l : LeavingVar) → chooseRow P (s .ws) ≡ Leaves l → (i : PivotInfo) (t : State) → dualStep P s l ≡ moved i t → Q t)
-      where
+  module _ (by-dual : (s : State) → Q s → (l : LeavingVar) → chooseRow P (s .ws) ≡ Leaves l
+      → (i : PivotInfo) (t : State) → dualStep P s l ≡ moved i t → Q t) where
     dual-turn : (s : State) → Q s → Turned (dualNext P) (dualAtBudget P) Q Ends (dualNext P s)
     unfolding dualNext
     dual-turn s q = go (chooseRow P (s .ws)) refl
@@ -98,4 +101,5 @@ module _ (P : Problem) (Q : State → Type 0)
     unfolding bothRuns dualRunOf
     both-keep k s q =
         let e = dualRunOf P (k - s .steps) s in
-        then-keeps k (e .why) (e .state) (until-keeps (dualNext P) (dualAtBudget P) Q Ends dual-turn dual-last (k - s .steps) s q)
+        then-keeps k (e .why) (e .state)
+        (until-keeps (dualNext P) (dualAtBudget P) Q Ends dual-turn dual-last (k - s .steps) s q)

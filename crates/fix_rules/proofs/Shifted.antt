@@ -9,7 +9,7 @@ use Rattle.doubles.proofs.Loops.{both-true}
 use Rattle.sparse.specs.Scattered.{Sv, listedFinite}
 use Rattle.rules.specs.Plan.{Problem, State}
 use Rattle.rules.specs.Pivot.{storesFinite, movedVal}
-use Rattle.rules.specs.Invariant.{Fits, Numbers, Sound}
+use Rattle.rules.specs.Invariant.{Sound}
 use Rattle.rules.proofs.Keeps.{stored-long, stored-finite, set-finite}
 use Rattle.fix_rules.specs.Fix.{fixDiff, fixColumn, shiftFiniteBy, shiftedBy, shiftFinite, shifted}
 use Rattle.fix_rules.proofs.Marks.{marked-sound}
@@ -45,7 +45,8 @@ module _ (P : Problem) (s : State) (c : ℕ) (value : Float) (v : finite value �
           maps = record {
             place = λ k i. let x = m .place k i in record { var = x .var; back = x .back };
             row = λ r i. let x = m .row r i in record { var = x .var; back = x .back };
-            variable = λ v i. let x = m .variable v i in record { cell = x .cell; non-basic = x .non-basic; basic = x .basic };
+            variable = λ v i.
+                let x = m .variable v i in record { cell = x .cell; non-basic = x .non-basic; basic = x .basic };
           };
           store = f .store;
           factor = f .factor;
