@@ -11,6 +11,12 @@ A problem is built column by column and row by row, or handed over as lists (or 
 >>> solution.objective, solution["north"], solution["south"]
 (27.0, 4.5, 0.0)
 
+A column of it can be held still, and let go, from where the run left off:
+
+>>> held = solution.fix("north", 3)
+>>> held.objective, held["south"], held.steps, held.unfix("north").objective
+(24.0, 3.0, 1, 27.0)
+
 The audit sheet says in whole numbers how much better another plan could be:
 
 >>> sheet = problem.audit()
@@ -32,6 +38,7 @@ repository writes it, then where the system's loader finds libtevalumi.so.0 (`ma
 
 from __future__ import annotations
 
+import copy
 import ctypes
 import functools
 import math
@@ -86,7 +93,10 @@ _SENTENCES = {
     32: "a block's check is wrong",
     33: "a block is missing, cut, repeated or misplaced, or something stands behind the end",
     34: "an unused byte of a block isn't 0",
-    41: "the rows or maps aren't those of a run",
+    41: "the memory isn't what an Optimal run over this plan left",
+    42: "the plan has no such column",
+    43: "the value isn't finite or is outside the column's bounds",
+    44: "the column isn't fixed",
 }
 
 
@@ -167,6 +177,8 @@ class _Proposal(ctypes.Structure):
 
 _RESULTS = {
     "solve": _Answer,
+    "fix": _Answer,
+    "unfix": _Answer,
     "open": c_size_t,
     "verdict": _Verdict,
     "edit": c_size_t,
@@ -354,10 +366,8 @@ class _Run:
         self.columns, self.rows = len(problem.costs), len(problem.rows)
         self.costs = _doubles(problem._turned(cost) for cost in problem.costs)
         self.starts, self.ops = _sizes(starts), _marks([_op(op) for op in problem.ops])
-        self.values = _doubles([0.0] * (COLUMNS + ROWS))
-        self.numbers, self.doubles = (c_size_t * _NUMBERS)(), (c_double * _DOUBLES)()
-        self.answer: _Answer = _call(
-            "solve",
+        # What every call over the problem is lent to read, and what it writes.
+        self.plan: list[Any] = [
             self.columns,
             self.rows,
             len(entries),
@@ -371,13 +381,27 @@ class _Run:
             _doubles(coeff for _, coeff in entries),
             self.ops,
             _doubles(problem.rhs),
-            self.values,
-            self.numbers,
-            self.doubles,
-            (c_size_t * _FACTOR_NUMBERS)(),
-            (c_double * _FACTOR_COEFFS)(),
-        )
+        ]
+        self.values = _doubles([0.0] * (COLUMNS + ROWS))
+        self.numbers, self.doubles = (c_size_t * _NUMBERS)(), (c_double * _DOUBLES)()
+        self.factor = [(c_size_t * _FACTOR_NUMBERS)(), (c_double * _FACTOR_COEFFS)()]
+        self.call("solve")
+
+    def call(self, name: str, *words: Any) -> None:
+        """One of the calls over the problem and the lent memory."""
+        lent = [self.values, self.numbers, self.doubles, *self.factor]
+        self.answer: _Answer = _call(name, *self.plan, *lent, *words)
         self.kept = list(self.numbers[_KEPT : _KEPT + self.numbers[_COUNTS]])
+
+    def gone_on(self, name: str, *words: Any) -> _Run:
+        """The same with one call more, over a copy of the memory: this run stays as it is."""
+        run = copy.copy(self)
+        arrays = [self.values, self.numbers, self.doubles, *self.factor]
+        run.values, run.numbers, run.doubles, *run.factor = [type(a).from_buffer_copy(a) for a in arrays]
+        run.call(name, *words)
+        if run.answer.status != 0:
+            raise run.error()
+        return run
 
     def place(self) -> Optional[Place]:
         kind, at, within = self.answer.place, self.answer.at, self.answer.within
@@ -405,7 +429,7 @@ class _Run:
         stands, row_stands = ["basic"] * len(prices), ["basic"] * self.rows
         for place in range(columns):
             var = self.numbers[_NB_VARS + place]
-            prices[var], stands[var] = self.doubles[_PRICES + place], _STANDS[self.numbers[_FLAGS + place]]
+            prices[var], stands[var] = self.doubles[_PRICES + place], _STANDS[self.numbers[_FLAGS + place] & 3]
         slacks: list[Optional[float]] = [None] * self.rows
         multipliers = [0.0] * self.rows
         for k, row in enumerate(self.kept):
@@ -423,6 +447,7 @@ class _Run:
             multipliers=multipliers,
             stands=stands[:columns],
             row_stands=row_stands,
+            _run=self,
         )
 
     def sheet(self) -> Sheet:
@@ -464,9 +489,25 @@ class Solution:
     multipliers: list[float]
     stands: list[str]
     row_stands: list[str]
+    _run: _Run = field(repr=False, compare=False)
 
     def __getitem__(self, column: Union[int, str]) -> float:
-        return self.values[self.problem.column_names.index(column) if isinstance(column, str) else column]
+        return self.values[self._place(column)]
+
+    def _place(self, column: Union[int, str]) -> int:
+        return self.problem.column_names.index(column) if isinstance(column, str) else column
+
+    def fix(self, column: Union[int, str], value: float) -> Solution:
+        """The solution with a column held still, found from this one on: `steps` are those that it took.
+
+        The column stays there through later calls, until it is fixed elsewhere or let go. Raises `Error`: 42 for a
+        column that isn't there, 43 for a value outside its bounds, or how the run ended. This solution stays as it is.
+        """
+        return self._run.gone_on("fix", _size(self._place(column)), float(value)).solution()
+
+    def unfix(self, column: Union[int, str]) -> Solution:
+        """The solution with the column let go again. Raises `Error`, 44 where it isn't fixed."""
+        return self._run.gone_on("unfix", _size(self._place(column))).solution()
 
     def __iter__(self) -> Iterator[float]:
         return iter(self.values)

@@ -64,6 +64,23 @@ static void dual(void) {
     check(work.numbers[TEVALUMI_COUNTS + 4] == 26 && work.doubles[TEVALUMI_BASIC_VAR_VALS + 1] == 1, "its state");
 }
 
+/* A column held still and let go, and each refusal of the two calls. */
+static void fixes(void) {
+    n2();
+    check(tev_unfix(&plan, &work, 0).status == 41, "no run is kept yet");
+    tev_solve(&plan, &work);
+    TevalumiAnswer a = tev_fix(&plan, &work, 0, 3);
+    check(a.status == 0 && a.objective == -10 && a.steps == 1, "a column held");
+    check(work.values[0] == 3 && work.values[1] == 1, "its values");
+    size_t place = work.numbers[TEVALUMI_VAR_STATES];
+    check(place < 2 && work.numbers[TEVALUMI_FLAGS + place] == 7, "its mark");
+    check(tev_fix(&plan, &work, 2, 3).status == 42 && tev_unfix(&plan, &work, 2).status == 42, "an unknown column");
+    check(tev_fix(&plan, &work, 1, 3).status == 43 && tev_fix(&plan, &work, 1, NAN).status == 43, "a value outside");
+    check(tev_unfix(&plan, &work, 1).status == 44, "a column that isn't held");
+    a = tev_unfix(&plan, &work, 0);
+    check(a.status == 0 && a.objective == -12 && work.values[0] == 4, "let go");
+}
+
 /* What is too much is counted, stands nowhere, and is refused. */
 static void limits(void) {
     tev_begin(&plan);
@@ -211,6 +228,7 @@ static void triangles(void) {
 int main(void) {
     plans();
     dual();
+    fixes();
     limits();
     sheets();
     files();
