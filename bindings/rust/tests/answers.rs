@@ -110,10 +110,12 @@ fn growing() -> Problem {
     problem
 }
 
-/// 02: 6 and 22 are no longer given.
+/// 02: 6 and 22 are no longer given. 41 to 44 are a fix's and an unfix's (tests/fix.rs).
 fn given() -> impl Iterator<Item = Status> {
     let all = Status::ALL.into_iter();
-    all.filter(|status| ![Status::StartNotFinite, Status::NoRoom].contains(status))
+    all.filter(|status| {
+        ![Status::StartNotFinite, Status::NoRoom].contains(status) && status.number() < 41
+    })
 }
 
 /// A problem for each number that is given.
@@ -143,6 +145,9 @@ fn reaching(status: Status) -> Problem {
             problem
         }
         Status::StartNotFinite | Status::NoRoom => unreachable!("no longer given"),
+        Status::NotKept | Status::UnknownColumn | Status::ValueOutside | Status::NotFixed => {
+            unreachable!("not a solve's")
+        }
         // 0, where it starts, breaks the row, and its cost prefers the bound that it hasn't.
         Status::SlackOutside => one_column(-1.0, (0.0, INF), &[(1.0, GE, 1.0)]),
         Status::Unbounded => one_column(-1.0, (0.0, INF), &[(-1.0, LE, 4.0)]),
@@ -208,11 +213,11 @@ fn numbers_and_sentences_are_told_apart() {
     let numbers: Vec<u8> = Status::ALL.iter().map(|status| status.number()).collect();
     assert_eq!(
         numbers,
-        [0, 1, 2, 3, 4, 5, 6, 7, 20, 21, 22, 23, 24, 25, 26]
+        [0, 1, 2, 3, 4, 5, 6, 7, 20, 21, 22, 23, 24, 25, 26, 41, 42, 43, 44]
     );
     let sentences: BTreeSet<&str> = Status::ALL.iter().map(|status| status.sentence()).collect();
     assert_eq!(sentences.len(), Status::ALL.len());
-    for number in (8..20).chain(27..40) {
+    for number in (8..20).chain(27..41).chain(45..60) {
         assert_eq!(Status::from_number(number), None);
     }
 }
