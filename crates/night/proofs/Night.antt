@@ -10,11 +10,11 @@ use Rattle.rules.specs.Refusals.{sizesFit, planLong, storeLong, workspaceLong, 
 use Rattle.rules.specs.Start.{startVal, startDual, startVals, dualFeasible, startObjective, startSlack, startNorm, startWorkspace, startState, passes6, passes7}
 use Rattle.rules.specs.Choose.{mayEnter, scoreOf, betterTurn, bestColumn, otherVal, enteringOf, choose}
 use Rattle.rules.specs.DualRow.{tooLow, outside as outsideRow, infeasibilityOf, boundBroken, betterRowTurn, bestRow, leavingRowOf, chooseRow}
-use Rattle.rules.specs.DualRatio.{leavingRises, eligible, clamped, dualSound, dualPassOne, dualCandidate, dualPassTwoTurn, dualPassTwo, dualExchangeOf, dualRatio}
+use Rattle.rules.specs.DualRatio.{leavingRises, eligible, clamped, dualSound, dualPassOne, dualCandidate, dualPassTwoTurn, dualPassTwo, dualExchangeOf, dualRatioBy}
 use Rattle.rules.specs.Basis.{factorSolve, factorSolveTransp, etaTurn, solveEtas, solve, etaTurnTransp, solveEtasTransp, solveTransp, colCoeffs, addEntry, addRow, combine, rowCoeffsOf, helperOf, tauOf, touchAt, etaEntry, etaFits, writeColumn, pushEta}
 use Rattle.rules.specs.Ratio.{towardsMax, ahead, limitBy, limit, examined, relaxed, stepTo, soundRatios, passOne, candidate, passTwoTurn, passTwo, flipOf, exchangeOf, pivotOf, soundDistance, ratio}
 use Rattle.rules.specs.Pivot.{stored, storesFinite, flagsAt, newObjective, movedVal, flipFinite, flipped, newVal, newPrice, newNorm, newDualNorm, numbersFinite, etaFinite, exchanged}
-use Rattle.rules.specs.Step.{exchange, bothNorms, flip, pivot, step, dualPivot, dualStep, next, atBudget, runOf, dualNext, dualAtBudget, dualRunOf, bothRuns}
+use Rattle.rules.specs.Step.{exchange, bothNorms, flip, pivot, step, dualPivot, dualStepBy, next, atBudget, runOf, dualNext, dualAtBudget, dualRunOf, bothRuns}
 use Rattle.rules.specs.FinalCheck.{valueOf, valuesOf, counted, beyond, larger, valueExcess, rowExcess, excessAt, worstTurn, worst, judged, finalCheck}
 use Rattle.rules.specs.Answers.{asRow}
 use Rattle.rules.specs.Solve.{checkedAnswer, answerOf, valuesAfter, memoryAfter, close, endOf, solvePlan}
@@ -33,11 +33,11 @@ unfolding
     startVal startDual startVals dualFeasible startObjective startSlack startNorm startWorkspace startState passes6 passes7
     mayEnter scoreOf betterTurn bestColumn otherVal enteringOf choose
     tooLow outsideRow infeasibilityOf boundBroken betterRowTurn bestRow leavingRowOf chooseRow
-    leavingRises eligible clamped dualSound dualPassOne dualCandidate dualPassTwoTurn dualPassTwo dualExchangeOf dualRatio
+    leavingRises eligible clamped dualSound dualPassOne dualCandidate dualPassTwoTurn dualPassTwo dualExchangeOf dualRatioBy
     factorSolve factorSolveTransp takeOff etaTurn solveEtas solve etaTurnTransp solveEtasTransp solveTransp colCoeffs addEntry addRow combine rowCoeffsOf relisted helperOf tauOf touchAt listedFinite etaEntry etaFits writeColumn pushEta
     towardsMax ahead limitBy limit examined relaxed stepTo soundRatios passOne candidate passTwoTurn passTwo flipOf exchangeOf pivotOf soundDistance ratio
     stored storesFinite flagsAt newObjective movedVal flipFinite flipped newVal newPrice newNorm newDualNorm numbersFinite etaFinite exchanged
-    exchange bothNorms flip pivot step dualPivot dualStep next atBudget runOf dualNext dualAtBudget dualRunOf bothRuns valueOf valuesOf counted beyond larger valueExcess rowExcess excessAt worstTurn worst judged finalCheck asRow
+    exchange bothNorms flip pivot step dualPivot dualStepBy next atBudget runOf dualNext dualAtBudget dualRunOf bothRuns valueOf valuesOf counted beyond larger valueExcess rowExcess excessAt worstTurn worst judged finalCheck asRow
     checkedAnswer answerOf valuesAfter memoryAfter close endOf solvePlan
     sum bit holds wrong outside termBy term lacksBy lacks activity price cost floor brokenRows outsideAmounts wrongSigns absentNeeded fresh overKept
     firstFailed sizesFine allWithin boundFine boundsFine opsFine arraysFine numbersFine crosses uncrossed opening opened countFine countsFine keptFine isZero gap noneExists verdictBy verdict

@@ -51,7 +51,8 @@ pub fn dual_ratio(
     requires { ⌜ Sized (now numbers) (now doubles) × Pricing (packed (now numbers) (now doubles)) l (now list) count ⌝ }
     ensures { λ r. ⌜ ((m : List Bool) → r ≡ dualRatioBy
         (testBy still (leavingRises (packed (now (numbers .entry)) (now (doubles .entry))) l))
-        (packed (now (numbers .entry)) (now (doubles .entry))) l (sv (now (values .entry)) m (now (list .entry)) count)) ⌝ }
+        (packed (now (numbers .entry)) (now (doubles .entry))) l
+        (sv (now (values .entry)) m (now (list .entry)) count)) ⌝ }
 {
     step_prices::dual_ratio(
         l,
