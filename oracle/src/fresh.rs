@@ -4,6 +4,10 @@
 use crate::answer::{Answer, Factor, Named, Outcome, Rejected, StartNumber, State};
 use crate::plan::{Lent, Plan};
 
+mod calls;
+
+pub use calls::answers;
+
 /// "EPS is the double nearest 1e-8".
 const EPS: f64 = 1e-8;
 
@@ -73,6 +77,8 @@ struct Now {
     dual_norm: Vec<f64>,
     at_lower: Vec<bool>,
     at_upper: Vec<bool>,
+    /// A fixed column "counts as at both bounds".
+    fixed: Vec<bool>,
     etas: Vec<Eta>,
     factor: Option<Triangles>,
     factorings: usize,
@@ -82,42 +88,47 @@ struct Now {
 }
 
 pub fn solve(plan: &Plan) -> Answer {
-    if too_large_or_short(plan) {
-        return Answer::refusal(Outcome::BadSize);
-    }
-    if bad_number(plan) {
-        return Answer::refusal(Outcome::BadNumber);
-    }
-    let (rules, mut now, dual_feasible) = match start(plan) {
+    let (rules, now, dual_feasible) = match laid_out(plan).and_then(started) {
         Ok(started) => started,
         Err(outcome) => return Answer::refusal(outcome),
     };
+    run(&rules, now, plan, dual_feasible)
+}
 
+/// Dual steps where they are asked for, primal steps, the final check.
+fn run(rules: &Rules, mut now: Now, plan: &Plan, is_dual: bool) -> Answer {
     let mut dual_ended = Ok(());
-    if dual_feasible {
-        dual_ended = repeat(&mut now, &|now| dual_step(&rules, now, plan.budget));
+    if is_dual {
+        dual_ended = repeat(&mut now, &|now| dual_step(rules, now, plan.budget));
     }
     let in_dual = dual_ended.is_err();
-    let ended = dual_ended.and_then(|()| repeat(&mut now, &|now| step(&rules, now, plan.budget)));
+    let ended = dual_ended.and_then(|()| repeat(&mut now, &|now| step(rules, now, plan.budget)));
 
     let (outcome, excess) = match ended {
         Err(stopped) => (stopped, 0.0),
-        Ok(()) => checked(&rules, &now, plan.tolerance),
+        Ok(()) => checked(rules, &now, plan.tolerance),
     };
+    let mut answer = stood(rules, &now, outcome);
+    answer.excess = excess;
+    if let Some(state) = &mut answer.state {
+        state.in_dual = in_dual;
+    }
+    answer
+}
+
+/// An answer with the state as it stands.
+fn stood(rules: &Rules, now: &Now, outcome: Outcome) -> Answer {
     Answer {
         outcome,
         objective: now.objective,
         steps: now.steps,
-        excess,
+        excess: 0.0,
         values: if outcome == Outcome::Optimal {
-            values(&rules, &now)
+            values(rules, now)
         } else {
             vec![]
         },
-        state: Some(State {
-            in_dual,
-            ..state(&rules, &now)
-        }),
+        state: Some(state(rules, now)),
     }
 }
 
@@ -214,8 +225,14 @@ fn bad_number(plan: &Plan) -> bool {
     !(plan.tolerance >= 0.0 && plan.tolerance <= 1.0)
 }
 
-/// Refusals 3 to 7 and the start; the flag says whether it is dual feasible.
-fn start(plan: &Plan) -> Result<(Rules, Now, bool), Outcome> {
+/// Refusals 1 to 5 and the start; the flag says whether it is dual feasible.
+fn laid_out(plan: &Plan) -> Result<(Rules, Now, bool), Outcome> {
+    if too_large_or_short(plan) {
+        return Err(Outcome::BadSize);
+    }
+    if bad_number(plan) {
+        return Err(Outcome::BadNumber);
+    }
     let columns = plan.columns as usize;
     let row_entries = |r: usize| plan.starts[r] as usize..plan.starts[r + 1] as usize;
 
@@ -266,6 +283,7 @@ fn start(plan: &Plan) -> Result<(Rules, Now, bool), Outcome> {
         dual_norm: vec![],
         at_lower: vec![],
         at_upper: vec![],
+        fixed: vec![false; columns],
         etas: vec![],
         factor: None,
         factorings: 0,
@@ -326,7 +344,12 @@ fn start(plan: &Plan) -> Result<(Rules, Now, bool), Outcome> {
     for c in 0..columns {
         now.norm.push(sum_of_squares(&column(&rules, c)) + 1.0);
     }
+    Ok((rules, now, dual_feasible))
+}
 
+/// Refusals 6 and 7 of a start.
+fn started(laid_out: (Rules, Now, bool)) -> Result<(Rules, Now, bool), Outcome> {
+    let (rules, now, dual_feasible) = laid_out;
     if now.bval.iter().any(|val| !val.is_finite()) {
         return Err(Outcome::StartNotFinite(StartNumber::Value));
     }
@@ -337,7 +360,8 @@ fn start(plan: &Plan) -> Result<(Rules, Now, bool), Outcome> {
         return Err(Outcome::StartNotFinite(StartNumber::Norm));
     }
     for (k, &val) in now.bval.iter().enumerate() {
-        let outside = val < rules.lower[columns + k] || val > rules.upper[columns + k];
+        let slack = rules.columns + k;
+        let outside = val < rules.lower[slack] || val > rules.upper[slack];
         if outside && !dual_feasible {
             return Err(Outcome::SlackOutside);
         }
@@ -683,18 +707,33 @@ fn dual_step(rules: &Rules, now: &Now, budget: u64) -> Result<Option<Now>, Outco
     let Some((row, leaving_val)) = leaving_row(rules, now) else {
         return Ok(None);
     };
+    left(rules, now, budget, row, leaving_val).map(Some)
+}
+
+/// From "Budget" on: this row's variable leaves at this value.
+fn left(
+    rules: &Rules,
+    now: &Now,
+    budget: u64,
+    row: usize,
+    leaving_val: f64,
+) -> Result<Now, Outcome> {
     if now.steps >= budget {
         return Err(Outcome::Spent);
     }
     let (rho, coefs) = row_of(rules, now, row)?;
 
     // Every eligible place with its coefficient and the size of its clamped price. The leaving value
-    // grows by -a times what the entering one grows by.
+    // grows by -a times what the entering one grows by. 02, Ask 9: where the two are equal "nothing has to
+    // move, and no bound is in the way".
+    let stands = leaving_val == now.bval[row];
     let grows = leaving_val > now.bval[row];
     let mut eligible = vec![];
     for &(c, a) in &coefs.0 {
         let rises = (a > 0.0) != grows;
-        let in_the_way = if rises {
+        let in_the_way = if stands {
+            now.fixed[c]
+        } else if rises {
             now.at_upper[c]
         } else {
             now.at_lower[c]
@@ -738,7 +777,7 @@ fn dual_step(rules: &Rules, now: &Now, budget: u64) -> Result<Option<Now>, Outco
     };
     let mut next = exchanged(rules, now, exchange)?;
     next.dual_steps += 1;
-    Ok(Some(next))
+    Ok(next)
 }
 
 /// What either kind of step has found when it exchanges.
@@ -917,9 +956,8 @@ fn state(rules: &Rules, now: &Now) -> State {
         ..State::default()
     };
     for c in 0..rules.columns {
-        state
-            .flags
-            .push(u8::from(now.at_lower[c]) + 2 * u8::from(now.at_upper[c]));
+        let bounds = u8::from(now.at_lower[c]) + 2 * u8::from(now.at_upper[c]);
+        state.flags.push(bounds + 4 * u8::from(now.fixed[c]));
     }
     for eta in &now.etas {
         state.etarow.push(eta.row);

@@ -143,6 +143,22 @@ fn the_second_solver_agrees() {
     assert!(compared > 120_000);
 }
 
+/// So it does for every call after a run, over cells that were written between calls too.
+#[test]
+fn the_second_solver_agrees_on_calls() {
+    let mut compared = 0;
+    call_families::make(2, &mut |plan| {
+        let ours = gate::answers(&plan, Options::default());
+        let fresh = fresh::answers(&plan);
+        assert_eq!(
+            answer_lines(&plan.id, &ours, ALL),
+            answer_lines(&plan.id, &fresh, ALL)
+        );
+        compared += ours.len();
+    });
+    assert!(compared > 40_000);
+}
+
 /// Each kept plan shows its correction, and only that one's switch changes it as kept.
 #[test]
 fn differences_as_kept() {
