@@ -86,7 +86,7 @@ pub fn solve_transp(
 }
 
 // An array over the cells of `to` from `at` on.
-fn put_numbers(from: &[usize], at: usize, to: &mut [usize])
+pub fn put_numbers(from: &[usize], at: usize, to: &mut [usize])
     requires { ⌜ at + length (now from) ≤ length (now to) ⌝ }
     ensures { λ _. ⌜ now (to .exit) ≡ written at (now (from .entry)) (now (to .entry)) ⌝ }
 {
@@ -95,7 +95,7 @@ fn put_numbers(from: &[usize], at: usize, to: &mut [usize])
     }
 }
 
-fn put_coeffs(from: &[f64], at: usize, to: &mut [f64])
+pub fn put_coeffs(from: &[f64], at: usize, to: &mut [f64])
     requires { ⌜ at + length (now from) ≤ length (now to) ⌝ }
     ensures { λ _. ⌜ now (to .exit) ≡ written at (now (from .entry)) (now (to .entry)) ⌝ }
 {
@@ -128,7 +128,7 @@ fn put_matrix(
 }
 
 // A matrix's transpose at its places.
-fn put_transpose(
+pub fn put_transpose(
     m: usize,
     starts: &[usize; doubles::MAX_ROWS + 1],
     rows: &[usize; doubles::MAX_TRI_ENTRIES],
