@@ -1,4 +1,4 @@
--- What the stores of a fix leave. No contract cites this file. Assumes nothing.
+-- What the stores of a fix read and leave. No contract cites this file. Assumes nothing.
 use mathlib.Core.Path.{_≡_, sym, ap, _∙_}
 use mathlib.Core.List.{List, []}
 use Prim.Native.Nat.{ℕ, _+_, _<_}
@@ -30,10 +30,10 @@ module _ (N : List ℕ) (D : List Float) (col : ℕ) (inside : col < maxColumns)
   pub var-is : N # (nbVarsAt + col) ≡ packed N D .nbVars # col
   var-is = sym (section-at nbVarsAt maxColumns N col 0 inside)
 
-  val-is : D ! (nbVarValsAt + col) ≡ packed N D .nbVarVals ! col
+  pub val-is : D ! (nbVarValsAt + col) ≡ packed N D .nbVarVals ! col
   val-is = sym (section-at nbVarValsAt maxColumns D col nan inside)
 
-  price-is : D ! (pricesAt + col) ≡ packed N D .prices ! col
+  pub price-is : D ! (pricesAt + col) ≡ packed N D .prices ! col
   price-is = sym (section-at pricesAt maxColumns D col nan inside)
 
 module _ (N : List ℕ) (D : List Float) (F : List ℕ) (G : List Float) (t : Tally) (col : ℕ) (inside : col < maxColumns) where
