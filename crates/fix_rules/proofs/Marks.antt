@@ -53,6 +53,14 @@ module _ (P : Problem) (s : State) (c x : ℕ) where
   flags-sound : Sound P s → Sound P (withFlags s c x)
   flags-sound g = record { fits = flags-fits (g .fits); numbers = flags-numbers (g .numbers) }
 
+pub marked-fits : (P : Problem) (s : State) (c : ℕ) → Fits P s → Fits P (marked s c)
+unfolding marked
+marked-fits P s c f = flags-fits P s c _ f
+
+pub unmarked-fits : (P : Problem) (s : State) (c : ℕ) → Fits P s → Fits P (unmarked P s c)
+unfolding unmarked
+unmarked-fits P s c f = flags-fits P s c _ f
+
 pub marked-sound : (P : Problem) (s : State) (c : ℕ) → Sound P s → Sound P (marked s c)
 unfolding marked
 marked-sound P s c g = flags-sound P s c _ g

@@ -178,7 +178,7 @@ module _ (P : Problem) (p : ProblemFits P) where
         go true = h
         go false = after-step j row l (fixStep P s row value) refl
 
-    fixed-honest : (j : ℕ) → j < nOf P → finite value ≡ true → Ends (fixed P s j value)
+    pub fixed-honest : (j : ℕ) → j < nOf P → finite value ≡ true → Ends (fixed P s j value)
     unfolding fixed varStateOf
     fixed-honest j l v = go (ltb cell (nOf P)) refl
       where
@@ -195,7 +195,7 @@ module _ (P : Problem) (p : ProblemFits P) where
             let inside = h .sound .fits .maps .variable j (omega arith) .cell in
             basic j (cell - nOf P) (omega (arith, ltb-false cell (nOf P) e, inside))
 
-  unfixed-honest : (s : State) → Honest P s → (j : ℕ) → Ends (unfixed P s j)
+  pub unfixed-honest : (s : State) → Honest P s → (j : ℕ) → Ends (unfixed P s j)
   unfolding unfixed
   unfixed-honest s h j =
       let c = s .ws .varStates # j in
