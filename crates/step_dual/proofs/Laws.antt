@@ -15,10 +15,11 @@ use Rattle.rules.specs.Parts.{planOf, problem, rowed}
 use Rattle.rules.specs.Basis.{colCoeffs, invRow, rowCoeffsOf, tauOf, helperOf, combine, addRow, touchAt}
 use Rattle.rules.specs.Pivot.{flagsAt, numbersFinite, exchanged, refactored}
 use Rattle.rules.specs.DualRow.{chooseRow}
-use Rattle.rules.specs.DualRatio.{dualRatio}
-use Rattle.rules.specs.DualChoices.{DualGives, exchanges}
-use Rattle.rules.specs.Step.{Outcome, moved, stopped, orStop, exchange, bothNorms, dualPivot, dualStep}
+use Rattle.rules.specs.DualRatio.{leavingRises, eligible, testBy, dualRatioBy}
+use Rattle.rules.specs.DualChoices.{DualGivesBy, exchanges}
+use Rattle.rules.specs.Step.{Outcome, moved, stopped, orStop, exchange, bothNorms, dualPivot, dualStepBy, dualStep}
 use Rattle.rules.specs.Invariant.{ProblemFits, Fits, Vector}
+use Rattle.rules.specs.declared.NonBasicVarState.{NonBasicVarState}
 use Rattle.rules.specs.declared.Entering.{Entering}
 use Rattle.rules.specs.declared.LeavingVar.{LeavingVar}
 use Rattle.rules.specs.declared.RowChoice.the-variants.{Leaves}
@@ -28,7 +29,7 @@ use Rattle.rules.specs.declared.Stop.{Stop}
 use Rattle.rules.specs.declared.Stop.the-variants.{Infeasible, NotFinite as Stop·NotFinite}
 use Rattle.rules.proofs.Vectors.{row-vector}
 use Rattle.rules.proofs.DualLeaving.{leaves-below}
-use Rattle.rules.proofs.DualColumn.{dual-ratio-exactly}
+use Rattle.rules.proofs.DualColumn.{ratio-exactly}
 use Rattle.rules.proofs.Keeps.{dual-fits}
 use Rattle.rules.proofs.Steps.{dual-counts}
 use Rattle.basis_rows.proofs.Parts.{vector-listed}
@@ -70,8 +71,9 @@ module _ {n : ℕ} {lowers uppers : List Float} {starts cols : List ℕ} {coeffs
   ratio-asks l h r e = pricing (rd .problem-fits) (rd .state-fits) h (row-there (l .row) r e)
 
   -- the entering column is a column
-  gives-below : (l : LeavingVar) (r : Sv) → r ≡ rowCoeffsOf rowsIn s (l .row) → {e : Entering} {value diff pivot : Float}
-      → DualGives (s .ws) l r (Exchanging e value diff pivot) → e .col < n
+  gives-below : {test : NonBasicVarState → Float → Bool} {Says : NonBasicVarState → Float → Type 0} (l : LeavingVar) (r : Sv)
+      → r ≡ rowCoeffsOf rowsIn s (l .row) → {e : Entering} {value diff pivot : Float}
+      → DualGivesBy (s .ws) l r test Says (Exchanging e value diff pivot) → e .col < n
   gives-below l r q (exchanges sound k w) = row-there (l .row) r q .places-below .below k (w .inside)
 
   found-by : (l : LeavingVar) (y : Sv) (b : Bool) (x : DualRatio) {u : Sv} {e : Entering} {z : Exchange}
@@ -86,33 +88,41 @@ module _ {n : ℕ} {lowers uppers : List Float} {starts cols : List ℕ} {coeffs
       (cc, sym (ap (λ (z : Exchange). z .row) a), (value, diff, pivot, cc))
 
   -- what a column that was found tells
-  pub found-enters : (l : LeavingVar) (y : Sv) (e : Entering) (x : Exchange) → enters y e x ≡ found rowsIn s l
+  pub found-enters : (still : Bool) (l : LeavingVar) (y : Sv) (e : Entering) (x : Exchange) → enters y e x ≡ found still rowsIn s l
       → (y ≡ invRow rowsIn s (l .row)) × (x .row ≡ l .row) × (e .col < n)
   unfolding found
-  found-enters l y e x q =
+  found-enters still l y e x q =
       let r = rowCoeffsOf rowsIn s (l .row) in
-      let z = found-by l (invRow rowsIn s (l .row)) (listedFinite r) (dualRatio (s .ws) l r) q in
-      (z .0, z .1, gives-below l r refl (dual-ratio-exactly (s .ws) l r _ .0 (z .2 .3)))
+      let test = testBy still (leavingRises (s .ws) l) in
+      let z = found-by l (invRow rowsIn s (l .row)) (listedFinite r) (dualRatioBy test (s .ws) l r) q in
+      let g = ratio-exactly (s .ws) l r {test = test} {Says = λ f a. test f a ≡ true} (λ f a. (λ h. h, λ h. h)) _ .0 (z .2 .3) in
+      (z .0, z .1, gives-below l r refl g)
 
 -- ---- what is decided
-module _ (P : Problem) (s : State) (l : LeavingVar) (y r : Sv) (ey : y ≡ invRow P s (l .row)) (er : r ≡ rowCoeffsOf P s (l .row)) where
-  abbrev from : Sv → Sv → Found
-  from u v = elim (listedFinite v) [ true ↦ byDual l u (dualRatio (s .ws) l v) | false ↦ ends Stop·NotFinite ]
+module _ (still : Bool) (P : Problem) (s : State) (l : LeavingVar) (y r : Sv) (ey : y ≡ invRow P s (l .row)) (er : r ≡ rowCoeffsOf P s (l .row)) where
+  abbrev ratioOf : Sv → DualRatio
+  ratioOf v = dualRatioBy (testBy still (leavingRises (s .ws) l)) (s .ws) l v
 
-  is-from : from y r ≡ found P s l
+  abbrev from : Sv → Sv → Found
+  from u v = elim (listedFinite v) [ true ↦ byDual l u (ratioOf v) | false ↦ ends Stop·NotFinite ]
+
+  is-from : from y r ≡ found still P s l
   unfolding found
   is-from = ap (λ (u : Sv). from u r) ey ∙ ap (from (invRow P s (l .row))) er
 
-  pub found-bad : listedFinite r ≡ false → ends Stop·NotFinite ≡ found P s l
+  pub found-bad : listedFinite r ≡ false → ends Stop·NotFinite ≡ found still P s l
   found-bad f = let g : ends Stop·NotFinite ≡ from y r = rw (f, from) in g ∙ is-from
 
-  pub found-ratio : listedFinite r ≡ true → (x : DualRatio) → x ≡ dualRatio (s .ws) l r → byDual l y x ≡ found P s l
+  pub found-ratio : listedFinite r ≡ true → (x : DualRatio) → x ≡ ratioOf r → byDual l y x ≡ found still P s l
   found-ratio f x ex =
-      let h : byDual l y (dualRatio (s .ws) l r) ≡ from y r = rw (f, from) in
+      let h : byDual l y (ratioOf r) ≡ from y r = rw (f, from) in
       ap (byDual l y) ex ∙ h ∙ is-from
 
 -- ---- the ways a dual step ends
-module _ (Q : Problem) (s : State) (l : LeavingVar) where
+module _ (still : Bool) (Q : Problem) (s : State) (l : LeavingVar) where
+  abbrev taken : Outcome
+  taken = dualStepBy (testBy still (leavingRises (s .ws) l)) Q s l
+
   abbrev rowsOf : Problem
   rowsOf = rowed (nOf Q) (Q .plan .starts) (Q .plan .cols) (Q .plan .coeffs) (Q .kept)
 
@@ -133,24 +143,24 @@ module _ (Q : Problem) (s : State) (l : LeavingVar) where
   by-tests y true Nothing = refl
   by-tests y true (Exchanging e value diff coeff) = refl
 
-  is-found : dualStep Q s l ≡ byFound (found rowsOf s l)
-  unfolding dualStep found rowCoeffsOf combine addRow
-  is-found = let r = rowCoeffsOf Q s (l .row) in by-tests (invRow Q s (l .row)) (listedFinite r) (dualRatio (s .ws) l r)
+  is-found : taken ≡ byFound (found still rowsOf s l)
+  unfolding dualStepBy found rowCoeffsOf combine addRow
+  is-found = let r = rowCoeffsOf Q s (l .row) in by-tests (invRow Q s (l .row)) (listedFinite r) (dualRatioBy (testBy still (leavingRises (s .ws) l)) (s .ws) l r)
 
-  ended-by : (f : Found) → f ≡ found rowsOf s l → after s (byFound f) ≡ after s (dualStep Q s l)
+  ended-by : (f : Found) → f ≡ found still rowsOf s l → after s (byFound f) ≡ after s taken
   ended-by f q = sym (ap (after s) (is-found ∙ ap byFound (sym q)))
 
   -- what the code decided, with the vector as it left it
-  module _ (d : Decided) (v : List Float) (m : List Bool) (u : List ℕ) (q : foundBy d v m u ≡ found rowsOf s l) where
-    pub dual-stops : (w : Stop) → d ≡ Stops w → off w (s .ws) (s .factor .numbers) (s .factor .coeffs) ≡ after s (dualStep Q s l)
+  module _ (d : Decided) (v : List Float) (m : List Bool) (u : List ℕ) (q : foundBy d v m u ≡ found still rowsOf s l) where
+    pub dual-stops : (w : Stop) → d ≡ Stops w → off w (s .ws) (s .factor .numbers) (s .factor .coeffs) ≡ after s taken
     unfolding after
     dual-stops w f = ended-by (ends w) (rw f at q)
 
     module _ (k : ℕ) (e : Entering) (x : Exchange) (f : d ≡ Enters k e x) where
-      pub enters-found : enters (sv v m u k) e x ≡ found rowsOf s l
+      pub enters-found : enters (sv v m u k) e x ≡ found still rowsOf s l
       enters-found = rw f at q
 
-      pub dual-enters : (o : Left) → o ≡ after s (entered Q s e x) → o ≡ after s (dualStep Q s l)
+      pub dual-enters : (o : Left) → o ≡ after s (entered Q s e x) → o ≡ after s taken
       dual-enters o h = h ∙ ended-by (enters (sv v m u k) e x) enters-found
 
 -- the column solve
@@ -172,8 +182,8 @@ module _ (Q : Problem) (s : State) (e : Entering) (x : Exchange) (c : Sv) (ec : 
       let g : bothNorms Q s e (touchAt c (x .row)) (x .value) (x .diff) (x .row) (x .pivot) (x .leaving) ≡ by c = rw (f, by) in
       h ∙ ap (λ (j : Sv). after s (bothNorms Q s e j (x .value) (x .diff) (x .row) (x .pivot) (x .leaving))) ek ∙ ap (after s) (g ∙ is-by)
 
--- ---- what a run uses
-module _ (P : Problem) (s : State) (l : LeavingVar) where
+-- ---- what a run uses, and a fix
+module _ (test : NonBasicVarState → Float → Bool) (P : Problem) (s : State) (l : LeavingVar) where
   pivot-part : (e : Entering) (value diff coeff : Float) → dualPivot P s l e value diff coeff ≡ dualPivot (steppedOf P) s l e value diff coeff
   unfolding dualPivot bothNorms tauOf exchange numbersFinite exchanged refactored flagsAt varMin varMax colCoeffs rowCoeffsOf helperOf combine addRow column
   pivot-part e value diff coeff = refl
@@ -191,14 +201,14 @@ module _ (P : Problem) (s : State) (l : LeavingVar) where
   by-ratio (Exchanging e value diff coeff) = pivot-part e value diff coeff
 
   -- a dual step reads of the problem what it is lent
-  pub dual-step-part : dualStep P s l ≡ dualStep (steppedOf P) s l
-  unfolding dualStep rowCoeffsOf combine addRow
-  dual-step-part = let r = rowCoeffsOf P s (l .row) in ap (orStop (listedFinite r) Stop·NotFinite) (by-ratio (dualRatio (s .ws) l r))
+  pub dual-step-part : dualStepBy test P s l ≡ dualStepBy test (steppedOf P) s l
+  unfolding dualStepBy rowCoeffsOf combine addRow
+  dual-step-part = let r = rowCoeffsOf P s (l .row) in ap (orStop (listedFinite r) Stop·NotFinite) (by-ratio (dualRatioBy test (s .ws) l r))
 
 -- the state after a dual step fits, and one more step is counted
 pub dual-moved-fits : (P : Problem) → ProblemFits P → (s : State) → Fits P s → (l : LeavingVar) → chooseRow P (s .ws) ≡ Leaves l → (t : State)
     → on t ≡ after s (dualStep (steppedOf P) s l) → Fits P t × (t .steps ≡ suc (s .steps))
 dual-moved-fits P f s g l leaves t q =
     let m = moves-on s (dualStep (steppedOf P) s l) t q in
-    let o : dualStep P s l ≡ moved (m .0) t = dual-step-part P s l ∙ m .1 in
+    let o : dualStep P s l ≡ moved (m .0) t = dual-step-part (eligible (leavingRises (s .ws) l)) P s l ∙ m .1 in
     (dual-fits P f s g l (leaves-below P (s .ws) l leaves) (m .0) t o, dual-counts P s l (m .0) t o)

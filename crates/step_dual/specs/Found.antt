@@ -1,5 +1,5 @@
 -- "Row solve and row", the ratio on prices, 26: what is known of a dual step before its column is solved, and what comes then.
--- `rules` has the whole as `dualStep`; proofs/Laws.antt puts it together. Assumes nothing.
+-- `rules` has the whole as `dualStepBy`; proofs/Laws.antt puts it together. Assumes nothing.
 use mathlib.Core.Bool.{Bool, true, false}
 use mathlib.Core.List.{List}
 use Prim.Native.Nat.{ℕ}
@@ -8,7 +8,7 @@ use Rattle.doubles.specs.Lists.{_#_}
 use Rattle.sparse.specs.Scattered.{Sv, sv, listedFinite}
 use Rattle.rules.specs.Plan.{Problem, State}
 use Rattle.rules.specs.Basis.{colCoeffs, invRow, rowCoeffsOf, touchAt}
-use Rattle.rules.specs.DualRatio.{dualRatio}
+use Rattle.rules.specs.DualRatio.{leavingRises, testBy, dualRatioBy}
 use Rattle.rules.specs.Step.{Outcome, orStop, bothNorms}
 use Rattle.rules.specs.declared.Entering.{Entering}
 use Rattle.rules.specs.declared.LeavingVar.{LeavingVar}
@@ -31,10 +31,11 @@ byDual l y NotFinite = ends Stop·NotFinite
 byDual l y Nothing = ends (Infeasible (l .row))
 byDual l y (Exchanging e value diff pivot) = enters y e (exchangeOf value diff (l .row) pivot (l .value))
 
-unfoldable pub found : Problem → State → LeavingVar → Found
-found P s l =
+-- with the test of a leaving variable that stands still, or moves
+unfoldable pub found : Bool → Problem → State → LeavingVar → Found
+found still P s l =
     let r = rowCoeffsOf P s (l .row) in
-    elim (listedFinite r) [ true ↦ byDual l (invRow P s (l .row)) (dualRatio (s .ws) l r) | false ↦ ends Stop·NotFinite ]
+    elim (listedFinite r) [ true ↦ byDual l (invRow P s (l .row)) (dualRatioBy (testBy still (leavingRises (s .ws) l)) (s .ws) l r) | false ↦ ends Stop·NotFinite ]
 
 -- the code's answer, with the vector as it leaves it
 abbrev pub foundBy : Decided → List Float → List Bool → List ℕ → Found

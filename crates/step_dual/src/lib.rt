@@ -8,6 +8,7 @@ ghost use lib.ListN.{length};
 ghost use Rattle.sparse.specs.Scattered.{sv, Fresh};
 ghost use Rattle.rules.specs.Plan.{State};
 ghost use Rattle.rules.specs.Parts.{rowed};
+ghost use Rattle.rules.specs.DualRatio.{leavingRises, testBy};
 ghost use Rattle.rules.specs.Step as Step;
 ghost use Rattle.basis_columns.specs.Columns.{ByColumns};
 ghost use Rattle.state.specs.Packed.{stateIn};
@@ -44,11 +45,12 @@ fn decide(
     coeffs: &[f64],
     kept: &[usize],
     l: rules::LeavingVar,
+    still: bool,
 ) -> Decided
     requires { ⌜ Fresh (sv (now y) (now «y_marks») (now «y_list») 0) ⌝ }
     requires { ⌜ Solving n (now starts) (now cols) (now coeffs) (now kept) (now numbers) (now doubles)
         (now «factor_numbers») (now «factor_coeffs») at × (l .row < length (now kept)) ⌝ }
-    ensures { λ r. ⌜ foundBy r (now (y .exit)) (now («y_marks» .exit)) (now («y_list» .exit)) ≡ found
+    ensures { λ r. ⌜ foundBy r (now (y .exit)) (now («y_marks» .exit)) (now («y_list» .exit)) ≡ found still
         (rowed n (now (starts .entry)) (now (cols .entry)) (now (coeffs .entry)) (now (kept .entry)))
         (stateIn (now (numbers .entry)) (now (doubles .entry)) (now («factor_numbers» .entry))
         (now («factor_coeffs» .entry)) at) l ⌝ }
@@ -86,7 +88,7 @@ fn decide(
     if !sparse::listed_finite(&values, &list, count) {
         return Decided::Stops(rules::Stop::NotFinite);
     }
-    let ratio = step_dual_reads::dual_ratio(numbers, doubles, &values, &list, count, l);
+    let ratio = step_dual_reads::dual_ratio(numbers, doubles, &values, &list, count, l, still);
     match ratio {
         rules::DualRatio::NotFinite => {
             return Decided::Stops(rules::Stop::NotFinite);
@@ -208,7 +210,8 @@ fn enter(
     )
 }
 
-// A dual step that is decided is a stop or an exchange.
+// A dual step that is decided is a stop or an exchange. `still`: 02, Ask 9, the leaving variable is fixed where it
+// stands. A run's steps have false.
 pub fn dual_step(
     numbers: &mut [usize],
     doubles: &mut [f64],
@@ -227,6 +230,7 @@ pub fn dual_step(
     crows: &[usize],
     ccoeffs: &[f64],
     l: rules::LeavingVar,
+    still: bool,
 ) -> Went
     requires { ⌜ Ready n (now lowers) (now uppers) (now starts) (now cols) (now coeffs) (now ops) (now kept)
         (now numbers) (now doubles) (now «factor_numbers») (now «factor_coeffs») at ⌝ }
@@ -234,8 +238,9 @@ pub fn dual_step(
         (now ccoeffs) × (n < length (now cstarts)) × (l .row < length (now kept)) ⌝ }
     ensures { λ r. ⌜ leftBy r (now (numbers .exit)) (now (doubles .exit)) (now («factor_numbers» .exit))
         (now («factor_coeffs» .exit)) ≡ afterBy
-        (λ (s : State). Step.dualStep (stepped n (now (lowers .entry)) (now (uppers .entry)) (now (starts .entry))
-        (now (cols .entry)) (now (coeffs .entry)) (now (ops .entry)) (now (kept .entry))) s l)
+        (λ (s : State). Step.dualStepBy (testBy still (leavingRises (s .ws) l))
+        (stepped n (now (lowers .entry)) (now (uppers .entry)) (now (starts .entry)) (now (cols .entry))
+        (now (coeffs .entry)) (now (ops .entry)) (now (kept .entry))) s l)
         (stateIn (now (numbers .entry)) (now (doubles .entry)) (now («factor_numbers» .entry))
         (now («factor_coeffs» .entry)) at) ⌝ }
 {
@@ -257,6 +262,7 @@ pub fn dual_step(
         coeffs,
         kept,
         l,
+        still,
     );
     match decided {
         Decided::Stops(why) => {

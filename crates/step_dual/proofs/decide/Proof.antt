@@ -85,7 +85,7 @@ returns c =
     let b : tie.After-row = search in
     let a = solve-at b in
     let s = entry a in
-    found-bad (R s) (S s) (s .args .l) (ysv a) (rsv b) (solved a) (combined b) (sym (c .before .listed-finite .ensures _) ∙ not-true _ (c .if1 .taken))
+    found-bad (s .args .still) (R s) (S s) (s .args .l) (ysv a) (rsv b) (solved a) (combined b) (sym (c .before .listed-finite .ensures _) ∙ not-true _ (c .if1 .taken))
 
 dual-ratio-requires : tie.Need-dual-ratio-requires
 dual-ratio-requires c κs =
@@ -106,7 +106,7 @@ returns-2 c =
     let a = solve-at b in
     let s = entry a in
     let q : d .dual-ratio .result ≡ NotFinite = c .enum-told .given .1 in
-    found-ratio (R s) (S s) (s .args .l) (ysv a) (rsv b) (solved a) (combined b) (sym (x .before .listed-finite .ensures _) ∙ not-false _ (x .if1 .left)) NotFinite
+    found-ratio (s .args .still) (R s) (S s) (s .args .l) (ysv a) (rsv b) (solved a) (combined b) (sym (x .before .listed-finite .ensures _) ∙ not-false _ (x .if1 .left)) NotFinite
     (sym q ∙ d .dual-ratio .ensures _)
 
 enum-told-2 : tie.Need-enum-told-2
@@ -121,7 +121,7 @@ returns-3 c =
     let a = solve-at b in
     let s = entry a in
     let q : d .dual-ratio .result ≡ Nothing = c .enum-told2 .given .1 in
-    found-ratio (R s) (S s) (s .args .l) (ysv a) (rsv b) (solved a) (combined b) (sym (x .before .listed-finite .ensures _) ∙ not-false _ (x .if1 .left)) Nothing
+    found-ratio (s .args .still) (R s) (S s) (s .args .l) (ysv a) (rsv b) (solved a) (combined b) (sym (x .before .listed-finite .ensures _) ∙ not-false _ (x .if1 .left)) Nothing
     (sym q ∙ d .dual-ratio .ensures _)
 
 enum-known-ratio : tie.Need-enum-known-ratio
@@ -136,7 +136,7 @@ returns-4 c =
     let b = row-at x in
     let a = solve-at b in
     let s = entry a in
-    found-ratio (R s) (S s) (s .args .l) (ysv a) (rsv b) (solved a) (combined b) (sym (x .before .listed-finite .ensures _) ∙ not-false _ (x .if1 .left)) (Exchange _ _ _ _)
+    found-ratio (s .args .still) (R s) (S s) (s .args .l) (ysv a) (rsv b) (solved a) (combined b) (sym (x .before .listed-finite .ensures _) ∙ not-false _ (x .if1 .left)) (Exchange _ _ _ _)
     (sym (w .ratio .given .1) ∙ d .dual-ratio .ensures _)
 
 pub decide-spec : {M : Type 1} → statement M

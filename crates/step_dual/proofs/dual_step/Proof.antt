@@ -57,7 +57,7 @@ returns c =
     let d : tie.After-decide = search in
     let s = entry d in
     let w : tie.After-decided = search in
-    dual-stops (Q s) (S s) (s .args .l) (d .decide .result) (d .decide .last .0) (d .decide .last .1 .0) (d .decide .last .1 .1 .0) (d .decide .ensures) _ (w .decided .given .1)
+    dual-stops (s .args .still) (Q s) (S s) (s .args .l) (d .decide .result) (d .decide .last .0) (d .decide .last .1 .0) (d .decide .last .1 .1 .0) (d .decide .ensures) _ (w .decided .given .1)
 
 enum-known-decided-2 : tie.Need-enum-known-decided-2
 enum-known-decided-2 c = search needs
@@ -67,8 +67,8 @@ enter-requires c κs =
     let w : tie.After-decided2 = search in
     let d = decided-at w in
     let s = entry d in
-    let f = enters-found (Q s) (S s) (s .args .l) (d .decide .result) (d .decide .last .0) (d .decide .last .1 .0) (d .decide .last .1 .1 .0) (d .decide .ensures) _ _ _ (w .decided2 .given .1) in
-    let q = found-enters (s .pre .0) (s .args .l) _ _ _ f in (
+    let f = enters-found (s .args .still) (Q s) (S s) (s .args .l) (d .decide .result) (d .decide .last .0) (d .decide .last .1 .0) (d .decide .last .1 .1 .0) (d .decide .ensures) _ _ _ (w .decided2 .given .1) in
+    let q = found-enters (s .pre .0) (s .args .still) (s .args .l) _ _ _ f in (
       s .pre .0,
       (
         (s .pre .1 .0, s .pre .1 .1),
@@ -94,7 +94,7 @@ returns-2 c =
     let w = enter-at x in
     let d = decided-at w in
     let s = entry d in
-    dual-enters (Q s) (S s) (s .args .l) (d .decide .result) (d .decide .last .0) (d .decide .last .1 .0) (d .decide .last .1 .1 .0) (d .decide .ensures) _ _ _ (w .decided2 .given .1) _
+    dual-enters (s .args .still) (Q s) (S s) (s .args .l) (d .decide .result) (d .decide .last .0) (d .decide .last .1 .0) (d .decide .last .1 .1 .0) (d .decide .ensures) _ _ _ (w .decided2 .given .1) _
     (x .enter .ensures)
 
 pub dual-step-spec : {M : Type 1} → statement M
