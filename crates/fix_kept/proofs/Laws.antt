@@ -1,6 +1,6 @@
 -- The parts of 41's test as the code puts them together. Assumes nothing.
 use mathlib.Core.Path.{_≡_, refl, sym, ap, _∙_}
-use mathlib.Core.Bool.{Bool, true, false, _&&_}
+use mathlib.Core.Bool.{true, false, _&&_}
 use Prim.Native.Nat.{ℕ, _≤_}
 use native.Mathlib.Omega.{arith}
 use lib.Dec.{leb, eqb}
@@ -17,7 +17,8 @@ use Rattle.fix_rules.specs.Kept.{statusKept, storeFine, passes41}
 use Rattle.fix_kept.specs.Rest.{numbersFine, restFine}
 
 -- a store that passes has room for its entries
-pub entries-fit : (rows : ℕ) (h : Etas) (count entries : ℕ) → storeFine rows h count entries ≡ true → entries ≤ etaEntries
+pub entries-fit : (rows : ℕ) (h : Etas) (count entries : ℕ) → storeFine rows h count entries ≡ true
+    → entries ≤ etaEntries
 unfolding storeFine
 entries-fit rows h count entries o =
     let a = both-true (leb count etaColumns) _ o in

@@ -8,7 +8,8 @@ use lib.Ieee.{Float}
 use Rattle.doubles.specs.Num.{finite}
 use Rattle.doubles.specs.Lists.{_!_}
 use Rattle.rules.specs.Plan.{Memory, Workspace}
-use Rattle.fix_rules.specs.Kept.{etasKept, entriesKept, factorCell, ofFactor, flagsFine, storeFine, factorFine, workspaceFinite, factorFinite}
+use Rattle.fix_rules.specs.Kept.{etasKept, entriesKept, factorCell, ofFactor, flagsFine, storeFine, factorFine}
+use Rattle.fix_rules.specs.Kept.{workspaceFinite, factorFinite}
 
 -- the numbers in use are finite: so many eta entries, the factor cell, and the objective x
 unfoldable pub numbersFine : ℕ → ℕ → ℕ → ℕ → Workspace → List ℕ → List Float → Float → Bool
@@ -21,4 +22,5 @@ restFine n rows m =
     && (storeFine rows (m .ws .etas) (etasKept m) (entriesKept m)
     && (ofFactor m (factorFine rows (m .factorNumbers) (m .factorCoeffs))
     && (leb (factorCell m) 1
-    && numbersFine n rows (entriesKept m) (factorCell m) (m .ws) (m .factorNumbers) (m .factorCoeffs) (m .objective ! 0))))
+    && numbersFine n rows (entriesKept m) (factorCell m) (m .ws) (m .factorNumbers) (m .factorCoeffs)
+    (m .objective ! 0))))

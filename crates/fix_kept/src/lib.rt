@@ -41,7 +41,14 @@ fn flags_fine(n: usize, flags: &[usize]) -> bool
 }
 
 // Whether the eta store of m rows, with so many columns and entries, keeps to its limits.
-fn store_fine(m: usize, count: usize, entries: usize, leaving: &[usize], starts: &[usize], rows: &[usize]) -> bool
+fn store_fine(
+    m: usize,
+    count: usize,
+    entries: usize,
+    leaving: &[usize],
+    starts: &[usize],
+    rows: &[usize],
+) -> bool
     requires { ⌜ (etaColumns ≤ length (now leaving)) × (etaColumns < length (now starts)) ×
         (etaEntries ≤ length (now rows)) ⌝ }
     ensures { λ r. ⌜ r ≡ storeFine m (etasOf (now (leaving .entry)) (now (starts .entry)) (now (rows .entry)) []) count
@@ -67,7 +74,10 @@ fn workspace_finite(n: usize, m: usize, entries: usize, doubles: &[f64]) -> bool
     requires { ⌜ (n ≤ maxColumns) × (m ≤ maxRows) × (entries ≤ etaEntries) × (doublesEnd ≤ length (now doubles)) ⌝ }
     ensures { λ r. ⌜ r ≡ workspaceFinite n m entries (packed [] (now (doubles .entry))) ⌝ }
 {
-    if !lu_gate::all_finite(&doubles[state::BASIC_VAR_VALS..state::BASIC_VAR_VALS_END], m) {
+    if !lu_gate::all_finite(
+        &doubles[state::BASIC_VAR_VALS..state::BASIC_VAR_VALS_END],
+        m,
+    ) {
         return false;
     }
     if !lu_gate::all_finite(&doubles[state::NB_VAR_VALS..state::NB_VAR_VALS_END], n) {
@@ -174,5 +184,12 @@ pub fn passes_41(
     if !state_maps::maps_fine(columns, rows, starts, numbers) {
         return false;
     }
-    rest_fine(columns, counts[0], numbers, doubles, factor_numbers, factor_coeffs)
+    rest_fine(
+        columns,
+        counts[0],
+        numbers,
+        doubles,
+        factor_numbers,
+        factor_coeffs,
+    )
 }

@@ -1,8 +1,8 @@
--- A factor whose own parts stand where they belong: with its transposes written behind them the two lists hold it whole.
--- Assumes nothing.
+-- A factor whose own parts stand where they belong: with its transposes written behind them the two lists hold it
+-- whole. Assumes nothing.
 use mathlib.Core.Path.{_≡_, refl, sym, ap, _∙_}
 use mathlib.Core.Bool.{true, false}
-use mathlib.Core.List.{List, [], _++_, append-assoc, append-nil}
+use mathlib.Core.List.{List, _++_, append-assoc, append-nil}
 use Prim.Native.Nat.{ℕ, _+_, _-_, _≤_}
 use native.Mathlib.Omega.{arith}
 use lib.ListN.{length, take, drop, length-append, length-drop, take-append-drop, drop-of-length-le}
@@ -10,12 +10,12 @@ use lib.Seq.{length-take-le, drop-at, drop-drop}
 use lib.Ieee.{Float}
 use Rattle.doubles.specs.Limits.{maxRows, maxTriEntries}
 use Rattle.doubles.specs.Lists.{part}
-use Rattle.lu_factor_rules.specs.Factor.{Factor, Matrix, matrix}
+use Rattle.lu_factor_rules.specs.Factor.{Factor, Matrix}
 use Rattle.lu_factor_rules.specs.Transpose.{transpose}
 use Rattle.lu_factor_rules.specs.Packed.{factorNumbers, factorCoeffs, orderEnd, numberEnd, lowerStartsEnd}
 use Rattle.lu_factor_rules.specs.Packed.{lowerRowsEnd, upperStartsEnd, upperRowsEnd, lowerTStartsEnd, lowerTRowsEnd}
 use Rattle.lu_factor_rules.specs.Packed.{upperTStartsEnd, lowerCoeffsEnd, upperCoeffsEnd, lowerTCoeffsEnd}
-use Rattle.lu_factor_rules.specs.Packed.{upperTCoeffsEnd, diagEnd, diagIn, packedNumbers, packedCoeffs}
+use Rattle.lu_factor_rules.specs.Packed.{upperTCoeffsEnd, diagEnd}
 use Rattle.lu_factor_rules.proofs.Packed.{transpose-filled}
 use Rattle.lu_transpose.specs.Read.{Read}
 use Rattle.lu_transpose.proofs.Columns.{readable}
@@ -51,7 +51,9 @@ module _ {A : Type 0} where
     front = length-append (take a l) xs ∙ omega (arith, h, length-take-le a l (omega (arith, h, g)))
 
     written-long : length (written a xs l) ≡ length l
-    written-long = length-append (take a l ++ xs) (drop (a + length xs) l) ∙ omega (arith, front, h, g, length-drop (a + length xs) l)
+    written-long =
+        length-append (take a l ++ xs) (drop (a + length xs) l)
+        ∙ omega (arith, front, h, g, length-drop (a + length xs) l)
 
     behind : (n : ℕ) → drop (b + n) (written a xs l) ≡ drop (b + n) l
     behind n =
@@ -59,7 +61,8 @@ module _ {A : Type 0} where
         = drop-at (take a l ++ xs) (drop (a + length xs) l) b front ∙ ap (λ (k : ℕ). drop k l) h in
         sym (drop-drop n b (written a xs l)) ∙ ap (drop n) here ∙ drop-drop n b l
 
-module _ (m : ℕ) (N : List ℕ) (D : List Float) (small : m ≤ maxRows) (ns : factorNumbers ≤ length N) (ds : factorCoeffs ≤ length D) where
+module _ (m : ℕ) (N : List ℕ) (D : List Float) (small : m ≤ maxRows) (ns : factorNumbers ≤ length N)
+    (ds : factorCoeffs ≤ length D) where
   abbrev f : Factor
   f = factorIn m N D
 
@@ -72,10 +75,14 @@ module _ (m : ℕ) (N : List ℕ) (D : List Float) (small : m ≤ maxRows) (ns :
   -- L and U can be read
   module _ (o : factorFine m N D ≡ true) where
     pub lower-read : Read m (f .lower)
-    lower-read = let l = lower-told m N D small ns ds o in readable true m (f .lower) (l .columns) (l .first) (l .most) (l .vals)
+    lower-read =
+        let l = lower-told m N D small ns ds o in
+        readable true m (f .lower) (l .columns) (l .first) (l .most) (l .vals)
 
     pub upper-read : Read m (f .upper)
-    upper-read = let u = upper-told m N D small ns ds o in readable false m (f .upper) (u .columns) (u .first) (u .most) (u .vals)
+    upper-read =
+        let u = upper-told m N D small ns ds o in
+        readable false m (f .upper) (u .columns) (u .first) (u .most) (u .vals)
 
   -- the diagonal stands behind the transposes
   abbrev one : List Float
@@ -94,7 +101,8 @@ module _ (m : ℕ) (N : List ℕ) (D : List Float) (small : m ≤ maxRows) (ns :
   one-long = written-long upperCoeffsEnd lowerTCoeffsEnd (lt .vals) D lt-ends (omega (arith, ds))
 
   two-long : length two ≡ length D
-  two-long = written-long lowerTCoeffsEnd upperTCoeffsEnd (ut .vals) one ut-ends (omega (arith, ds, one-long)) ∙ one-long
+  two-long =
+      written-long lowerTCoeffsEnd upperTCoeffsEnd (ut .vals) one ut-ends (omega (arith, ds, one-long)) ∙ one-long
 
   tail : drop upperTCoeffsEnd two ≡ drop upperTCoeffsEnd D
   tail =
@@ -118,7 +126,8 @@ module _ (m : ℕ) (N : List ℕ) (D : List Float) (small : m ≤ maxRows) (ns :
       (itself lowerRowsEnd upperStartsEnd N (omega arith) (omega (arith, ns)))
       (itself upperStartsEnd upperRowsEnd N (omega arith) (omega (arith, ns)))
       (itself lowerCoeffsEnd upperCoeffsEnd D (omega arith) (omega (arith, ds))) in
-      let z : b .coeffs ≡ two = ap (λ (x : Lent). x .coeffs) (g ∙ ap (matrixWritten lowerTRowsEnd upperTStartsEnd lowerTCoeffsEnd ut) e) in
+      let both = g ∙ ap (matrixWritten lowerTRowsEnd upperTStartsEnd lowerTCoeffsEnd ut) e in
+      let z : b .coeffs ≡ two = ap (λ (x : Lent). x .coeffs) both in
       let s = stored f (exact m N D small ns ds) N D
       (itself 0 orderEnd N (omega arith) (omega (arith, ns)))
       (itself orderEnd numberEnd N (omega arith) (omega (arith, ns)))

@@ -11,7 +11,14 @@ ghost use Rattle.rules.specs.Parts.{factoredOf};
 ghost use Rattle.fix_rules.specs.Kept.{factorFine, keptBy};
 
 // The three arrays of a matrix, copied.
-fn copy_matrix(s: &[usize], r: &[usize], v: &[f64], starts: &mut [usize], rows: &mut [usize], vals: &mut [f64])
+fn copy_matrix(
+    s: &[usize],
+    r: &[usize],
+    v: &[f64],
+    starts: &mut [usize],
+    rows: &mut [usize],
+    vals: &mut [f64],
+)
     requires { ⌜ (length (now s) ≡ length (now starts)) × (length (now r) ≡ length (now rows)) ×
         (length (now v) ≡ length (now vals)) ⌝ }
     ensures { λ _. ⌜ matrix (now (starts .exit)) (now (rows .exit)) (now (vals .exit))
@@ -77,7 +84,12 @@ fn renew(m: usize, factor_numbers: &mut [usize], factor_coeffs: &mut [f64])
 }
 
 // Where there is a factor; else nothing changes.
-pub fn kept_factor(factored: bool, m: usize, factor_numbers: &mut [usize], factor_coeffs: &mut [f64])
+pub fn kept_factor(
+    factored: bool,
+    m: usize,
+    factor_numbers: &mut [usize],
+    factor_coeffs: &mut [f64],
+)
     requires { ⌜ (m ≤ maxRows) × (factorNumbers ≤ length (now «factor_numbers»)) ×
         (factorCoeffs ≤ length (now «factor_coeffs»)) ×
         (not factored || factorFine m (now «factor_numbers») (now «factor_coeffs») ≡ true) ⌝ }

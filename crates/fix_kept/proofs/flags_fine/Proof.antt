@@ -32,8 +32,10 @@ known-flags-requires c κs = tt
 
 returns : tie.Need-returns Inv-loop μ-loop
 unfolding flagsFine
-returns c = let t : tie.In-loop Inv-loop μ-loop = search in
-    sym (all-fails _ _ (t .before .loop .c) (t .loop-test .taken) (sym (c .before .known-flags .ensures) ∙ not-true _ (c .if1 .taken)))
+returns c =
+    let t : tie.In-loop Inv-loop μ-loop = search in
+    let e = sym (c .before .known-flags .ensures) ∙ not-true _ (c .if1 .taken) in
+    sym (all-fails _ _ (t .before .loop .c) (t .loop-test .taken) e)
 
 add-c : tie.Need-add-c Inv-loop μ-loop
 add-c c = omega arith
@@ -43,10 +45,9 @@ loop-less c = omega arith
 
 loop-again : tie.Need-loop-again Inv-loop μ-loop
 loop-again c =
-    let t : tie.In-loop Inv-loop μ-loop = search in (
-      omega (arith, t .loop-test .taken),
-      all-next _ (t .before .loop .c) (t .before .loop .inv .1) (sym (c .before .known-flags .ensures) ∙ not-false _ (c .if1 .left)),
-    )
+    let t : tie.In-loop Inv-loop μ-loop = search in
+    let e = sym (c .before .known-flags .ensures) ∙ not-false _ (c .if1 .left) in
+    (omega (arith, t .loop-test .taken), all-next _ (t .before .loop .c) (t .before .loop .inv .1) e)
 
 returns-2 : tie.Need-returns-2 Inv-loop μ-loop
 unfolding flagsFine

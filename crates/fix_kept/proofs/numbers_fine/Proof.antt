@@ -32,7 +32,9 @@ kept-finite-requires c κs = search needs
 
 returns-2 : tie.Need-returns-2
 unfolding numbersFine
-returns-2 c = let e1 : tie.Else1 = search in rw (of-workspace e1, sym (c .before .kept-finite .ensures) ∙ not-true _ (c .if2 .taken))
+returns-2 c =
+    let e1 : tie.Else1 = search in
+    rw (of-workspace e1, sym (c .before .kept-finite .ensures) ∙ not-true _ (c .if2 .taken))
 
 shared-slice-read-is-finite : tie.Need-shared-slice-read-is-finite
 shared-slice-read-is-finite c = search needs

@@ -20,7 +20,9 @@ abbrev p : tie.Start → Plan
 p s = planOf (s .args .columns) (s .args .rows) 0 0 f0 [] [] [] (s .args .starts .now) [] [] [] []
 
 abbrev m : tie.Start → Memory
-m s = memoryIn [] (s .args .numbers .now) (s .args .doubles .now) (s .args .factor-numbers .now) (s .args .factor-coeffs .now)
+m s =
+    let g = s .args in
+    memoryIn [] (g .numbers .now) (g .doubles .now) (g .factor-numbers .now) (g .factor-coeffs .now)
 
 -- what the tests say
 optimal : (e : tie.Else1) → let s : tie.Start = search in eqb (statusKept (m s)) 0 ≡ true

@@ -1,27 +1,29 @@
 -- `fix_kept::rest_fine` meets its contract: flags, store, factor, numbers. Assumes nothing.
-use mathlib.Core.Path.{_≡_, sym, ap, _∙_}
+use mathlib.Core.Path.{_≡_, sym, _∙_}
 use mathlib.Core.Bool.{true}
 use mathlib.Core.List.{[]}
 use Prim.Native.Nat.{_+_}
 use native.Mathlib.Omega.{arith}
-use lib.Ieee.{Float, nan}
+use lib.Ieee.{nan}
 use borrow.Author.Needs.{needs}
 use borrow.Author.Tests.{le-leb, lt-leb, not-true, not-false}
 use Rattle.doubles.specs.Limits.{etaColumns, etaEntries}
 use Rattle.doubles.specs.Lists.{_!_}
-use Rattle.lu_factor_rules.specs.Packed.{factorNumbers, factorCoeffs}
 use Rattle.rules.specs.Plan.{Memory}
 use Rattle.state.specs.Packed.{etaLeavingAt, etaStartsAt, etaRowsAt, objectiveAt}
 use Rattle.state.specs.Memory.{memoryIn}
 use Rattle.state.proofs.Sections.{section-at, section-length}
-use Rattle.fix_rules.specs.Kept.{etasKept, entriesKept, factorCell, ofFactor, flagsFine, storeFine, factorFine, workspaceFinite}
+use Rattle.fix_rules.specs.Kept.{etasKept, entriesKept, factorCell, ofFactor, flagsFine, storeFine, factorFine}
+use Rattle.fix_rules.specs.Kept.{workspaceFinite}
 use Rattle.fix_kept.specs.Rest.{numbersFine, restFine}
 use Rattle.fix_kept.proofs.Laws.{entries-fit}
 use Rattle.fix_kept.proofs.rest_fine.Statement.{statement}
 use Rattle.fix_kept.proofs.rest_fine.Tie as tie
 
 abbrev M : tie.Start → Memory
-M s = memoryIn [] (s .args .numbers .now) (s .args .doubles .now) (s .args .factor-numbers .now) (s .args .factor-coeffs .now)
+M s =
+    let g = s .args in
+    memoryIn [] (g .numbers .now) (g .doubles .now) (g .factor-numbers .now) (g .factor-coeffs .now)
 
 -- what the tests say
 of-flags : (e : tie.Else1) → let s : tie.Start = search in flagsFine (s .args .n) (M s .ws .flags) ≡ true
@@ -146,8 +148,7 @@ numbers-fine-requires c κs =
     let e2 : tie.Else2 = search in
     let e3 : tie.Else3 = search in
     let q = s .pre in
-    let m = M s in
-    (
+    let m = M s in (
       (q .0, q .1, entries-fit (s .args .m) (m .ws .etas) (etasKept m) (entriesKept m) (of-store e2), q .3),
       (q .4, q .5, of-factor e3),
     )

@@ -16,7 +16,8 @@ use Rattle.fix_kept.proofs.store_fine.Tie as tie
 few : (e : tie.Else1) → let s : tie.Start = search in leb (s .args .count) etaColumns ≡ true
 few e = le-leb _ _ (e .if1 .left)
 
-started : (e : tie.Else2) → let s : tie.Start = search in okStarts (s .args .count) (s .args .entries) (s .args .starts .now) ≡ true
+started : (e : tie.Else2) → let s : tie.Start = search in
+    okStarts (s .args .count) (s .args .entries) (s .args .starts .now) ≡ true
 started e = sym (e .before .starts-ok .ensures) ∙ not-false _ (e .if2 .left)
 
 fits : (e : tie.Else3) → let s : tie.Start = search in leb (s .args .entries) etaEntries ≡ true
@@ -35,7 +36,9 @@ starts-ok-requires c κs = search needs
 
 returns-2 : tie.Need-returns-2
 unfolding storeFine
-returns-2 c = let e1 : tie.Else1 = search in rw (few e1, sym (c .before .starts-ok .ensures) ∙ not-true _ (c .if2 .taken))
+returns-2 c =
+    let e1 : tie.Else1 = search in
+    rw (few e1, sym (c .before .starts-ok .ensures) ∙ not-true _ (c .if2 .taken))
 
 returns-3 : tie.Need-returns-3
 unfolding storeFine

@@ -1,6 +1,6 @@
 -- `fix_kept_factor::diagonal_fine` meets its contract: no number before i is under EPS. Assumes nothing.
 use mathlib.Core.Path.{_≡_, refl, sym, ap, _∙_}
-use mathlib.Core.Bool.{Bool, true, not}
+use mathlib.Core.Bool.{true, not}
 use Prim.Native.Nat.{_-_, _≤_}
 use native.Mathlib.Omega.{arith}
 use lib.Ieee.{lt}
@@ -33,8 +33,10 @@ under-eps-requires c κs = tt
 
 returns : tie.Need-returns Inv-loop μ-loop
 unfolding diagonalFine
-returns c = let t : tie.In-loop Inv-loop μ-loop = search in
-    sym (all-fails _ _ (t .before .loop .i) (t .loop-test .taken) (ap not (sym (c .before .under-eps .ensures) ∙ c .if1 .taken)))
+returns c =
+    let t : tie.In-loop Inv-loop μ-loop = search in
+    let e = sym (c .before .under-eps .ensures) ∙ c .if1 .taken in
+    sym (all-fails _ _ (t .before .loop .i) (t .loop-test .taken) (ap not e))
 
 add-i : tie.Need-add-i Inv-loop μ-loop
 add-i c = omega arith
@@ -43,8 +45,10 @@ loop-less : tie.Need-loop-less Inv-loop μ-loop
 loop-less c = omega arith
 
 loop-again : tie.Need-loop-again Inv-loop μ-loop
-loop-again c = let t : tie.In-loop Inv-loop μ-loop = search in
-    (omega (arith, t .loop-test .taken), all-next _ (t .before .loop .i) (t .before .loop .inv .1) (ap not (sym (c .before .under-eps .ensures) ∙ c .if1 .left)))
+loop-again c =
+    let t : tie.In-loop Inv-loop μ-loop = search in
+    let e = sym (c .before .under-eps .ensures) ∙ c .if1 .left in
+    (omega (arith, t .loop-test .taken), all-next _ (t .before .loop .i) (t .before .loop .inv .1) (ap not e))
 
 returns-2 : tie.Need-returns-2 Inv-loop μ-loop
 unfolding diagonalFine

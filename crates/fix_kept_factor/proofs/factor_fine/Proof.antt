@@ -1,13 +1,11 @@
 -- `fix_kept_factor::factor_fine` meets its contract: order, L, U, diagonal. Assumes nothing.
 use mathlib.Core.Path.{_≡_, sym, _∙_}
 use mathlib.Core.Bool.{true, false}
-use mathlib.Core.List.{List}
-use Prim.Native.Nat.{ℕ}
 use native.Mathlib.Omega.{arith}
-use lib.Ieee.{Float}
 use borrow.Author.Needs.{needs}
 use borrow.Author.Tests.{not-true, not-false}
-use Rattle.lu_factor_rules.specs.Packed.{lowerRowsEnd, upperStartsEnd, upperRowsEnd, upperTCoeffsEnd, diagEnd, lowerIn, upperIn}
+use Rattle.lu_factor_rules.specs.Packed.{lowerRowsEnd, upperStartsEnd, upperRowsEnd, upperTCoeffsEnd, diagEnd, lowerIn}
+use Rattle.lu_factor_rules.specs.Packed.{upperIn}
 use Rattle.rules.proofs.Lists.{part-long}
 use Rattle.fix_rules.specs.Kept.{triangleFine, factorFine}
 use Rattle.fix_kept_factor.proofs.factor_fine.Statement.{statement}
@@ -74,7 +72,10 @@ returns-2 : tie.Need-returns-2
 unfolding factorFine
 returns-2 c =
     let a : tie.Else1 = search in
-    rw (sym (a .before .order-fine .ensures) ∙ not-false _ (a .if1 .left), sym (lower-told (c .before)) ∙ not-true _ (c .if2 .taken))
+    rw (
+      sym (a .before .order-fine .ensures) ∙ not-false _ (a .if1 .left),
+      sym (lower-told (c .before)) ∙ not-true _ (c .if2 .taken),
+    )
 
 sub-triangle-fine-3 : tie.Need-sub-triangle-fine-3
 sub-triangle-fine-3 c = search needs

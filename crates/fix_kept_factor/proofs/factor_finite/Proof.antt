@@ -1,6 +1,5 @@
 -- `fix_kept_factor::factor_finite` meets its contract: L, U, diagonal. Assumes nothing.
 use mathlib.Core.Path.{_≡_, sym, _∙_}
-use mathlib.Core.Bool.{true, false}
 use Prim.Native.Nat.{_+_}
 use native.Mathlib.Omega.{arith}
 use borrow.Author.Needs.{needs}
@@ -8,7 +7,8 @@ use borrow.Author.Tests.{not-true, not-false}
 use Rattle.doubles.specs.Loop.{all}
 use Rattle.doubles.specs.Lists.{_#_}
 use Rattle.lu_gate.specs.Gate.{finiteAt}
-use Rattle.lu_factor_rules.specs.Packed.{numberEnd, lowerStartsEnd, lowerRowsEnd, upperStartsEnd, lowerCoeffsEnd, upperCoeffsEnd, upperTCoeffsEnd, diagEnd, lowerIn, upperIn}
+use Rattle.lu_factor_rules.specs.Packed.{numberEnd, lowerStartsEnd, lowerRowsEnd, upperStartsEnd, lowerCoeffsEnd}
+use Rattle.lu_factor_rules.specs.Packed.{upperCoeffsEnd, upperTCoeffsEnd, diagEnd, lowerIn, upperIn}
 use Rattle.rules.proofs.Lists.{part-long, part-at}
 use Rattle.fix_rules.specs.Kept.{factorFinite}
 use Rattle.fix_rules.proofs.Kept.{lower-told, upper-told}
@@ -26,11 +26,13 @@ upper-last s = part-at lowerRowsEnd upperStartsEnd (s .args .numbers .now) (s .a
 
 -- what the tests say
 lower-finite : (a : tie.After-all-finite) → let s : tie.Start = search in let g = s .args in
-    let l = lowerIn (g .numbers .now) (g .coeffs .now) in a .all-finite .result ≡ all (l .starts # g .m) (finiteAt (l .vals))
+    let l = lowerIn (g .numbers .now) (g .coeffs .now) in
+    a .all-finite .result ≡ all (l .starts # g .m) (finiteAt (l .vals))
 lower-finite a = let s : tie.Start = search in rw (lower-last s) (a .all-finite .ensures)
 
 upper-finite : (a : tie.After-all-finite2) → let s : tie.Start = search in let g = s .args in
-    let u = upperIn (g .numbers .now) (g .coeffs .now) in a .all-finite2 .result ≡ all (u .starts # g .m) (finiteAt (u .vals))
+    let u = upperIn (g .numbers .now) (g .coeffs .now) in
+    a .all-finite2 .result ≡ all (u .starts # g .m) (finiteAt (u .vals))
 upper-finite a = let s : tie.Start = search in rw (upper-last s) (a .all-finite2 .ensures)
 
 add-lower : tie.Need-add-lower
@@ -93,7 +95,10 @@ returns-2 : tie.Need-returns-2
 unfolding factorFinite
 returns-2 c =
     let a : tie.Else1 = search in
-    rw (sym (lower-finite (a .before)) ∙ not-false _ (a .if1 .left), sym (upper-finite (c .before)) ∙ not-true _ (c .if2 .taken))
+    rw (
+      sym (lower-finite (a .before)) ∙ not-false _ (a .if1 .left),
+      sym (upper-finite (c .before)) ∙ not-true _ (c .if2 .taken),
+    )
 
 sub-all-finite-3 : tie.Need-sub-all-finite-3
 sub-all-finite-3 c = search needs
@@ -114,8 +119,10 @@ unfolding factorFinite
 returns-3 c =
     let a : tie.Else1 = search in
     let b : tie.Else2 = search in
-    rw (sym (lower-finite (a .before)) ∙ not-false _ (a .if1 .left), sym (upper-finite (b .before)) ∙ not-false _ (b .if2 .left))
-    (c .all-finite3 .ensures)
+    rw (
+      sym (lower-finite (a .before)) ∙ not-false _ (a .if1 .left),
+      sym (upper-finite (b .before)) ∙ not-false _ (b .if2 .left),
+    ) (c .all-finite3 .ensures)
 
 pub factor-finite-spec : {M : Type 1} → statement M
 factor-finite-spec =

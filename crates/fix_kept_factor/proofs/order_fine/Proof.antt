@@ -1,6 +1,5 @@
 -- `fix_kept_factor::order_fine` meets its contract: pivot rows, then pivot numbers. Assumes nothing.
 use mathlib.Core.Path.{_≡_, sym, _∙_}
-use mathlib.Core.Bool.{true, false}
 use borrow.Author.Needs.{needs}
 use borrow.Author.Tests.{not-true, not-false}
 use Rattle.doubles.specs.Loop.{all}

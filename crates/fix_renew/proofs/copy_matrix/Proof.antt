@@ -1,5 +1,4 @@
 -- `fix_renew::copy_matrix` meets its contract: array by array. Assumes nothing.
-use mathlib.Core.Path.{_≡_}
 use borrow.Author.Needs.{needs}
 use Rattle.fix_renew.proofs.Laws.{copied}
 use Rattle.fix_renew.proofs.copy_matrix.Statement.{statement}

@@ -1,5 +1,4 @@
 -- `fix_renew::kept_factor` meets its contract: by whether there is a factor. Assumes nothing.
-use mathlib.Core.Path.{_≡_, sym, _∙_}
 use borrow.Author.Needs.{needs}
 use Rattle.fix_renew.proofs.kept_factor.Statement.{statement}
 use Rattle.fix_renew.proofs.kept_factor.Tie as tie

@@ -8,7 +8,8 @@ use lib.Ieee.{Float}
 use borrow.Author.Needs.{needs}
 use Rattle.lu_factor_rules.specs.Factor.{Matrix}
 use Rattle.lu_factor_rules.specs.Transpose.{transpose}
-use Rattle.lu_factor_rules.specs.Packed.{lowerRowsEnd, upperStartsEnd, upperRowsEnd, lowerTStartsEnd, lowerTRowsEnd, upperTStartsEnd}
+use Rattle.lu_factor_rules.specs.Packed.{lowerRowsEnd, upperStartsEnd, upperRowsEnd, lowerTStartsEnd, lowerTRowsEnd}
+use Rattle.lu_factor_rules.specs.Packed.{upperTStartsEnd}
 use Rattle.lu_factor_rules.specs.Packed.{lowerCoeffsEnd, upperCoeffsEnd, lowerTCoeffsEnd}
 use Rattle.lu_transpose.specs.Read.{Read}
 use Rattle.lu_packed.specs.Written.{lent, matrixWritten}
