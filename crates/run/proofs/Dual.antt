@@ -8,6 +8,7 @@ use lib.Ieee.{Float}
 use Rattle.doubles.specs.Loop.{until, done, more}
 use Rattle.rules.specs.Plan.{Problem, State}
 use Rattle.rules.specs.DualRow.{chooseRow}
+use Rattle.rules.specs.DualRatio.{leavingRises, eligible}
 use Rattle.rules.specs.Step.{Outcome, dualStep, moved, stopped, Ended, ended, dualNext, dualAtBudget, dualRunOf}
 use Rattle.rules.specs.Invariant.{ProblemFits, Fits}
 use Rattle.rules.specs.declared.LeavingVar.{LeavingVar}
@@ -41,7 +42,7 @@ module _ (P : Problem) where
       until
       (λ t. elim (row-same t i) [
         | Nothing ↦ done (ended Finished t)
-        | Leaves l ↦ elim (dual-step-part P t l i) [ moved j u ↦ more u | stopped w ↦ done (ended w t) ]
+        | Leaves l ↦ elim (dual-step-part (eligible (leavingRises (t .ws) l)) P t l i) [ moved j u ↦ more u | stopped w ↦ done (ended w t) ]
       ])
       (λ t. elim (row-same t i) [ Nothing ↦ ended Finished t | Leaves l ↦ ended Spent t ])
       budget s

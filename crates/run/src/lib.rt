@@ -157,6 +157,7 @@ pub fn restore_feasibility(
             crows,
             ccoeffs,
             l,
+            false,
         );
         match went {
             step_refactor::Went::On(after) => {
