@@ -6,7 +6,8 @@
 use std::fmt;
 
 use crate::raw::{
-    fix_into, limits, ops, sections, solve_into, unfix_into, Answer, Place, PlanRef, Status, Workspace,
+    fix_into, limits, ops, sections, solve_into, unfix_into, Answer, Place, PlanRef, Status,
+    Workspace,
 };
 
 /// An enum indicating whether to minimize or maximize objective function.

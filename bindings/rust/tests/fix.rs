@@ -4,7 +4,9 @@ mod common;
 
 use common::Rng;
 use tevalumi::raw::{fix_into, sections, solve_into, unfix_into, Status, Workspace};
-use tevalumi::{ComparisonOp, Error, LinearExpr, OptimizationDirection, Problem, Solution, Variable};
+use tevalumi::{
+    ComparisonOp, Error, LinearExpr, OptimizationDirection, Problem, Solution, Variable,
+};
 
 const INF: f64 = f64::INFINITY;
 const LE: ComparisonOp = ComparisonOp::Le;
@@ -25,7 +27,10 @@ fn shared(rng: &mut Rng, held: &[(usize, f64)]) -> (Problem, Vec<Variable>) {
         .map(|j| {
             let (cost, upper) = (rng.between(1, 20) as f64, rng.between(2, 30) as f64);
             let held = held.iter().find(|(column, _)| *column == j);
-            problem.add_var(cost, held.map_or((0.0, upper), |&(_, value)| (value, value)))
+            problem.add_var(
+                cost,
+                held.map_or((0.0, upper), |&(_, value)| (value, value)),
+            )
         })
         .collect::<Vec<_>>();
     for _ in 0..5 {
@@ -59,11 +64,20 @@ fn as_a_fresh_solve() {
             // Half of what it has keeps every row.
             let value = (solution[vars[column]] / 2.0).floor();
             held.push((column, value));
-            solution = solution.fix_var(vars[column], value).expect("there is a plan");
-            let anew = shared(&mut Rng(seed), &held).0.solve().expect("the same plan");
+            solution = solution
+                .fix_var(vars[column], value)
+                .expect("there is a plan");
+            let anew = shared(&mut Rng(seed), &held)
+                .0
+                .solve()
+                .expect("the same plan");
             assert!(near(solution.objective(), anew.objective()), "seed {seed}");
             for &(column, value) in &held {
-                assert_eq!(solution[vars[column]].to_bits(), value.to_bits(), "seed {seed}");
+                assert_eq!(
+                    solution[vars[column]].to_bits(),
+                    value.to_bits(),
+                    "seed {seed}"
+                );
             }
             warm += solution.steps();
             fresh += anew.steps();
@@ -84,10 +98,16 @@ fn what_is_not_fixed_stays() {
     let solution = problem.solve().unwrap();
     let (solution, was) = solution.unfix_var(y);
     assert!(!was);
-    assert_eq!((solution[x], solution[y], solution.objective()), (4.0, 0.0, -12.0));
+    assert_eq!(
+        (solution[x], solution[y], solution.objective()),
+        (4.0, 0.0, -12.0)
+    );
     // Fixed again elsewhere, it moves.
     let solution = solution.fix_var(y, 1.0).unwrap().fix_var(y, 2.0).unwrap();
-    assert_eq!((solution[x], solution[y], solution.objective()), (2.0, 2.0, -8.0));
+    assert_eq!(
+        (solution[x], solution[y], solution.objective()),
+        (2.0, 2.0, -8.0)
+    );
 }
 
 /// A row more is solved anew, and what was held is held again.
@@ -109,7 +129,10 @@ fn errors_of_a_fix() {
     assert_eq!(solution().fix_var(y, 3.0).unwrap_err(), Error::Infeasible);
     for value in [-1.0, f64::NAN, INF, 2.5] {
         let failure = solution().fix(y, value).unwrap_err();
-        assert_eq!((failure.number(), failure.steps(), failure.objective()), (43, 0, 0.0));
+        assert_eq!(
+            (failure.number(), failure.steps(), failure.objective()),
+            (43, 0, 0.0)
+        );
     }
     // No plan has x at 5.
     assert_eq!(solution().fix_var(x, 5.0).unwrap_err(), Error::Infeasible);
@@ -124,17 +147,41 @@ fn refusals_of_the_raw_calls() {
     let mut work = Workspace::new();
     let mut values = [7.5; 3];
     let plan = problem.plan();
-    assert_eq!(solve_into(&plan, &mut work, &mut values).status, Status::Optimal);
+    assert_eq!(
+        solve_into(&plan, &mut work, &mut values).status,
+        Status::Optimal
+    );
     let before = work.clone();
     for (answer, status) in [
-        (fix_into(&plan, &mut work, &mut values, 2, 1.0), Status::UnknownColumn),
-        (fix_into(&plan, &mut work, &mut values, 2, f64::NAN), Status::UnknownColumn),
-        (fix_into(&plan, &mut work, &mut values, y.idx(), 3.0), Status::ValueOutside),
-        (unfix_into(&plan, &mut work, &mut values, usize::MAX), Status::UnknownColumn),
-        (unfix_into(&plan, &mut work, &mut values, x.idx()), Status::NotFixed),
-        (unfix_into(&plan, &mut work, &mut values, y.idx()), Status::NotFixed),
+        (
+            fix_into(&plan, &mut work, &mut values, 2, 1.0),
+            Status::UnknownColumn,
+        ),
+        (
+            fix_into(&plan, &mut work, &mut values, 2, f64::NAN),
+            Status::UnknownColumn,
+        ),
+        (
+            fix_into(&plan, &mut work, &mut values, y.idx(), 3.0),
+            Status::ValueOutside,
+        ),
+        (
+            unfix_into(&plan, &mut work, &mut values, usize::MAX),
+            Status::UnknownColumn,
+        ),
+        (
+            unfix_into(&plan, &mut work, &mut values, x.idx()),
+            Status::NotFixed,
+        ),
+        (
+            unfix_into(&plan, &mut work, &mut values, y.idx()),
+            Status::NotFixed,
+        ),
     ] {
-        assert_eq!((answer.status, answer.objective.to_bits(), answer.steps), (status, 0, 0));
+        assert_eq!(
+            (answer.status, answer.objective.to_bits(), answer.steps),
+            (status, 0, 0)
+        );
         assert!(answer.status.is_refusal());
     }
     assert_eq!(work.numbers, before.numbers);
@@ -153,13 +200,22 @@ fn refusals_of_the_raw_calls() {
     }
     let mut damaged = before.clone();
     damaged.doubles[sections::PRICES.start] = f64::NAN;
-    assert_eq!(unfix_into(&plan, &mut damaged, &mut values, 0).status, Status::NotKept);
+    assert_eq!(
+        unfix_into(&plan, &mut damaged, &mut values, 0).status,
+        Status::NotKept
+    );
     // Budget 0: a basic column can't be moved, and the memory isn't an Optimal run's any more.
     problem.set_budget(0);
     let plan = problem.plan();
     let answer = fix_into(&plan, &mut work, &mut values, x.idx(), 1.0);
-    assert_eq!((answer.status, answer.objective, answer.steps), (Status::Spent, -12.0, 0));
+    assert_eq!(
+        (answer.status, answer.objective, answer.steps),
+        (Status::Spent, -12.0, 0)
+    );
     assert_eq!(work.numbers[sections::COUNTS][4], 21);
-    assert_eq!(unfix_into(&plan, &mut work, &mut values, x.idx()).status, Status::NotKept);
+    assert_eq!(
+        unfix_into(&plan, &mut work, &mut values, x.idx()).status,
+        Status::NotKept
+    );
     assert_eq!(values, [4.0, 0.0, 0.0]);
 }
