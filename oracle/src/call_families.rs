@@ -25,7 +25,7 @@ struct Family {
     draw: fn(&mut Rng, &mut List),
 }
 
-const FAMILIES: [Family; 16] = [
+const FAMILIES: [Family; 17] = [
     family("call-plain", "plain", 900, few),
     family("call-ties", "ties", 300, few),
     family("call-dual", "dual", 900, few),
@@ -33,6 +33,7 @@ const FAMILIES: [Family; 16] = [
     family("call-dropped", "dropped", 200, few),
     family("call-still", "plain", 500, still),
     family("call-spent", "dual", 500, spent),
+    family("call-small", "dual", 200, small),
     family("call-huge", "plain", 300, huge),
     family("call-factor", "plain", 500, with_factor),
     family("call-memory", "dual", 2_000, damaged),
@@ -94,6 +95,8 @@ struct List {
     number: u8,
     /// Whether a call was answered 21.
     is_spent: bool,
+    /// Whether a call took dual steps, and primal ones after them.
+    is_both: bool,
 }
 
 impl List {
@@ -107,6 +110,7 @@ impl List {
             number: first.outcome.number(),
             state: first.state,
             is_spent: false,
+            is_both: false,
         }
     }
 
@@ -122,6 +126,7 @@ impl List {
         if let Some(state) = answer.state {
             self.number = answer.outcome.number();
             self.is_spent |= self.number == 21;
+            self.is_both |= state.dual_steps > 0 && answer.steps > state.dual_steps;
             self.state = Some(state);
         }
     }
@@ -173,12 +178,19 @@ impl List {
 
 // ---- drawing calls
 
-/// A value to fix a column at.
-fn value(rng: &mut Rng, list: &List, column: usize) -> f64 {
+/// Values that the column may have.
+fn range(list: &List, column: usize) -> (f64, f64) {
     let (lower, upper) = (list.plan.lower[column], list.plan.upper[column]);
     let (now, _) = list.value(column);
     let low = if lower.is_finite() { lower } else { now - 6.0 };
     let high = if upper.is_finite() { upper } else { now + 6.0 };
+    (low, high)
+}
+
+/// A value to fix a column at.
+fn value(rng: &mut Rng, list: &List, column: usize) -> f64 {
+    let (now, _) = list.value(column);
+    let (low, high) = range(list, column);
     match rng.below(12) {
         0 | 1 => now,
         2 => low,
@@ -281,6 +293,41 @@ fn spent(rng: &mut Rng, list: &mut List) {
         let mut tried = List::new(plan.clone());
         some(rng, &mut tried, 5);
         if tried.is_spent {
+            *list = tried;
+            return;
+        }
+    }
+}
+
+/// Columns whose coefficients are under EPS, with costs of about EPS: no dual step looks at them, and one
+/// that takes a basic column out may leave them with a price that lets them enter.
+fn small(rng: &mut Rng, list: &mut List) {
+    if !list.is_optimal() || list.columns() < 2 {
+        return;
+    }
+    let mut plan = list.plan.clone();
+    for _ in 0..2 {
+        let column = rng.below(list.columns());
+        plan.cost[column] = 1e-8 * rng.below(6) as f64;
+        plan.lower[column] = 0.0;
+        plan.upper[column] = 1.0 + rng.below(9) as f64;
+        for (coef, &col) in plan.coef.iter_mut().zip(&plan.cols) {
+            if col == column as u64 {
+                *coef = 1e-9 * rng.whole(9);
+            }
+        }
+    }
+    for _ in 0..4 {
+        let mut tried = List::new(plan.clone());
+        while tried.is_optimal() && tried.plan.calls.len() < 4 {
+            let column = rng.below(tried.columns());
+            let (low, high) = range(&tried, column);
+            tried.push(Call::Fix {
+                column: column as u64,
+                value: low + (high - low) * rng.unit(),
+            });
+        }
+        if tried.is_both {
             *list = tried;
             return;
         }

@@ -174,6 +174,11 @@ impl Memory {
         let Some(state) = &answer.state else {
             return;
         };
+        // Only with the correction Reset switched off: no later call goes on with such a store.
+        if state.etarow.len() > ETA_COLUMNS || state.etaidx.len() > ETA_ENTRIES {
+            self.numbers[COUNTS.start + STATUS] = NO_RUN;
+            return;
+        }
         put(&mut self.numbers, KEPT, &state.kept);
         put(&mut self.numbers, BASIC, &state.basic);
         put(&mut self.numbers, NONBASIC, &state.nonbasic);

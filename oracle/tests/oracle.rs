@@ -168,10 +168,12 @@ fn differences_as_kept() {
         let name = plan.id.split('.').next().unwrap_or_default();
         let correction = Correction::ALL.into_iter().find(|c| c.name() == name);
         let shown = Options::showing(correction.expect("a plan named for its correction"));
-        let (ours, theirs) = (line(plan, Options::default()), line(plan, shown));
+        let lines = |options| answer_lines(&plan.id, &gate::answers(plan, options), ALL);
+        let (ours, theirs) = (lines(Options::default()), lines(shown));
         assert_ne!(ours, theirs);
-        assert_eq!(Some(ours.as_str()), answers.next());
-        assert_eq!(Some(theirs.as_str()), answers.next());
+        for line in ours.into_iter().chain(theirs) {
+            assert_eq!(Some(line.as_str()), answers.next());
+        }
     }
     assert_eq!(answers.next(), None);
 }
@@ -721,6 +723,30 @@ fn a_refused_call_changes_nothing() {
         assert_eq!(kept, again);
     });
     assert!(left_out > 2_000);
+}
+
+/// A basic value that a rounding has left beside the value is a move, and gets 26 where no place allows
+/// it: fix b at 6.2, unfix b, and a stands at 4.4e-16.
+#[test]
+fn equal_is_meant_by_ieee() {
+    let double = |val: f64| format!("{:016x}", val.to_bits());
+    let doubles = |vals: &[f64]| vals.iter().map(|&val| double(val)).collect::<Vec<_>>();
+    let numbers = |vals: &[f64]| doubles(vals).join(" ");
+    let text = [
+        format!("plan beside\ndims 2 1 2 10 {}", double(1e-6)),
+        format!("cost {}", numbers(&[5.0, -3.0])),
+        format!("lower {}", numbers(&[0.0, 4.0])),
+        format!("upper {}", numbers(&[f64::INFINITY, 9.0])),
+        format!("starts 0 2\ncols 0 1\ncoef {}", numbers(&[-3.0, -2.0])),
+        format!("ops 0\nrhs {}", double(-18.0)),
+        format!("fix 1 {}\nunfix 1", double(6.2)),
+        format!("fix 0 {}\nend", double(0.0)),
+    ];
+    let plan = &plans(&text.join("\n"))[0];
+    let answers = gate::answers(plan, Options::default());
+    let numbers: Vec<u8> = answers.iter().map(|a| a.outcome.number()).collect();
+    assert_eq!(numbers, [0, 0, 0, 26]);
+    assert_eq!(answers[2].values[0], 2.0 * f64::EPSILON);
 }
 
 /// Ask 9: "what an Optimal run leaves is never 41", and what another run leaves is.

@@ -41,7 +41,7 @@ fn kinds(plan: &Plan) -> Vec<String> {
         }
         if let (Some(before), Some(after)) = (&list.state, &answer.state) {
             kinds.extend(fixes(&list, call, number));
-            kinds.extend(steps(call, before, after, &answer));
+            kinds.extend(steps(&what, call, before, after, &answer));
         }
         list.note(answer);
     }
@@ -103,7 +103,7 @@ fn fixes(list: &List, call: &Call, number: u8) -> Vec<String> {
 }
 
 /// Which steps a call took.
-fn steps(call: &Call, before: &State, after: &State, answer: &Answer) -> Vec<String> {
+fn steps(what: &str, call: &Call, before: &State, after: &State, answer: &Answer) -> Vec<String> {
     let mut kinds = vec![];
     let name = match call {
         Call::Fix { .. } => "fix",
@@ -114,7 +114,7 @@ fn steps(call: &Call, before: &State, after: &State, answer: &Answer) -> Vec<Str
         (0, 0) => kinds.push(format!("{} without steps", name)),
         (0, _) => kinds.push(format!("{} with primal steps alone", name)),
         (_, 0) => kinds.push(format!("{} with dual steps alone", name)),
-        _ => kinds.push(format!("{} with both kinds of step", name)),
+        _ => kinds.push(format!("{}, both kinds of step", what)),
     }
     if before.factor.is_some() {
         kinds.push(format!("{} with a factor", name));
@@ -268,11 +268,16 @@ const ANSWERS: [(&str, &[(u8, u64)]); 10] = [
     ("reprice", &[(0, 700), (20, 40), (24, 2)]),
 ];
 
-const STEPS: [(u64, &str); 14] = [
+const STEPS: [(u64, &str); 16] = [
     (2_000, "fix without steps"),
     (2_000, "fix with dual steps alone"),
     (3, "fix with primal steps alone"),
-    (100, "fix with both kinds of step"),
+    (
+        100,
+        "fix of a basic column at its value, both kinds of step",
+    ),
+    (40, "fix of a basic column, both kinds of step"),
+    (15, "fix of a non-basic column, both kinds of step"),
     (200, "fix with a factor"),
     (60, "fix that factors"),
     (300, "fix beside other marks"),
