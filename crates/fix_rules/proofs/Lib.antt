@@ -6,3 +6,9 @@ pub mod Runs
 pub mod Shifted
 pub mod Honest
 pub mod Never41
+pub mod Refusals
+pub mod Goes
+pub mod Held
+pub mod Own
+pub mod Meaning
+pub mod Sequence

@@ -4,3 +4,5 @@ pub mod Unkept
 pub mod Fix
 pub mod Calls
 pub mod Conditions
+pub mod Sequence
+pub mod Meaning
