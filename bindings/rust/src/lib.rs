@@ -56,7 +56,8 @@ Change `use minilp::…` to `use tevalumi::…`. What differs:
 | `add_constraint` panics where a variable stands twice or is of a larger problem | [`Problem::solve`] gives error 3 and names the constraint |
 | `Solution::add_constraint` goes on from the solution | [`Solution::add_constraint`] solves the longer problem anew |
 | `MpsFile` | [`MpsFile`], with `constant` beside its fields |
-| `fix_var`, `unfix_var`, `add_gomory_cut` | left out; solve a new [`Problem`] |
+| `fix_var`, `unfix_var` | [`Solution::fix_var`], [`Solution::unfix_var`], in a few steps from the solution on; [`Solution::fix`] and [`Solution::unfix`] with the number of an error |
+| `add_gomory_cut` | left out |
 
 The page docs/FROM-MINILP.md of the repository has each public item of minilp beside ours.
 
