@@ -395,6 +395,7 @@ impl Memory {
             uidx: self.factor_numbers(sections::U_ROWS, upper),
             uval: self.factor_coeffs(sections::U_COEFFS, upper),
             udiag: self.factor_coeffs(sections::DIAG, size),
+            col_order: None,
         }
     }
 
