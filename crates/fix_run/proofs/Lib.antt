@@ -1,0 +1,3 @@
+-- Laws of a call's run.
+pub mod Leaves
+pub mod Laws
