@@ -2,7 +2,7 @@
 CARGO = CARGO_TARGET_DIR=$(CURDIR)/build/cargo cargo
 BIN = build/cargo/release
 
-.PHONY: test oracle plans triangles factors sheets replay-data driver checks bench bench-peers bench-profile bench-sheet
+.PHONY: test oracle plans triangles factors calls sheets replay-data driver checks bench bench-peers bench-profile bench-sheet
 
 # The gate: rt ci over every crate, then every Rust test and comparison. Its last line is `N passed, M failed`.
 test:
@@ -52,7 +52,7 @@ install: tevalumi build/libtevalumi.so.0
 uninstall:
 	packaging/install --remove "$(PREFIX)"
 
-# build/oracle: plans, triangles and pairs of them in, answer lines out (docs/EXCHANGE.md).
+# build/oracle: plans with their calls, triangles and pairs of them in, answer lines out (docs/EXCHANGE.md).
 oracle:
 	$(CARGO) build --release --offline --manifest-path oracle/Cargo.toml
 	cp $(BIN)/oracle build/oracle
@@ -71,6 +71,11 @@ triangles: oracle
 factors: oracle
 	$(BIN)/factors > build/factors.txt
 	$(BIN)/factors --count
+
+# build/calls.txt: the seeded plans with calls after their run, and the count of each answer.
+calls: oracle
+	$(BIN)/calls > build/calls.txt
+	$(BIN)/calls --count
 
 # build/sheets.txt: the seeded sheets with their edits, and what they reach.
 sheets:

@@ -25,7 +25,7 @@ struct Family {
     draw: fn(&mut Rng, &mut List),
 }
 
-const FAMILIES: [Family; 17] = [
+const FAMILIES: [Family; 21] = [
     family("call-plain", "plain", 900, few),
     family("call-ties", "ties", 300, few),
     family("call-dual", "dual", 900, few),
@@ -40,6 +40,10 @@ const FAMILIES: [Family; 17] = [
     family("call-wrong", "plain", 600, wrong),
     family("call-full", "plain", 120, full),
     family("call-refused", "outside", 60, refused),
+    family("call-short", "short", 60, refused),
+    family("call-number", "number", 60, refused),
+    family("call-entry", "entry", 60, refused),
+    family("call-crossed", "crossed", 60, refused),
     family("call-empty", "empty", 60, refused),
     family("reprice-plain", "plain", 500, repriced),
     family("reprice-dual", "dual", 500, repriced),

@@ -252,7 +252,10 @@ const ANSWERS: [(&str, &[(u8, u64)]); 10] = [
     ("unfix at a bound", &[(0, 400), (21, 3), (44, 150)]),
     ("unfix between bounds", &[(0, 400), (21, 30), (44, 150)]),
     ("unknown column", &[(41, 20), (42, 150)]),
-    ("after a refused plan", &[(5, 100), (41, 60)]),
+    (
+        "after a refused plan",
+        &[(1, 100), (2, 100), (3, 100), (4, 100), (5, 100), (41, 60)],
+    ),
     (
         "right after a poke",
         &[
