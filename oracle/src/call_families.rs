@@ -3,6 +3,8 @@
 //! A list is drawn call by call from the state that the calls before it left. The families whose name
 //! begins with `reprice` have repricings among the calls; the others have fix, unfix and poke alone.
 
+use std::ops::Range;
+
 use crate::answer::{Answer, Outcome, State};
 use crate::families;
 use crate::gate::Session;
@@ -366,28 +368,32 @@ fn poke_factor(rng: &mut Rng, list: &mut List) {
         let diag = rng.pick(&[1.0, -2.0, 0.5, 3.0f64]);
         list.poke(Lent::FactorCoeffs, DIAG + number, diag.to_bits());
     }
-    let lower = |col: usize| (col + 1..rows).collect();
-    let upper = |col: usize| (0..col).collect();
-    let triangles: [(usize, usize, usize, &dyn Fn(usize) -> Vec<usize>); 2] = [
-        (L_STARTS, L_ROWS, 0, &lower),
-        (U_STARTS, U_ROWS, U_COEFFS, &upper),
-    ];
-    for (starts, places, coeffs, column) in triangles {
-        let mut entries = 0;
-        list.poke(Lent::FactorNumbers, starts, 0);
-        for col in 0..rows {
-            for row in column(col) {
-                if rng.one_in(2) {
-                    let coeff = rng.pick(&[0.5, -0.25, 1.0f64]);
-                    list.poke(Lent::FactorNumbers, places + entries, row as u64);
-                    list.poke(Lent::FactorCoeffs, coeffs + entries, coeff.to_bits());
-                    entries += 1;
-                }
-            }
-            list.poke(Lent::FactorNumbers, starts + col + 1, entries as u64);
-        }
-    }
+    poke_triangle(rng, list, [L_STARTS, L_ROWS, 0], rows, |col| col + 1..rows);
+    poke_triangle(rng, list, [U_STARTS, U_ROWS, U_COEFFS], rows, |col| 0..col);
     list.poke(Lent::Counts, 5, 1);
+}
+
+/// A triangle at these places of its arrays, whose columns may have these rows.
+fn poke_triangle(
+    rng: &mut Rng,
+    list: &mut List,
+    [starts, places, coeffs]: [usize; 3],
+    columns: usize,
+    column: impl Fn(usize) -> Range<usize>,
+) {
+    let mut entries = 0;
+    list.poke(Lent::FactorNumbers, starts, 0);
+    for col in 0..columns {
+        for row in column(col) {
+            if rng.one_in(2) {
+                let coeff = rng.pick(&[0.5, -0.25, 1.0f64]);
+                list.poke(Lent::FactorNumbers, places + entries, row as u64);
+                list.poke(Lent::FactorCoeffs, coeffs + entries, coeff.to_bits());
+                entries += 1;
+            }
+        }
+        list.poke(Lent::FactorNumbers, starts + col + 1, entries as u64);
+    }
 }
 
 fn with_factor(rng: &mut Rng, list: &mut List) {

@@ -302,17 +302,17 @@ pub(super) fn named(state: &State, (lent, index, bits): Poke) -> &'static str {
 
 fn of_factor_numbers(rows: usize, index: usize, bits: u64) -> &'static str {
     match index {
-        L_STARTS => "L's first start",
-        U_STARTS => "U's first start",
-        _ if index == L_STARTS + rows => "L's last start",
-        _ if index == U_STARTS + rows => "U's last start",
-        ..INVERSE if bits >= rows as u64 => "a pivot too large",
-        ..INVERSE => "a repeated pivot",
-        ..L_STARTS => "the pivots' inverse",
-        ..L_ROWS => "L's falling start",
-        ..U_STARTS if bits >= rows as u64 => "L's row too large",
-        ..U_STARTS => "L's row not above",
-        ..U_ROWS => "U's falling start",
-        _ => "U's row not below",
+        0..INVERSE if bits >= rows as u64 => "a pivot too large",
+        0..INVERSE => "a repeated pivot",
+        INVERSE..L_STARTS => "the pivots' inverse",
+        L_STARTS..L_ROWS if index == L_STARTS => "L's first start",
+        L_STARTS..L_ROWS if index == L_STARTS + rows => "L's last start",
+        L_STARTS..L_ROWS => "L's falling start",
+        L_ROWS..U_STARTS if bits >= rows as u64 => "L's row too large",
+        L_ROWS..U_STARTS => "L's row not above",
+        U_STARTS..U_ROWS if index == U_STARTS => "U's first start",
+        U_STARTS..U_ROWS if index == U_STARTS + rows => "U's last start",
+        U_STARTS..U_ROWS => "U's falling start",
+        U_ROWS.. => "U's row not below",
     }
 }
