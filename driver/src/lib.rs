@@ -43,15 +43,18 @@ pub fn answers(block: &str, shown: Shown, rng: &mut Rng) -> Result<String, Strin
         return Ok(out);
     }
     for item in Reader::new(block.as_bytes()) {
-        out += &match item? {
+        let lines = match item? {
             Item::Plan(plan) => {
                 let lengths = plans::Lengths::told(&plan, rng);
-                plans::line(&plan, &lengths, shown.state)
+                plans::lines(&plan, &lengths, shown.state)?
             }
-            Item::Tri(tri) => triangles::line(&tri, rng),
-            Item::Factors(both) => triangles::factors_line(&both, rng),
+            Item::Tri(tri) => vec![triangles::line(&tri, rng)],
+            Item::Factors(both) => vec![triangles::factors_line(&both, rng)],
         };
-        out.push('\n');
+        for line in lines {
+            out += &line;
+            out.push('\n');
+        }
     }
     Ok(out)
 }

@@ -1,5 +1,5 @@
-//! Reads plans, triangles, pairs of them and sheets in the exchange text from standard input, hands
-//! them to the proved library, and writes their answer lines.
+//! Reads plans with their calls, triangles, pairs of them and sheets in the exchange text from standard
+//! input, hands them to the proved library, and writes their answer lines.
 //!
 //! driver [--state] [--cells]
 //!

@@ -1,15 +1,15 @@
-//! Plans through the library.
+//! Plans through the library, and the calls after a run.
 
 use std::ops::Range;
 
 use oracle::answer::{Factor, State};
 use oracle::exchange::{Line, Place};
 use oracle::limits;
-use oracle::plan::{Lent as Name, Plan};
+use oracle::plan::{Call, Lent as Name, Plan};
 use oracle::rng::Rng;
 
-use crate::lent::Lent;
-use crate::library::{tevalumi_solve, Answer};
+use crate::lent::{Cell, Lent};
+use crate::library::{tevalumi_fix, tevalumi_solve, tevalumi_unfix, Answer};
 use crate::{sections, EXTRA};
 
 /// A section of one of the arrays that hold the state.
@@ -182,7 +182,9 @@ struct Wrote {
     kept: usize,
     etas: usize,
     entries: usize,
+    /// Since the start, and in this call.
     factorings: usize,
+    made: usize,
     /// The entries of L and U, where there is a factor.
     factor: Option<[usize; 2]>,
 }
@@ -195,7 +197,7 @@ impl Wrote {
             Name::Nonbasic | Name::Nval | Name::Price | Name::Norm | Name::Flags => self.columns,
             Name::Where => self.columns + self.kept,
             // What a factoring emptied may have been longer.
-            Name::Etarow | Name::Etaptr | Name::Etaidx | Name::Etaval if self.factorings > 0 => {
+            Name::Etarow | Name::Etaptr | Name::Etaidx | Name::Etaval if self.made > 0 => {
                 name.needed(0, 0) as usize
             }
             Name::Etarow => self.etas,
@@ -237,6 +239,48 @@ impl Wrote {
     }
 }
 
+/// What a call begins with, by its counts: a run has neither.
+#[derive(Clone, Copy, Default)]
+struct Begins {
+    has_factor: bool,
+    factorings: usize,
+}
+
+/// One of the library's calls with what all of them are lent, and its own arguments.
+macro_rules! over {
+    ($call:ident, $plan:expr, $given:expr, $memory:expr, $($own:expr),*) => {
+        $call(
+            $plan.columns as usize,
+            $plan.rows as usize,
+            $plan.entries as usize,
+            $plan.budget as usize,
+            $plan.tolerance,
+            $given.costs.get(),
+            $given.lowers.get(),
+            $given.uppers.get(),
+            $given.starts.get(),
+            $given.cols.get(),
+            $given.coeffs.get(),
+            $given.ops.get(),
+            $given.rhs.get(),
+            $memory.values.lend(),
+            $memory.numbers.lend(),
+            $memory.doubles.lend(),
+            $memory.factor_numbers.lend(),
+            $memory.factor_coeffs.lend(),
+            $($own),*
+        )
+    };
+}
+
+/// Cells of `counts`.
+const STATUS: usize = 4;
+const HAS_FACTOR: usize = 5;
+const FACTORINGS: usize = 6;
+
+/// What stands in the status cell before the first run: no status of a run.
+const NO_RUN: usize = 99;
+
 /// The cells of a section past its written ones.
 fn past(section: Range<usize>, written: usize) -> Range<usize> {
     section.start + written..section.end
@@ -253,27 +297,50 @@ impl Memory {
         }
     }
 
+    /// No run yet, for calls that may find none.
+    fn without_a_run(mut self) -> Memory {
+        let counts = self.numbers.lend().get_mut(sections::COUNTS);
+        for (i, cell) in counts.into_iter().flatten().enumerate() {
+            *cell = if i == STATUS { NO_RUN } else { 0 };
+        }
+        self
+    }
+
+    /// Writes one cell between calls; one that isn't lent stays out of it.
+    fn poke(&mut self, name: Name, index: usize, bits: u64) {
+        let number = bits as usize;
+        let double = f64::from_bits(bits);
+        match section(name) {
+            Section::Numbers(cells) => put(&mut self.numbers, cells.start + index, number),
+            Section::Doubles(cells) => put(&mut self.doubles, cells.start + index, double),
+            Section::FactorNumbers(cells) => {
+                put(&mut self.factor_numbers, cells.start + index, number);
+            }
+            Section::FactorCoeffs(cells) => {
+                put(&mut self.factor_coeffs, cells.start + index, double);
+            }
+        }
+    }
+
     fn solve(&mut self, plan: &Plan, given: &Given) -> Answer {
-        tevalumi_solve(
-            plan.columns as usize,
-            plan.rows as usize,
-            plan.entries as usize,
-            plan.budget as usize,
-            plan.tolerance,
-            given.costs.get(),
-            given.lowers.get(),
-            given.uppers.get(),
-            given.starts.get(),
-            given.cols.get(),
-            given.coeffs.get(),
-            given.ops.get(),
-            given.rhs.get(),
-            self.values.lend(),
-            self.numbers.lend(),
-            self.doubles.lend(),
-            self.factor_numbers.lend(),
-            self.factor_coeffs.lend(),
-        )
+        over!(tevalumi_solve, plan, given, self,)
+    }
+
+    fn fix(&mut self, plan: &Plan, given: &Given, column: u64, value: f64) -> Answer {
+        over!(tevalumi_fix, plan, given, self, column as usize, value)
+    }
+
+    fn unfix(&mut self, plan: &Plan, given: &Given, column: u64) -> Answer {
+        over!(tevalumi_unfix, plan, given, self, column as usize)
+    }
+
+    /// What a call over this memory begins with. Where it is refused nobody asks.
+    fn begins(&self) -> Begins {
+        let counts = self.numbers.get().get(sections::COUNTS);
+        counts.map_or(Begins::default(), |counts| Begins {
+            has_factor: counts[HAS_FACTOR] == 1,
+            factorings: counts[FACTORINGS],
+        })
     }
 
     /// The first array or section with a changed cell past what the answer may have written.
@@ -299,19 +366,57 @@ impl Memory {
         match wrote.factor {
             None => whole[2..].fill(0),
             Some(entries) => {
-                let is = self.factor_numbers.get();
-                let mut numbers = wrote.factor_numbers_unused(entries).into_iter();
-                if !numbers.all(|(cells, blank)| is[cells].iter().all(|&cell| cell == blank)) {
-                    return Some("factor_numbers");
+                // A call that factors nothing makes the transposes anew and leaves the rest as it was.
+                if wrote.made == 0 && !self.factor_stayed(before) {
+                    return Some("the factor");
                 }
-                let is = self.factor_coeffs.get();
-                let mut coeffs = wrote.factor_coeffs_unused(entries).into_iter();
-                if !coeffs.all(|cells| is[cells].iter().all(|cell| cell.to_bits() == 0)) {
-                    return Some("factor_coeffs");
+                if let Some(name) = self.factor_unused_changed(before, wrote, entries) {
+                    return Some(name);
                 }
             }
         }
         self.array_changed(before, whole)
+    }
+
+    /// Pivots, L, U and the diagonal.
+    fn factor_stayed(&self, before: &Memory) -> bool {
+        let numbers = 0..sections::LT_STARTS.start;
+        let coeffs = [0..sections::LT_COEFFS.start, sections::DIAG];
+        self.factor_numbers.kept(&before.factor_numbers, numbers)
+            && coeffs
+                .into_iter()
+                .all(|cells| self.factor_coeffs.kept(&before.factor_coeffs, cells))
+    }
+
+    /// The first of the factor's arrays with an unused cell that a factoring doesn't leave, and that isn't as it was. Where
+    /// one was made every unused cell is blank.
+    fn factor_unused_changed(
+        &self,
+        before: &Memory,
+        wrote: Wrote,
+        entries: [usize; 2],
+    ) -> Option<&'static str> {
+        let made = wrote.made > 0;
+        let (is, was) = (self.factor_numbers.get(), before.factor_numbers.get());
+        let mut numbers = wrote.factor_numbers_unused(entries).into_iter();
+        let blank = |(mut cells, blank): (Range<usize>, usize)| {
+            cells.all(|at| is[at] == blank || !made && is[at] == was[at])
+        };
+        if !numbers.all(blank) {
+            return Some("factor_numbers");
+        }
+        let (is, was) = (self.factor_coeffs.get(), before.factor_coeffs.get());
+        let mut coeffs = wrote.factor_coeffs_unused(entries).into_iter();
+        let blank = |mut cells: Range<usize>| {
+            cells.all(|at| {
+                let bits = is[at].to_bits();
+                bits == 0 || !made && bits == was[at].to_bits()
+            })
+        };
+        if !coeffs.all(blank) {
+            return Some("factor_coeffs");
+        }
+        None
     }
 
     /// The first of the state's arrays with a changed cell past so many of each.
@@ -479,54 +584,124 @@ impl Columns {
     }
 }
 
-/// The answer line of a plan; what the call changed that it must leave stands at its end.
+/// Writes a cell that is lent.
+fn put<T: Cell>(array: &mut Lent<T>, at: usize, cell: T) {
+    if let Some(lent) = array.lend().get_mut(at) {
+        *lent = cell;
+    }
+}
+
+/// The answer line of a plan's run.
 pub fn line(plan: &Plan, lengths: &Lengths, with_state: bool) -> String {
-    let given = Given::of(plan);
-    let mut memory = Memory::marked(lengths);
-    let (given_before, before) = (given.clone(), memory.clone());
-    let answer = memory.solve(plan, &given);
+    let memory = Memory::marked(lengths);
+    Session::new(plan, memory, with_state).run()
+}
 
-    let mut faults = vec![];
-    if !given.stayed(&given_before) {
-        faults.push("the plan changed".to_string());
+/// The answer lines of a plan's run and of the calls after it, each over the memory that the one before it left.
+pub fn lines(plan: &Plan, lengths: &Lengths, with_state: bool) -> Result<Vec<String>, String> {
+    if plan.calls.is_empty() {
+        return Ok(vec![line(plan, lengths, with_state)]);
     }
-    let wrote = match answer.status {
-        0 | 20..=26 => wrote(plan, &answer, &memory)
-            .map_err(|fault| faults.push(fault))
-            .ok(),
-        _ => None,
-    };
-    if let Some(name) = memory.changed(&before, wrote) {
-        faults.push(format!("a cell of {name} changed"));
+    let memory = Memory::marked(lengths).without_a_run();
+    let mut session = Session::new(plan, memory, with_state);
+    let mut lines = vec![session.run()];
+    for call in &plan.calls {
+        let id = format!("{}/{}", plan.id, lines.len());
+        match *call {
+            Call::Poke { lent, index, bits } => session.memory.poke(lent, index, bits),
+            Call::Fix { column, value } => lines
+                .push(session.called(&id, |memory, given| memory.fix(plan, given, column, value))),
+            Call::Unfix { column } => {
+                lines.push(session.called(&id, |memory, given| memory.unfix(plan, given, column)))
+            }
+            Call::Reprice { .. } => return Err("the library has no call for `reprice`".into()),
+        }
+    }
+    Ok(lines)
+}
+
+/// A plan with the memory that its calls are lent.
+struct Session<'a> {
+    plan: &'a Plan,
+    given: Given,
+    memory: Memory,
+    with_state: bool,
+}
+
+impl Session<'_> {
+    fn new(plan: &Plan, memory: Memory, with_state: bool) -> Session<'_> {
+        Session {
+            plan,
+            given: Given::of(plan),
+            memory,
+            with_state,
+        }
     }
 
-    let state = wrote.map(|wrote| memory.state(wrote));
-    let line = Line {
-        status: answer.status,
-        place: place(&answer),
-        objective: answer.objective,
-        steps: answer.steps,
-        values: &memory.values.get()[..wrote.map_or(0, |wrote| wrote.values)],
-        why: None,
-        state: state.as_ref().filter(|_| with_state),
-    };
-    faults.into_iter().fold(line.text(&plan.id), |line, fault| {
-        format!("{line} fault: {fault}")
-    })
+    fn run(&mut self) -> String {
+        let plan = self.plan;
+        let solve = |memory: &mut Memory, given: &Given| memory.solve(plan, given);
+        self.line(&plan.id, Begins::default(), solve)
+    }
+
+    fn called(&mut self, id: &str, call: impl FnOnce(&mut Memory, &Given) -> Answer) -> String {
+        self.line(id, self.memory.begins(), call)
+    }
+
+    /// The line of one call; what it changed that it must leave stands at its end.
+    fn line(
+        &mut self,
+        id: &str,
+        begins: Begins,
+        call: impl FnOnce(&mut Memory, &Given) -> Answer,
+    ) -> String {
+        let (given_before, before) = (self.given.clone(), self.memory.clone());
+        let answer = call(&mut self.memory, &self.given);
+        let memory = &self.memory;
+
+        let mut faults = vec![];
+        if !self.given.stayed(&given_before) {
+            faults.push("the plan changed".to_string());
+        }
+        let wrote = match answer.status {
+            0 | 20..=26 => wrote(self.plan, &answer, memory, begins)
+                .map_err(|fault| faults.push(fault))
+                .ok(),
+            _ => None,
+        };
+        if let Some(name) = memory.changed(&before, wrote) {
+            faults.push(format!("a cell of {name} changed"));
+        }
+
+        let state = wrote.map(|wrote| memory.state(wrote));
+        let line = Line {
+            status: answer.status,
+            place: place(&answer),
+            objective: answer.objective,
+            steps: answer.steps,
+            values: &memory.values.get()[..wrote.map_or(0, |wrote| wrote.values)],
+            why: None,
+            state: state.as_ref().filter(|_| self.with_state),
+        };
+        faults.into_iter().fold(line.text(id), |line, fault| {
+            format!("{line} fault: {fault}")
+        })
+    }
 }
 
 /// What an answer of 0 or 20 to 26 wrote, by its own counts, and whether these are the answer's.
-fn wrote(plan: &Plan, answer: &Answer, memory: &Memory) -> Result<Wrote, String> {
+fn wrote(plan: &Plan, answer: &Answer, memory: &Memory, begins: Begins) -> Result<Wrote, String> {
     let columns = plan.columns as usize;
     let counts = memory.numbers(sections::COUNTS, 7);
     let [kept, etas, entries, steps, status, factor, factorings] = *counts else {
         unreachable!("seven counts were lent")
     };
+    let made = factorings.wrapping_sub(begins.factorings);
     let fits = kept <= plan.rows as usize
         && etas as u64 <= limits::ETA_COLUMNS
         && entries as u64 <= limits::ETA_ENTRIES
-        && factor == usize::from(factorings > 0)
-        && factorings <= steps;
+        && factor == usize::from(begins.has_factor || made > 0)
+        && made <= steps;
     if !fits || (steps, status) != (answer.steps, answer.status) {
         return Err(format!("counts {counts:?} don't fit"));
     }
@@ -544,6 +719,7 @@ fn wrote(plan: &Plan, answer: &Answer, memory: &Memory) -> Result<Wrote, String>
         etas,
         entries,
         factorings,
+        made,
         factor: match factor {
             0 => None,
             _ => Some(memory.factor_entries(kept)?),

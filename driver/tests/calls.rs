@@ -1,0 +1,83 @@
+//! Calls after a run, through the library: the kept list with arrays just long enough and longer, and
+//! an array too short, which gives 1 for the run and for every call after it.
+
+use driver::plans::{lines, Lengths};
+use oracle::exchange::{answer_lines, Extras, Item, Reader};
+use oracle::gate;
+use oracle::plan::{Call, Plan};
+use oracle::shown::Options;
+
+const STATE: Extras = Extras {
+    state: true,
+    why: false,
+};
+
+/// The plans of the kept list that aren't said to lend too little.
+fn plans() -> Vec<Plan> {
+    let text = include_str!("../../oracle/fixed-calls.txt");
+    let plan = |item| match item {
+        Ok(Item::Plan(plan)) => plan,
+        _ => panic!("the kept list holds plans"),
+    };
+    let plans = Reader::new(text.as_bytes()).map(plan);
+    let whole = plans.filter(|plan| plan.room.is_none() && plan.short.is_empty());
+    whole.collect()
+}
+
+fn told(plan: &Plan) -> Vec<String> {
+    answer_lines(&plan.id, &gate::answers(plan, Options::default()), STATE)
+}
+
+fn called(plan: &Plan, lengths: &Lengths) -> Vec<String> {
+    lines(plan, lengths, true).expect("calls that the library has")
+}
+
+#[test]
+fn just_long_enough_and_longer_give_the_oracles_answers() {
+    let mut tried = 0;
+    for (i, plan) in plans().iter().enumerate() {
+        let told = told(plan);
+        let mut lengths = Lengths::needed(plan);
+        assert_eq!(called(plan, &lengths), told);
+        lengths.values += i % 3;
+        lengths.numbers += i % 4;
+        lengths.doubles += (i + 1) % 4;
+        lengths.factor_numbers += (i + 2) % 4;
+        lengths.factor_coeffs += (i + 3) % 4;
+        assert_eq!(called(plan, &lengths), told);
+        tried += told.len();
+    }
+    assert!(tried > 500);
+}
+
+/// A poke of a cell that isn't lent is left out.
+#[test]
+fn a_written_array_too_short_gives_1() {
+    type Cut = fn(&mut Lengths);
+    let cuts: [Cut; 5] = [
+        |lengths| lengths.values -= 1,
+        |lengths| lengths.numbers -= 1,
+        |lengths| lengths.doubles = 0,
+        |lengths| lengths.factor_numbers = 100,
+        |lengths| lengths.factor_coeffs -= 1,
+    ];
+    for plan in plans() {
+        for cut in cuts {
+            let mut lengths = Lengths::needed(&plan);
+            cut(&mut lengths);
+            for line in called(&plan, &lengths) {
+                let (_, answer) = line.split_once(' ').expect("a line has its answer");
+                assert_eq!(answer, "1 - 0000000000000000 0 0", "{line}");
+            }
+        }
+    }
+}
+
+#[test]
+fn a_repricing_is_no_call_of_the_librarys() {
+    let mut plan = plans().swap_remove(0);
+    plan.calls = vec![Call::Reprice {
+        cost: plan.cost.clone(),
+    }];
+    assert!(lines(&plan, &Lengths::needed(&plan), true).is_err());
+}
