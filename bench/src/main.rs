@@ -1,5 +1,6 @@
 //! The proved library beside the oracle's solver: the same 200 plans, 100 longer ones and 100 that begin
-//! with dual steps, both release builds, called in one process on memory that is prepared beforehand.
+//! with dual steps, both release builds, called in one process on memory that is prepared beforehand. And of
+//! the 200 plans a column held still, in three ways, beside fresh solves.
 //!
 //! | call | what it does |
 //! |---|---|
@@ -9,16 +10,20 @@
 //! Each ends with status 1 where the two sides don't answer alike. With the feature `glpk` it also
 //! runs GLPK.
 
+mod fixes;
 #[cfg(feature = "glpk")]
 mod glpk;
 mod plans;
+mod ratios;
 mod sides;
 mod times;
 
 use std::process::ExitCode;
 
+use fixes::{Choice, Fix, Left};
 use oracle::plan::Plan;
-use sides::{Library, Seen};
+use ratios::{compare, Named};
+use sides::{bits, Library, Seen};
 use times::{median, quantile, timed, ROUNDS, SAMPLE_NANOS};
 
 enum Mode {
@@ -63,10 +68,13 @@ fn run(mode: Mode) -> Result<ExitCode, String> {
             }
         }
     }
+    let mut held = Choice::ALL.map(|choice| Held::new(choice, &plans));
+    failed += held.iter().map(|held| held.failed).sum::<usize>();
     let rounds = match mode {
         Mode::Time(rounds) if failed == 0 => rounds,
         _ => {
-            println!("{} passed, {failed} failed", races.len());
+            let fixes = held.iter().map(|held| held.fixes.len()).sum::<usize>();
+            println!("{} passed, {failed} failed", races.len() + fixes);
             return Ok(ExitCode::from(u8::from(failed > 0)));
         }
     };
@@ -92,7 +100,50 @@ fn run(mode: Mode) -> Result<ExitCode, String> {
         println!("\n{name}:");
         summary(races, rounds);
     }
+    for held in &mut held {
+        held.time(rounds);
+    }
+    for held in &held {
+        fixes::summary(held.choice, &held.fixes, held.left_out, rounds);
+    }
     Ok(ExitCode::SUCCESS)
+}
+
+/// A column of each of the gateway's plans, held still.
+struct Held<'a> {
+    choice: Choice,
+    fixes: Vec<Fix<'a>>,
+    left_out: usize,
+    failed: usize,
+}
+
+impl<'a> Held<'a> {
+    fn new(choice: Choice, plans: &'a [Plan]) -> Held<'a> {
+        let (mut fixes, mut left_out, mut failed) = (vec![], 0, 0);
+        for plan in plans.iter().take(plans::COUNT) {
+            match Fix::new(plan, choice) {
+                Ok(fix) => fixes.push(fix),
+                Err(Left::Out) => left_out += 1,
+                Err(Left::Differs(differs)) => {
+                    println!("{}: {differs}", plan.id);
+                    failed += 1;
+                }
+            }
+        }
+        Held {
+            choice,
+            fixes,
+            left_out,
+            failed,
+        }
+    }
+
+    fn time(&mut self, rounds: usize) {
+        for fix in &mut self.fixes {
+            fix.time(rounds);
+            println!("{}", fix.line());
+        }
+    }
 }
 
 /// One plan, its prepared memory, and the samples for one solve, in nanoseconds.
@@ -124,7 +175,6 @@ impl<'a> Race<'a> {
         let mut library = Library::new(plan);
         let seen = library.solve(plan);
         let (oracle_seen, values) = sides::oracle(plan);
-        let bits = |vals: &[f64]| vals.iter().map(|val| val.to_bits()).collect::<Vec<_>>();
         if seen != oracle_seen || bits(library.written(seen)) != bits(&values) {
             return Err(format!("library {seen:?}, oracle {oracle_seen:?}"));
         }
@@ -164,7 +214,7 @@ impl<'a> Race<'a> {
         for turn in 0..2 {
             let nanos = self.time_library();
             let of_oracle = timed(self.repeats, || sides::oracle(self.plan));
-            if (round + turn) % 2 == 0 {
+            if (round + turn) & 1 == 0 {
                 self.library_samples.push(nanos);
                 self.oracle_samples.push(of_oracle);
             } else {
@@ -212,6 +262,8 @@ impl<'a> Race<'a> {
     }
 }
 
+const PLANS: Named = Named("plan", "plans");
+
 fn summary(races: &[Race], rounds: usize) {
     let of = |number: fn(&Race) -> f64| races.iter().map(number).collect::<Vec<f64>>();
     let steps = of(|race| race.seen.steps as f64);
@@ -227,7 +279,7 @@ fn summary(races: &[Race], rounds: usize) {
     println!();
     let library = of(|race| median(&race.library_samples));
     let oracle = of(|race| median(&race.oracle_samples));
-    compare("library", "oracle", &library, &oracle);
+    compare(PLANS, "library", "oracle", &library, &oracle);
     #[cfg(feature = "glpk")]
     {
         let steps = of(|race| race.glpk_seen.steps as f64);
@@ -237,39 +289,11 @@ fn summary(races: &[Race], rounds: usize) {
             median(&steps)
         );
         let glpk = of(|race| median(&race.glpk_samples));
-        compare("library", "GLPK", &library, &glpk);
+        compare(PLANS, "library", "GLPK", &library, &glpk);
     }
     println!("noise: each side against its own second samples, from the same rounds");
     let again = of(|race| median(&race.library_again));
-    compare("library", "library again", &library, &again);
+    compare(PLANS, "library", "library again", &library, &again);
     let again = of(|race| median(&race.oracle_again));
-    compare("oracle", "oracle again", &oracle, &again);
-}
-
-/// The ratios of the medians: of all plans in a row, of the median plan, and plan by plan.
-fn compare(one: &str, other: &str, ones: &[f64], others: &[f64]) {
-    let ratios: Vec<f64> = ones.iter().zip(others).map(|(a, b)| a / b).collect();
-    let (sum, other_sum) = (ones.iter().sum::<f64>(), others.iter().sum::<f64>());
-    println!(
-        "all plans in a row:  {one} {:.1}, {other} {:.1} us, ratio {:.3}",
-        sum / 1e3,
-        other_sum / 1e3,
-        sum / other_sum
-    );
-    println!(
-        "the median plan:     {one} {:.2}, {other} {:.2} us, ratio {:.3}",
-        median(ones) / 1e3,
-        median(others) / 1e3,
-        median(ones) / median(others)
-    );
-    println!(
-        "plan by plan:        median ratio {:.3}; least {:.3}, a tenth below {:.3}, a tenth above {:.3}, most {:.3}; {} of {} plans above 1\n",
-        median(&ratios),
-        quantile(&ratios, 0.0),
-        quantile(&ratios, 0.1),
-        quantile(&ratios, 0.9),
-        quantile(&ratios, 1.0),
-        ratios.iter().filter(|&&ratio| ratio > 1.0).count(),
-        ratios.len(),
-    );
+    compare(PLANS, "oracle", "oracle again", &oracle, &again);
 }
