@@ -61,8 +61,8 @@ fn as_a_fresh_solve() {
         let mut held = Vec::new();
         for turn in 0..3 {
             let column = (seed as usize + 3 * turn) % 8;
-            // Half of what it has keeps every row.
-            let value = (solution[vars[column]] / 2.0).floor();
+            // Half of what it has keeps every row; a rounding may have left it below 0.
+            let value = (solution[vars[column]] / 2.0).floor().max(0.0);
             held.push((column, value));
             solution = solution
                 .fix_var(vars[column], value)
@@ -116,8 +116,10 @@ fn held_through_another_row() {
     let (problem, x, y) = n2();
     let solution = problem.solve().unwrap().fix_var(x, 1.0).unwrap();
     assert_eq!((solution[x], solution[y]), (1.0, 2.0));
-    let solution = solution.add_constraint([(y, 1.0)], LE, 1.0).unwrap();
-    assert_eq!((solution[x], solution[y]), (1.0, 1.0));
+    let solution = solution
+        .add_constraint([(x, 1.0), (y, 2.0)], LE, 4.0)
+        .unwrap();
+    assert_eq!((solution[x], solution[y]), (1.0, 1.5));
     let (solution, was) = solution.unfix_var(x);
     assert_eq!((was, solution[x], solution[y]), (true, 4.0, 0.0));
 }
