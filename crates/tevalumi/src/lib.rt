@@ -14,6 +14,7 @@ ghost use Rattle.state.specs.Memory.{memoryIn, pastOf, handed};
 ghost use Rattle.face.specs.Face.{triResult, sheetNumbers, faced, facedBy};
 
 mod files;
+mod fixes;
 mod journals;
 mod wholes;
 
