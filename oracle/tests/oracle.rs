@@ -633,17 +633,16 @@ fn narrowed(plan: &Plan, state: &State) -> Plan {
 }
 
 /// A fixed column has its value, bit for bit, through later calls, and what is found is what a run over
-/// the plan finds whose bounds say the same; a 26 is one there too, or the run is refused (7). Left out is
-/// a fix of a basic column a rounding beside its value, which gets 26 where no place allows the move.
+/// the plan finds whose bounds say the same; a 26 is one there too, or the run is refused (7). Left out are
+/// a fix of a basic column a rounding beside its value, which gets 26 where no place allows the move, and
+/// prices of about EPS, where two ends may differ by EPS times a value.
 #[test]
 fn a_fix_is_a_narrowed_plan() {
     let (mut held, mut optimal, mut infeasible) = (0, 0, 0);
     call_families::make(3, &mut |plan| {
-        let is_poked = plan
-            .calls
-            .iter()
-            .any(|call| matches!(call, Call::Poke { .. }));
-        if is_poked || plan.id.starts_with("reprice") || plan.id.starts_with("call-huge") {
+        let is_poked = |call: &Call| matches!(call, Call::Poke { .. });
+        let other = ["reprice", "call-huge", "call-small"];
+        if plan.calls.iter().any(is_poked) || other.iter().any(|name| plan.id.starts_with(name)) {
             return;
         }
         let mut before: Option<State> = None;
