@@ -2,9 +2,9 @@
 -- proposed number is Whole and opening accepts". Assumes nothing.
 use mathlib.Core.Bool.{Bool, true, false}
 use mathlib.Core.List.{List, _++_}
-use Prim.Native.Nat.{ℕ, zero, suc, _+_}
+use Prim.Native.Nat.{ℕ, zero, suc, _+_, _*_, _≤_}
 use lib.Dec.{eqb}
-use lib.ListN.{take, drop, replicate}
+use lib.ListN.{length, take, drop, replicate}
 use lib.IntN.{ℤ, pos}
 use lib.Ieee.{Float}
 use Rattle.doubles.specs.Limits.{maxRows, maxColumns}
@@ -103,7 +103,20 @@ put a ys xs = take a xs ++ over ys (drop a xs)
 unfoldable pub sectionInto : ℕ → Staged → List ℤ → List ℤ
 sectionInto at g w = elim (isJudged (g .stage .audit)) [ true ↦ put at (sectionOf (g .sheet)) w | false ↦ w ]
 
--- what a stage and every cell lent to it settle, for its contract
+-- ---- for its contract. No size is over its limit, no array of the plan too short
+pub record Lends (p : Plan) : Type 0 where
+  pub rows-few : p .rows ≤ maxRows
+  pub cols-few : p .cols ≤ maxColumns
+  pub coefs-long : p .rows * p .cols ≤ length (p .coefs)
+  pub costs-long : p .cols ≤ length (p .costs)
+  pub lowers-long : p .cols ≤ length (p .lowers)
+  pub uppers-long : p .cols ≤ length (p .uppers)
+  pub lower-marks-long : p .cols ≤ length (p .lowerMarks)
+  pub upper-marks-long : p .cols ≤ length (p .upperMarks)
+  pub rhs-long : p .rows ≤ length (p .rhs)
+  pub ops-long : p .rows ≤ length (p .ops)
+
+-- what a stage and every cell lent to it settle
 pub record Left : Type 0 where
   pub stage : Stage
   pub arrays : Arrays
