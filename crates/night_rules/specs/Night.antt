@@ -10,6 +10,7 @@ use lib.Ieee.{Float}
 use Rattle.doubles.specs.Limits.{maxRows, maxColumns, maxEntries, maxCoefficient, maxRightSide}
 use Rattle.doubles.specs.Loop.{first}
 use Rattle.lu_factor_rules.specs.Packed.{factorNumbers, factorCoeffs}
+use Rattle.lu_packed.specs.Written.{written}
 use Rattle.sheet_rules.specs.Sum.{_‼_}
 use Rattle.sheet_rules.specs.Sheet.{Plan, Sheet, c}
 use Rattle.sheet_rules.specs.Opening.{within}
@@ -19,7 +20,7 @@ use Rattle.state.specs.Memory.{numbersEnd, doublesEnd}
 use Rattle.night_rules.specs.Doubles.{nonzeros, entryCount}
 use Rattle.night_rules.specs.Arrays.{Arrays}
 use Rattle.night_rules.specs.Second.{secondPlan}
-use Rattle.night_rules.specs.Stage.{Staged, stageOf, sectionCells, put, sectionInto}
+use Rattle.night_rules.specs.Stage.{Staged, stageOf, sectionCells, sectionInto}
 use Rattle.night_rules.specs.declared.Audit.{Audit}
 use Rattle.night_rules.specs.declared.Audit.the-variants.{NotRun, NotWhole, NotOpened, Judged}
 use Rattle.night_rules.specs.declared.Stage.{Stage}
@@ -131,15 +132,15 @@ called r a w = record { answer = r; arrays = a; whole = w }
 unfoldable pub handOut : Stage → List ℤ → Staged → List ℤ → Called
 handOut f x s w =
     elim (firstStands (s .stage .audit)) [
-      | true ↦ called (FirstStands f (s .stage)) (s .arrays) (put handedAt x w)
-      | false ↦ called (Handed f (s .stage)) (s .arrays) (put handedAt (s .sheet .plan .amounts) w)
+      | true ↦ called (FirstStands f (s .stage)) (s .arrays) (written handedAt x w)
+      | false ↦ called (Handed f (s .stage)) (s .arrays) (written handedAt (s .sheet .plan .amounts) w)
     ]
 
 unfoldable pub secondPart : NightPlan → Stage → List ℤ → ℤ → Arrays → List ℤ → Called
 secondPart n f x found a w =
     let q = secondPlan (n .plan) (n .reportCosts) found in
     let s = stageOf (n .budget) (n .tolerance) q a in
-    handOut f x s (sectionInto secondAt s (put coefsAt (q .coefs) w))
+    handOut f x s (sectionInto secondAt s (written coefsAt (q .coefs) w))
 
 -- ---- the whole call. The found cost is the first sheet's kept C
 unfoldable pub afterFirst : NightPlan → Staged → List ℤ → Called

@@ -4,11 +4,11 @@ use mathlib.Core.Bool.{Bool, true, false}
 use mathlib.Core.List.{List, _++_}
 use Prim.Native.Nat.{ℕ, zero, suc, _+_, _*_, _≤_}
 use lib.Dec.{eqb}
-use lib.ListN.{length, take, drop, replicate}
+use lib.ListN.{length, replicate}
 use lib.IntN.{ℤ, pos}
 use lib.Ieee.{Float}
 use Rattle.doubles.specs.Limits.{maxRows, maxColumns}
-use Rattle.doubles.specs.Lists.{over}
+use Rattle.lu_packed.specs.Written.{written}
 use Rattle.sheet_rules.specs.Sheet.{Plan, Kept, Sheet, planOf, keptOf, sheetOf}
 use Rattle.sheet_rules.specs.Opening.{opening, opened}
 use Rattle.sheet_rules.specs.Verdict.{verdict}
@@ -95,13 +95,9 @@ sectionOf s =
     let k = s .kept in
     s .plan .amounts ++ (s .plan .mults ++ (k .R ++ (k .D ++ (k .C ++ (k .B ++ k .counts)))))
 
--- xs with ys written from place a on
-abbrev pub put : {A : Type 0} → ℕ → List A → List A → List A
-put a ys xs = take a xs ++ over ys (drop a xs)
-
 -- written exactly when the sheet was opened
 unfoldable pub sectionInto : ℕ → Staged → List ℤ → List ℤ
-sectionInto at g w = elim (isJudged (g .stage .audit)) [ true ↦ put at (sectionOf (g .sheet)) w | false ↦ w ]
+sectionInto at g w = elim (isJudged (g .stage .audit)) [ true ↦ written at (sectionOf (g .sheet)) w | false ↦ w ]
 
 -- ---- for its contract. No size is over its limit, no array of the plan too short
 pub record Lends (p : Plan) : Type 0 where

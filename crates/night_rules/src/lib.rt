@@ -1,4 +1,8 @@
-// The night call's definitions and the types that they share with its code (02, Ask 14).
+// The night call's definitions, the types that they share with its code, and how sections are written (02, Ask 14).
+ghost use mathlib.Core.Path.{_≡_};
+ghost use Prim.Native.Nat.{_+_, _≤_};
+ghost use lib.ListN.{length};
+ghost use Rattle.lu_packed.specs.Written.{written};
 
 // What came of a stage's audit: nothing was proposed, as the run was refused or didn't end in 0; a proposed number isn't
 // whole; opening refused with this number; or the sheet was opened and judged.
@@ -58,3 +62,13 @@ pub const HANDED: usize = SECOND + SECTION;
 pub const COEFS: usize = HANDED + doubles::MAX_COLUMNS;
 
 pub const WHOLE: usize = COEFS + doubles::MAX_ROWS * doubles::MAX_COLUMNS;
+
+// An array over the cells of `to` from `at` on.
+pub fn put_cells(from: &[i64], at: usize, to: &mut [i64])
+    requires { ⌜ at + length (now from) ≤ length (now to) ⌝ }
+    ensures { λ _. ⌜ now (to .exit) ≡ written at (now (from .entry)) (now (to .entry)) ⌝ }
+{
+    for k in 0..from.len() {
+        to[at + k] = from[k];
+    }
+}

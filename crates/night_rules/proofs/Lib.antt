@@ -1,0 +1,2 @@
+-- Laws of the night's definitions.
+pub mod Arrays
