@@ -1,0 +1,2 @@
+-- What the conversion asks and leaves.
+pub mod Laid
