@@ -11,18 +11,19 @@ use lib.Seq.{drop-cons, set-at, append-snoc}
 use lib.IntN.{ℤ}
 use borrow.Author.Tests.{eq-eqb, ne-eqb}
 use lib.Ieee.{Float}
-use Rattle.doubles.specs.Num.{f0}
+use Rattle.doubles.specs.Num.{f0, +inf, -inf}
 use Rattle.doubles.specs.Limits.{maxEntries}
-use Rattle.doubles.specs.Lists.{over}
-use Rattle.doubles.specs.Loop.{run}
+use Rattle.doubles.specs.Lists.{_#_, over}
+use Rattle.doubles.specs.Loop.{run, table}
 use Rattle.doubles.proofs.Loops.{run-same}
 use Rattle.sheet_rules.specs.Sum.{_‼_}
-use Rattle.sheet_rules.specs.Sheet.{Plan, a}
+use Rattle.sheet_rules.specs.Sheet.{Plan, planOf, a}
 use Rattle.sheet_rules.specs.Verdict.{isZero}
 use Rattle.sheet_open.proofs.Laws.{cut, cut-long, cut-at}
 use Rattle.night_rules.specs.Doubles.{asDouble, boundOr, countCell, entryCell, nonzeros, Entries, entriesOf, rowEntries}
-use Rattle.night_rules.specs.Doubles.{startAt, entriesTo, entryCount}
+use Rattle.night_rules.specs.Doubles.{startAt, entriesTo, entryCount, doublesPlan}
 use Rattle.night_doubles.specs.Laid.{cellsOf, Blank, Laid, RowLaid}
+use Rattle.night_doubles.specs.Converted.{Zeroed, converted}
 
 -- ---- a turned test
 module _ {a b : Bool} (e : a ≡ b) where
@@ -189,3 +190,20 @@ pub none-laid : (m n : ℕ) (co : List ℤ) (l : List ℕ) (xs : List Float) →
 unfolding entriesTo run
 none-laid m n co l xs b =
     record { columns-counted = refl; values-counted = refl; columns-laid = b .columns-blank; values-laid = b .values-blank }
+
+-- ---- the whole plan
+module _ (p : Plan) {c₀ l₀ u₀ r₀ c l u r : List Float} {s₀ s ks : List ℕ} {xs : List Float} {k₀ : List ℕ} {x₀ : List Float}
+    (z : Zeroed c₀ l₀ u₀ s₀ k₀ x₀ r₀) {lo hi : Float} (low : lo ≡ -inf) (high : hi ≡ +inf)
+    (costs-are : c ≡ over (table (p .cols) (λ j. asDouble (p .costs ‼ j))) c₀)
+    (lowers-are : l ≡ over (table (p .cols) (λ j. boundOr lo (p .lowerMarks # j) (p .lowers ‼ j))) l₀)
+    (uppers-are : u ≡ over (table (p .cols) (λ j. boundOr hi (p .upperMarks # j) (p .uppers ‼ j))) u₀)
+    (starts-are : s ≡ over (table (p .rows + 1) (startAt (cellsOf (p .rows) (p .cols) (p .coefs)))) s₀)
+    (q : Laid (entriesTo (cellsOf (p .rows) (p .cols) (p .coefs)) (p .rows)) (entryCount (cellsOf (p .rows) (p .cols) (p .coefs))) ks xs)
+    (rhs-are : r ≡ over (table (p .rows) (λ i. asDouble (p .rhs ‼ i))) r₀) where
+  pub converted-is : converted (p .cols) (p .rows) (entryCount (cellsOf (p .rows) (p .cols) (p .coefs))) c l u s ks xs r
+      ≡ doublesPlan 0 f0 (planOf (p .rows) (p .cols) (p .coefs) (p .costs) (p .lowers) (p .uppers) (p .lowerMarks) (p .upperMarks) (p .rhs) [] [] [])
+  unfolding doublesPlan entryCount startAt entriesTo
+  converted-is = λ i.
+      converted (p .cols) (p .rows) (entryCount (cellsOf (p .rows) (p .cols) (p .coefs))) ((rw (z .costs-zero) at costs-are) i)
+      ((rw (low, z .lowers-zero) at lowers-are) i) ((rw (high, z .uppers-zero) at uppers-are) i) ((rw (z .starts-zero) at starts-are) i)
+      (q .columns-laid i) (q .values-laid i) ((rw (z .rhs-zero) at rhs-are) i)

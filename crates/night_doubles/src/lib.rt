@@ -4,12 +4,15 @@ ghost use mathlib.Core.Path.{_≡_};
 ghost use mathlib.Core.List.{[]};
 ghost use Prim.Native.Nat.{_+_, _*_, _≤_};
 ghost use lib.ListN.{length};
+ghost use Rattle.doubles.specs.Num.{f0};
 ghost use Rattle.doubles.specs.Limits.{maxRows, maxColumns, maxEntries};
 ghost use Rattle.doubles.specs.Lists.{_#_, over};
 ghost use Rattle.doubles.specs.Loop.{table};
 ghost use Rattle.sheet_rules.specs.Sum.{_‼_};
-ghost use Rattle.night_rules.specs.Doubles.{asDouble, boundOr, nonzeros, startAt, entriesTo, entryCount};
+ghost use Rattle.sheet_rules.specs.Sheet.{planOf};
+ghost use Rattle.night_rules.specs.Doubles.{asDouble, boundOr, nonzeros, startAt, entriesTo, entryCount, doublesPlan};
 ghost use Rattle.night_doubles.specs.Laid.{cellsOf, Blank, Laid, RowLaid};
+ghost use Rattle.night_doubles.specs.Converted.{Converts, Zeroed, converted};
 
 // How many coefficients of a row aren't 0.
 fn row_entries(row: &[i64]) -> usize
@@ -128,4 +131,40 @@ fn bounds(n: usize, absent: f64, marks: &[u8], xs: &[i64], out: &mut [f64])
         out[j] = bound_or(absent, marks[j], xs[j]);
         j += 1;
     }
+}
+
+// The whole plan, where its entries fit.
+pub fn convert(
+    rows: usize,
+    columns: usize,
+    coefs: &[i64],
+    costs: &[i64],
+    lowers: &[i64],
+    uppers: &[i64],
+    lower_marks: &[u8],
+    upper_marks: &[u8],
+    rhs: &[i64],
+    plan_costs: &mut [f64; doubles::MAX_COLUMNS],
+    plan_lowers: &mut [f64; doubles::MAX_COLUMNS],
+    plan_uppers: &mut [f64; doubles::MAX_COLUMNS],
+    starts: &mut [usize; doubles::MAX_ROWS + 1],
+    cols: &mut [usize; doubles::MAX_ENTRIES],
+    coeffs: &mut [f64; doubles::MAX_ENTRIES],
+    plan_rhs: &mut [f64; doubles::MAX_ROWS],
+)
+    requires { ⌜ Converts (planOf rows columns (now coefs) (now costs) (now lowers) (now uppers) (now «lower_marks»)
+        (now «upper_marks») (now rhs) [] [] []) ⌝ }
+    requires { ⌜ Zeroed (now «plan_costs») (now «plan_lowers») (now «plan_uppers») (now starts) (now cols) (now coeffs)
+        (now «plan_rhs») ⌝ }
+    ensures { λ _. ⌜ converted columns rows (entryCount (cellsOf rows columns (now (coefs .entry))))
+        (now («plan_costs» .exit)) (now («plan_lowers» .exit)) (now («plan_uppers» .exit)) (now (starts .exit))
+        (now (cols .exit)) (now (coeffs .exit)) (now («plan_rhs» .exit)) ≡ doublesPlan 0 f0
+        (planOf rows columns (now (coefs .entry)) (now (costs .entry)) (now (lowers .entry)) (now (uppers .entry))
+        (now («lower_marks» .entry)) (now («upper_marks» .entry)) (now (rhs .entry)) [] [] []) ⌝ }
+{
+    numbers(columns, costs, plan_costs);
+    bounds(columns, -doubles::infinity(), lower_marks, lowers, plan_lowers);
+    bounds(columns, doubles::infinity(), upper_marks, uppers, plan_uppers);
+    lay_rows(rows, columns, coefs, starts, cols, coeffs);
+    numbers(rows, rhs, plan_rhs);
 }
