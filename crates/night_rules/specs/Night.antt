@@ -53,28 +53,29 @@ abbrev pub wholeEnd : ℕ
 wholeEnd = coefsAt + maxRows * maxColumns
 
 -- ---- short memory: a lent array is too short for sizes that are within their limits
-unfoldable pub sizesIn : Plan → Bool
-sizesIn p = leb (p .rows) maxRows && leb (p .cols) maxColumns
+unfoldable pub sizesIn : ℕ → ℕ → Bool
+sizesIn rows columns = leb rows maxRows && leb columns maxColumns
 
-unfoldable pub planLong : NightPlan → Bool
-planLong n =
-    let p = n .plan in
+unfoldable pub planLong : Plan → List ℤ → Bool
+planLong p reportCosts =
     leb (p .rows * p .cols) (length (p .coefs))
-    && leb (p .cols) (length (p .costs)) && leb (p .cols) (length (n .reportCosts))
+    && leb (p .cols) (length (p .costs)) && leb (p .cols) (length reportCosts)
     && leb (p .cols) (length (p .lowers)) && leb (p .cols) (length (p .uppers))
     && leb (p .cols) (length (p .lowerMarks)) && leb (p .cols) (length (p .upperMarks))
     && leb (p .rows) (length (p .rhs)) && leb (p .rows) (length (p .ops))
 
 -- "values" for the second stage's rows too
-unfoldable pub memoryLong : NightPlan → Arrays → List ℤ → Bool
-memoryLong n a w =
-    leb (n .plan .cols + n .plan .rows + 1) (length (a .values))
+unfoldable pub memoryLong : ℕ → ℕ → Arrays → List ℤ → Bool
+memoryLong rows columns a w =
+    leb (columns + rows + 1) (length (a .values))
     && leb numbersEnd (length (a .numbers)) && leb doublesEnd (length (a .doubles))
     && leb factorNumbers (length (a .factorNumbers)) && leb factorCoeffs (length (a .factorCoeffs))
     && leb wholeEnd (length w)
 
 unfoldable pub enough : NightPlan → Arrays → List ℤ → Bool
-enough n a w = not (sizesIn (n .plan)) || (planLong n && memoryLong n a w)
+enough n a w =
+    let p = n .plan in
+    not (sizesIn (p .rows) (p .cols)) || (planLong p (n .reportCosts) && memoryLong (p .rows) (p .cols) a w)
 
 -- ---- the tests after the first stage: "the answer names the first of these, hands out no amounts and stops"
 unfoldable pub showsGap : Audit → Bool
