@@ -1,4 +1,5 @@
 -- The numbers that the face hands out for a stage and for the night. Assumes nothing.
+use mathlib.Core.List.{List}
 use Prim.Native.Nat.{ℕ}
 use lib.IntN.{ℤ, pos}
 use Rattle.doubles.specs.Num.{f0}
@@ -9,6 +10,8 @@ use Rattle.face.specs.declared.SheetVerdict.{SheetVerdict}
 use Rattle.face.specs.Face.{answer, answerNumbers}
 use Rattle.whole_face.specs.declared.TevalumiProposal.{TevalumiProposal}
 use Rattle.whole_face.specs.Numbers.{proposalFace, noCase, proposalNumbers}
+use Rattle.night_rules.specs.Arrays.{Arrays}
+use Rattle.night_rules.specs.Night.{Called}
 use Rattle.night_rules.specs.declared.Audit.{Audit}
 use Rattle.night_rules.specs.declared.Audit.the-variants.{NotRun, NotWhole, NotOpened, Judged}
 use Rattle.night_rules.specs.declared.Stage.{Stage}
@@ -67,3 +70,15 @@ nightNumbers (CostBeyond f j) = nightFace 0 4 j (stageNumbers f) noStage
 nightNumbers (FoundBeyond f) = nightFace 0 5 0 (stageNumbers f) noStage
 nightNumbers (FirstStands f g) = nightFace 0 6 0 (stageNumbers f) (stageNumbers g)
 nightNumbers (Handed f g) = nightFace 0 7 0 (stageNumbers f) (stageNumbers g)
+
+-- with every lent cell
+pub record Faced : Type 0 where
+  pub numbers : TevalumiNight
+  pub arrays : Arrays
+  pub whole : List ℤ
+
+abbrev pub faced : TevalumiNight → Arrays → List ℤ → Faced
+faced n a w = record { numbers = n; arrays = a; whole = w }
+
+abbrev pub facedBy : Called → Faced
+facedBy c = faced (nightNumbers (c .answer)) (c .arrays) (c .whole)
