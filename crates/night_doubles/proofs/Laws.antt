@@ -12,18 +12,20 @@ use lib.IntN.{ℤ}
 use borrow.Author.Tests.{eq-eqb, ne-eqb}
 use lib.Ieee.{Float}
 use Rattle.doubles.specs.Num.{f0, +inf, -inf}
-use Rattle.doubles.specs.Limits.{maxEntries}
+use Rattle.doubles.specs.Limits.{maxRows, maxColumns, maxEntries}
 use Rattle.doubles.specs.Lists.{_#_, over}
 use Rattle.doubles.specs.Loop.{run, table}
 use Rattle.doubles.proofs.Loops.{run-same}
 use Rattle.sheet_rules.specs.Sum.{_‼_}
 use Rattle.sheet_rules.specs.Sheet.{Plan, planOf, a}
 use Rattle.sheet_rules.specs.Verdict.{isZero}
+use Rattle.sheet_rules.proofs.Fronts.{over-length}
+use Rattle.rules.proofs.Lists.{over-long}
 use Rattle.sheet_open.proofs.Laws.{cut, cut-long, cut-at}
 use Rattle.night_rules.specs.Doubles.{asDouble, boundOr, countCell, entryCell, nonzeros, Entries, entriesOf, rowEntries}
 use Rattle.night_rules.specs.Doubles.{startAt, entriesTo, entryCount, doublesPlan}
 use Rattle.night_doubles.specs.Laid.{cellsOf, Blank, Laid, RowLaid}
-use Rattle.night_doubles.specs.Converted.{Zeroed, converted}
+use Rattle.night_doubles.specs.Converted.{Converts, Zeroed, Long, converted}
 
 -- ---- a turned test
 module _ {a b : Bool} (e : a ≡ b) where
@@ -207,3 +209,19 @@ module _ (p : Plan) {c₀ l₀ u₀ r₀ c l u r : List Float} {s₀ s ks : List
       converted (p .cols) (p .rows) (entryCount (cellsOf (p .rows) (p .cols) (p .coefs))) ((rw (z .costs-zero) at costs-are) i)
       ((rw (low, z .lowers-zero) at lowers-are) i) ((rw (high, z .uppers-zero) at uppers-are) i) ((rw (z .starts-zero) at starts-are) i)
       (q .columns-laid i) (q .values-laid i) ((rw (z .rhs-zero) at rhs-are) i)
+
+  -- what is written fits
+  tabled : {A : Type 0} (n : ℕ) (f : ℕ → A) (k : List A) {g g₀ : List A} → g ≡ over (table n f) g₀ → g₀ ≡ k → n ≤ length k → length g ≡ length k
+  tabled n f k e d h = ap length (rw d at e) ∙ over-long n f k h
+
+  pub converted-long : Converts p → Long c l u ks xs r
+  converted-long h =
+      let e = entriesTo (cellsOf (p .rows) (p .cols) (p .coefs)) (p .rows) in
+      record {
+        costs-long = tabled (p .cols) (λ j. asDouble (p .costs ‼ j)) (replicate maxColumns f0) costs-are (z .costs-zero) (h .cols-few);
+        lowers-long = tabled (p .cols) (λ j. boundOr lo (p .lowerMarks # j) (p .lowers ‼ j)) (replicate maxColumns f0) lowers-are (z .lowers-zero) (h .cols-few);
+        uppers-long = tabled (p .cols) (λ j. boundOr hi (p .upperMarks # j) (p .uppers ‼ j)) (replicate maxColumns f0) uppers-are (z .uppers-zero) (h .cols-few);
+        cols-long = ap length (q .columns-laid) ∙ over-length (e .columns) (replicate maxEntries 0) (omega (arith, q .columns-counted, h .entries-few));
+        coeffs-long = ap length (q .values-laid) ∙ over-length (e .values) (replicate maxEntries f0) (omega (arith, q .values-counted, h .entries-few));
+        rhs-long = tabled (p .rows) (λ i. asDouble (p .rhs ‼ i)) (replicate maxRows f0) rhs-are (z .rhs-zero) (h .rows-few);
+      }

@@ -38,3 +38,12 @@ pub record Zeroed (costs lowers uppers : List Float) (starts cols : List ℕ) (c
 abbrev pub converted : ℕ → ℕ → ℕ → List Float → List Float → List Float → List ℕ → List ℕ → List Float → List Float → Rules.Plan
 converted n m e costs lowers uppers starts cols coeffs rhs =
     planOf n m e 0 f0 costs lowers uppers starts cols coeffs [] rhs
+
+-- no array's length changes
+pub record Long (costs lowers uppers : List Float) (cols : List ℕ) (coeffs rhs : List Float) : Type 0 where
+  pub costs-long : length costs ≡ maxColumns
+  pub lowers-long : length lowers ≡ maxColumns
+  pub uppers-long : length uppers ≡ maxColumns
+  pub cols-long : length cols ≡ maxEntries
+  pub coeffs-long : length coeffs ≡ maxEntries
+  pub rhs-long : length rhs ≡ maxRows

@@ -12,7 +12,7 @@ ghost use Rattle.sheet_rules.specs.Sum.{_‼_};
 ghost use Rattle.sheet_rules.specs.Sheet.{planOf};
 ghost use Rattle.night_rules.specs.Doubles.{asDouble, boundOr, nonzeros, startAt, entriesTo, entryCount, doublesPlan};
 ghost use Rattle.night_doubles.specs.Laid.{cellsOf, Blank, Laid, RowLaid};
-ghost use Rattle.night_doubles.specs.Converted.{Converts, Zeroed, converted};
+ghost use Rattle.night_doubles.specs.Converted.{Converts, Zeroed, Long, converted};
 
 // How many coefficients of a row aren't 0.
 fn row_entries(row: &[i64]) -> usize
@@ -161,6 +161,8 @@ pub fn convert(
         (now (cols .exit)) (now (coeffs .exit)) (now («plan_rhs» .exit)) ≡ doublesPlan 0 f0
         (planOf rows columns (now (coefs .entry)) (now (costs .entry)) (now (lowers .entry)) (now (uppers .entry))
         (now («lower_marks» .entry)) (now («upper_marks» .entry)) (now (rhs .entry)) [] [] []) ⌝ }
+    ensures { λ _. ⌜ Long (now («plan_costs» .exit)) (now («plan_lowers» .exit)) (now («plan_uppers» .exit))
+        (now (cols .exit)) (now (coeffs .exit)) (now («plan_rhs» .exit)) ⌝ }
 {
     numbers(columns, costs, plan_costs);
     bounds(columns, -doubles::infinity(), lower_marks, lowers, plan_lowers);

@@ -4,7 +4,7 @@ use Rattle.sheet_rules.specs.Sheet.{planOf}
 use mathlib.Core.List.{[]}
 use lib.ListN.{length}
 use lib.Ieee.{neg}
-use Rattle.night_doubles.proofs.Laws.{converted-is}
+use Rattle.night_doubles.proofs.Laws.{converted-is, converted-long}
 use borrow.Author.Needs.{needs}
 use Rattle.night_doubles.proofs.convert.Statement.{statement}
 use Rattle.night_doubles.proofs.convert.Tie as tie
@@ -43,10 +43,12 @@ returns c =
     let lowers = hi .before in
     let lo = lowers .before .before in
     let costs = lo .before in
-    converted-is
-    (planOf (a .rows) (a .columns) (a .coefs .now) (a .costs .now) (a .lowers .now) (a .uppers .now) (a .lower-marks .now) (a .upper-marks .now) (a .rhs .now) [] [] [])
-    (s .pre .1) (ap neg (lo .infinity .ensures)) (hi .infinity2 .ensures) (costs .numbers .ensures) (lowers .bounds .ensures) (uppers .bounds2 .ensures)
-    (rows .lay-rows .ensures .0) (rows .lay-rows .ensures .1) (c .numbers2 .ensures)
+    let q = planOf (a .rows) (a .columns) (a .coefs .now) (a .costs .now) (a .lowers .now) (a .uppers .now) (a .lower-marks .now) (a .upper-marks .now) (a .rhs .now) [] [] [] in
+    let low = ap neg (lo .infinity .ensures) in
+    (converted-is q (s .pre .1) low (hi .infinity2 .ensures) (costs .numbers .ensures) (lowers .bounds .ensures) (uppers .bounds2 .ensures)
+    (rows .lay-rows .ensures .0) (rows .lay-rows .ensures .1) (c .numbers2 .ensures),
+    converted-long q (s .pre .1) low (hi .infinity2 .ensures) (costs .numbers .ensures) (lowers .bounds .ensures) (uppers .bounds2 .ensures)
+    (rows .lay-rows .ensures .0) (rows .lay-rows .ensures .1) (c .numbers2 .ensures) (s .pre .0))
 
 pub convert-spec : {M : Type 1} → statement M
 convert-spec =
