@@ -1,2 +1,3 @@
 -- Laws of the night's definitions.
 pub mod Arrays
+pub mod Doubles
