@@ -60,6 +60,21 @@ pub enum Case {
     SecondHanded,
 }
 
+impl Case {
+    /// The header's number of the case.
+    pub const fn number(self) -> u8 {
+        match self {
+            Case::NoGap => 1,
+            Case::RowsFull => 2,
+            Case::EntriesFull => 3,
+            Case::CostBeyond(_) => 4,
+            Case::FoundBeyond => 5,
+            Case::FirstStands => 6,
+            Case::SecondHanded => 7,
+        }
+    }
+}
+
 impl fmt::Display for Case {
     fn fmt(&self, f: &mut fmt::Formatter<'_>) -> fmt::Result {
         match self {
