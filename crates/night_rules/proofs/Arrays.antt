@@ -1,5 +1,5 @@
 -- The solver's arrays as a solve leaves them. Assumes nothing.
-use mathlib.Core.Path.{_≡_, refl, sym, ap, _∙_}
+use mathlib.Core.Path.{_≡_, ap, _∙_}
 use mathlib.Core.List.{List, _++_}
 use Prim.Native.Nat.{ℕ, _+_}
 use lib.ListN.{drop}
@@ -11,9 +11,9 @@ use Rattle.rules.specs.declared.Answer.{Answer}
 use Rattle.state.specs.Packed.{section, basicVarsAt, nbVarsAt, varStatesAt, flagCellsAt, etaLeavingAt, etaStartsAt}
 use Rattle.state.specs.Packed.{etaRowsAt, keptAt, countsAt, basicVarValsAt, nbVarValsAt, pricesAt, normsAt, etaCoeffsAt}
 use Rattle.state.specs.Packed.{dualNormsAt, objectiveAt}
-use Rattle.state.specs.Memory.{memoryIn, pastOf, Handed, handed, answered}
+use Rattle.state.specs.Memory.{memoryIn, pastOf, handed, answered}
 use Rattle.state.proofs.Sections.{glue}
-use Rattle.night_rules.specs.Arrays.{Arrays, arraysOf, memory, past, numbersOf, doublesOf, inArrays, Ran, ran, ranBy, runOn}
+use Rattle.night_rules.specs.Arrays.{Arrays, arraysOf, memory, past, numbersOf, doublesOf, inArrays, ran, ranBy, runOn}
 
 -- from place a on, a section and then what follows it
 next : {A : Type 0} (a k : ℕ) (xs : List A) {rest : List A} → drop (a + k) xs ≡ rest

@@ -4,7 +4,7 @@ use mathlib.Core.List.{List, _++_}
 use Prim.Native.Nat.{ℕ}
 use lib.Ieee.{Float}
 use Rattle.rules.specs.Plan.{Plan, Memory}
-use Rattle.rules.specs.Solve.{Solved, solvePlan}
+use Rattle.rules.specs.Solve.{solvePlan}
 use Rattle.rules.specs.declared.Answer.{Answer}
 use Rattle.state.specs.Memory.{memoryIn, Past, pastOf, Handed, handed}
 

@@ -4,3 +4,4 @@ pub mod Arrays
 pub mod Second
 pub mod Stage
 pub mod Night
+pub mod Words

@@ -12,9 +12,8 @@ use Rattle.doubles.specs.Loop.{first}
 use Rattle.lu_factor_rules.specs.Packed.{factorNumbers, factorCoeffs}
 use Rattle.lu_packed.specs.Written.{written}
 use Rattle.sheet_rules.specs.Sum.{_‼_}
-use Rattle.sheet_rules.specs.Sheet.{Plan, Sheet, c}
+use Rattle.sheet_rules.specs.Sheet.{Plan, c}
 use Rattle.sheet_rules.specs.Opening.{within}
-use Rattle.sheet_rules.specs.declared.Verdict.{Verdict}
 use Rattle.sheet_rules.specs.declared.Verdict.the-variants.{NoneExists, NotPlan, NoFloor, Gap, Refused}
 use Rattle.state.specs.Memory.{numbersEnd, doublesEnd}
 use Rattle.night_rules.specs.Doubles.{nonzeros, entryCount}

@@ -1,7 +1,7 @@
 -- The second stage's plan. 02, Ask 14: "add the row "alarm cost at most what was found", and solve with the report
 -- costs". Assumes nothing.
 use mathlib.Core.List.{List, [], _∷_, _++_}
-use Prim.Native.Nat.{ℕ, _+_, _*_}
+use Prim.Native.Nat.{_+_, _*_}
 use lib.ListN.{take}
 use lib.IntN.{ℤ}
 use Rattle.sheet_rules.specs.Sheet.{Plan, planOf}

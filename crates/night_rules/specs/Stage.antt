@@ -15,7 +15,7 @@ use Rattle.sheet_rules.specs.Verdict.{verdict}
 use Rattle.rules.specs.Plan as Rules
 use Rattle.rules.specs.Answers.{numberOf}
 use Rattle.rules.specs.declared.Answer.{Answer}
-use Rattle.whole_propose.specs.Propose.{Lent, lentOf, Handed, isProposed, proposed}
+use Rattle.whole_propose.specs.Propose.{Lent, lentOf, isProposed, proposed}
 use Rattle.whole_propose.specs.declared.Proposal.{Proposal}
 use Rattle.night_rules.specs.Doubles.{doublesPlan}
 use Rattle.night_rules.specs.Arrays.{Arrays, Ran, runOn}
