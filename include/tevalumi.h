@@ -561,6 +561,80 @@ TevalumiProposal tevalumi_propose(
     int64_t *amounts, size_t amounts_len,
     int64_t *mults, size_t mults_len);
 
+/* ---- The night: alarms first, then the rest ----
+ * A plan in whole numbers with two sets of costs. It is solved with the alarm costs alone, rounded and audited; then
+ * the row "alarm cost at most what was found" is added, and it is solved with the report costs. So no amounts that are
+ * handed out cost more alarms than the first stage's, and those cost at most the first gap more than the least possible.
+ *
+ * A stage: the answer of its run, as of tevalumi_solve, and
+ * audit     0 nothing was proposed, since the run was refused or didn't end in 0
+ *           1 a proposed number isn't whole: proposal says which
+ *           2 opening the sheet was refused with the number in opening
+ *           3 the sheet was opened: verdict is what it says
+ * A stage that wasn't run is all zeros. */
+typedef struct {
+    TevalumiAnswer run;
+    size_t audit;
+    size_t opening;
+    TevalumiProposal proposal;
+    SheetVerdict verdict;
+} TevalumiStage;
+
+/* status  0; 1 a lent array is too short, and nothing is changed
+ * kind    on status 0; with 1 to 5 no amounts are handed out, and the first that applies is given:
+ *         1 the first audit shows no gap       2 the plan has 96 rows already
+ *         3 the new row would pass 2,048 entries
+ *         4 an alarm cost is above 4,096 in size, that of column first
+ *         5 the found alarm cost is above 2^31 in size
+ *         6 the first stage's amounts are handed out: the second's sheet wasn't opened, or says "not a plan" or "none
+ *           exists"
+ *         7 the second stage's amounts are handed out */
+typedef struct {
+    size_t status;
+    size_t kind;
+    size_t column;
+    TevalumiStage first;
+    TevalumiStage second;
+} TevalumiNight;
+
+/* Sections of whole: for each stage whose sheet was opened its amounts, multipliers and kept numbers; the amounts that
+ * are handed out; the second stage's coefficients. All other cells stay. */
+#define TEVALUMI_STAGE_AMOUNTS 0
+#define TEVALUMI_STAGE_MULTS (TEVALUMI_STAGE_AMOUNTS + 128)
+#define TEVALUMI_STAGE_R (TEVALUMI_STAGE_MULTS + 96)
+#define TEVALUMI_STAGE_D (TEVALUMI_STAGE_R + 96)
+#define TEVALUMI_STAGE_C (TEVALUMI_STAGE_D + 128)
+#define TEVALUMI_STAGE_B (TEVALUMI_STAGE_C + 1)
+#define TEVALUMI_STAGE_COUNTS (TEVALUMI_STAGE_B + 1)
+#define TEVALUMI_STAGE (TEVALUMI_STAGE_COUNTS + 4)
+#define TEVALUMI_FIRST 0
+#define TEVALUMI_SECOND (TEVALUMI_FIRST + TEVALUMI_STAGE)
+#define TEVALUMI_HANDED (TEVALUMI_SECOND + TEVALUMI_STAGE)
+#define TEVALUMI_COEFS (TEVALUMI_HANDED + 128)
+#define TEVALUMI_WHOLE (TEVALUMI_COEFS + 96 * 128)
+
+/* Read: the plan's arrays as of tevalumi_open, with two costs for each column; budget and tolerance of each stage's run.
+ * Written: the solver's memory, as of tevalumi_solve, by both stages one after the other: values needs columns + rows + 1
+ * cells; whole, TEVALUMI_WHOLE cells. */
+TevalumiNight tevalumi_night(
+    size_t rows, size_t columns,
+    const int64_t *coefs, size_t coefs_len,
+    const int64_t *alarm_costs, size_t alarm_costs_len,
+    const int64_t *report_costs, size_t report_costs_len,
+    const int64_t *lowers, size_t lowers_len,
+    const int64_t *uppers, size_t uppers_len,
+    const uint8_t *lower_marks, size_t lower_marks_len,
+    const uint8_t *upper_marks, size_t upper_marks_len,
+    const int64_t *rhs, size_t rhs_len,
+    const uint8_t *ops, size_t ops_len,
+    size_t budget, double tolerance,
+    double *values, size_t values_len,
+    size_t *numbers, size_t numbers_len,
+    double *doubles, size_t doubles_len,
+    size_t *factor_numbers, size_t factor_numbers_len,
+    double *factor_coeffs, size_t factor_coeffs_len,
+    int64_t *whole, size_t whole_len);
+
 #ifdef __cplusplus
 }
 #endif

@@ -44,7 +44,7 @@ impl Cell for u8 {
 }
 
 /// Equal to the bit. It never leaves early, so that it is quick in an emulator too.
-fn same<T: Cell>(ours: &[T], theirs: &[T]) -> bool {
+pub(crate) fn same<T: Cell>(ours: &[T], theirs: &[T]) -> bool {
     let differing = |(ours, theirs): (&T, &T)| ours.bits() ^ theirs.bits();
     ours.iter()
         .zip(theirs)

@@ -10,6 +10,7 @@ pub mod lent;
 /// The calls of the library, as the Rust crate over it has them.
 #[path = "../../bindings/rust/src/ffi.rs"]
 mod library;
+pub mod nights;
 pub mod plans;
 /// Where the sections of a solve's four arrays stand, as the Rust crate has them.
 #[path = "../../bindings/rust/src/sections.rs"]

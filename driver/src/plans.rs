@@ -124,7 +124,7 @@ fn told(length: u64, needed: usize) -> usize {
 
 /// The plan's arrays as lent to be read.
 #[derive(Clone)]
-struct Given {
+pub(crate) struct Given {
     costs: Lent<f64>,
     lowers: Lent<f64>,
     uppers: Lent<f64>,
@@ -136,7 +136,7 @@ struct Given {
 }
 
 impl Given {
-    fn of(plan: &Plan) -> Given {
+    pub fn of(plan: &Plan) -> Given {
         let places = |from: &[u64]| from.iter().map(|&n| n as usize).collect::<Vec<_>>();
         // A comparison is a byte here; every one above 2 is as unknown as 255.
         let ops: Vec<u8> = plan.ops.iter().map(|&op| op.min(255) as u8).collect();
@@ -166,12 +166,12 @@ impl Given {
 
 /// The memory lent to be written: marked cells, so that every change shows.
 #[derive(Clone)]
-struct Memory {
-    values: Lent<f64>,
-    numbers: Lent<usize>,
-    doubles: Lent<f64>,
-    factor_numbers: Lent<usize>,
-    factor_coeffs: Lent<f64>,
+pub(crate) struct Memory {
+    pub values: Lent<f64>,
+    pub numbers: Lent<usize>,
+    pub doubles: Lent<f64>,
+    pub factor_numbers: Lent<usize>,
+    pub factor_coeffs: Lent<f64>,
 }
 
 /// How much of the state an answer of 0 or 20 to 26 wrote.
@@ -287,7 +287,7 @@ fn past(section: Range<usize>, written: usize) -> Range<usize> {
 }
 
 impl Memory {
-    fn marked(lengths: &Lengths) -> Memory {
+    pub fn marked(lengths: &Lengths) -> Memory {
         Memory {
             values: Lent::marked(lengths.values),
             numbers: Lent::marked(lengths.numbers),
@@ -322,7 +322,7 @@ impl Memory {
         }
     }
 
-    fn solve(&mut self, plan: &Plan, given: &Given) -> Answer {
+    pub fn solve(&mut self, plan: &Plan, given: &Given) -> Answer {
         over!(tevalumi_solve, plan, given, self,)
     }
 
@@ -554,16 +554,21 @@ impl Memory {
 
 /// A matrix by columns.
 #[derive(PartialEq)]
-struct Columns {
-    starts: Vec<usize>,
-    rows: Vec<usize>,
-    vals: Vec<f64>,
+pub(crate) struct Columns {
+    pub starts: Vec<usize>,
+    pub rows: Vec<usize>,
+    pub vals: Vec<f64>,
 }
 
 impl Columns {
     /// 02's transpose: a column lists its entries by falling column number of the original. None where the starts
     /// or rows are out of range.
-    fn transposed(size: usize, starts: &[usize], rows: &[usize], vals: &[f64]) -> Option<Columns> {
+    pub fn transposed(
+        size: usize,
+        starts: &[usize],
+        rows: &[usize],
+        vals: &[f64],
+    ) -> Option<Columns> {
         let mut columns = vec![vec![]; size];
         for col in (0..size).rev() {
             let cells = starts[col]..starts[col + 1];

@@ -15,7 +15,7 @@ const MULTIPLIER: u128 = 1 << 20;
 
 /// A double's case. Of the double that is beyond, its bits.
 #[derive(Clone, Copy, Debug, PartialEq)]
-enum Case {
+pub enum Case {
     Whole(i64),
     Beyond(u64),
     NotANumber,
@@ -123,11 +123,11 @@ fn case(x: f64, times: u128, turned: bool, limit: u128, beyond: f64) -> Case {
     }
 }
 
-fn amount(x: f64) -> Case {
+pub(crate) fn amount(x: f64) -> Case {
     case(x, 1, false, AMOUNT, x)
 }
 
-fn multiplier(op: u8, price: f64) -> Case {
+pub(crate) fn multiplier(op: u8, price: f64) -> Case {
     match case(price, 1024, true, MULTIPLIER, -1024.0 * price) {
         Case::Whole(w) if (op == 0 && w > 0) || (op >= 2 && w < 0) => Case::Whole(0),
         other => other,

@@ -88,6 +88,29 @@ pub(crate) struct Proposal {
     pub answer: Whole,
 }
 
+/// One stage of a night: audit 0 is not run, 1 not whole, 2 not opened, 3 judged.
+#[repr(C)]
+#[derive(Clone, Copy, Debug)]
+pub(crate) struct Stage {
+    pub run: Answer,
+    pub audit: usize,
+    pub opening: usize,
+    pub proposal: Proposal,
+    pub verdict: SheetVerdict,
+}
+
+/// What `tevalumi_night` answers: kind 1 to 5 are the stops after the first stage, 6 the first's amounts stand, 7 the
+/// second's are handed out.
+#[repr(C)]
+#[derive(Clone, Copy, Debug)]
+pub(crate) struct Night {
+    pub status: usize,
+    pub kind: usize,
+    pub column: usize,
+    pub first: Stage,
+    pub second: Stage,
+}
+
 /// Makes the safe function of a call. Its arguments move one by one from the last list to three
 /// others: as the function takes them, as C declares them, and as they are handed over.
 macro_rules! call {
@@ -328,4 +351,16 @@ call! {
         values: &[f64], numbers: &[usize], doubles: &[f64],
         amounts: &mut [i64], mults: &mut [i64],
     ) -> Proposal
+}
+
+call! {
+    /// Runs a night: writes the solver's memory and the stages' sections.
+    fn tevalumi_night(
+        rows: usize, columns: usize,
+        coefs: &[i64], alarm_costs: &[i64], report_costs: &[i64], lowers: &[i64], uppers: &[i64],
+        lower_marks: &[u8], upper_marks: &[u8], rhs: &[i64], ops: &[u8],
+        budget: usize, tolerance: f64,
+        values: &mut [f64], numbers: &mut [usize], doubles: &mut [f64],
+        factor_numbers: &mut [usize], factor_coeffs: &mut [f64], whole: &mut [i64],
+    ) -> Night
 }

@@ -16,6 +16,7 @@ sheet in whole numbers that bounds how much cheaper any other plan could be.
 | [`sheet`] | whoever must say, after a bad night, whether a plan was the cheapest one |
 | [`proposals`] | whoever wants the best whole plan near a run's doubles |
 | [`why`] | whoever must say why there was no plan at all |
+| [`night`] | whoever must send alarms first, and then the rest |
 | [`raw`], [`triangle`] | firmware: the library's calls over lent memory, without allocation |
 
 # Example
@@ -102,6 +103,7 @@ The static library `libtevalumi.a` is looked for in `target/staticlib` of the re
 
 mod ffi;
 mod mps;
+pub mod night;
 mod problem;
 pub mod proposals;
 pub mod raw;

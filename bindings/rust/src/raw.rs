@@ -258,7 +258,7 @@ pub struct Answer {
 }
 
 impl Answer {
-    fn from_numbers(from: ffi::Answer) -> Answer {
+    pub(crate) fn from_numbers(from: ffi::Answer) -> Answer {
         let status = Status::from_number(from.status)
             .expect("the library answers with one of document 01's numbers");
         let place = match from.place {
@@ -669,6 +669,17 @@ pub enum Verdict {
     NoneExists,
 }
 
+impl Verdict {
+    pub(crate) fn told(from: ffi::SheetVerdict) -> Verdict {
+        match from.kind {
+            0 => Verdict::NotAPlan,
+            1 => Verdict::NoFloor,
+            3 => Verdict::NoneExists,
+            _ => Verdict::Gap(from.value),
+        }
+    }
+}
+
 /// A sheet's arrays, lent to be opened and edited.
 ///
 /// Needed are `rows * columns` coefficients, row by row; `columns` costs, bounds, marks, amounts
@@ -1072,11 +1083,6 @@ impl SheetRef<'_> {
             self.counts,
         );
         Refusal::check(verdict.status)?;
-        Ok(match verdict.kind {
-            0 => Verdict::NotAPlan,
-            1 => Verdict::NoFloor,
-            3 => Verdict::NoneExists,
-            _ => Verdict::Gap(verdict.value),
-        })
+        Ok(Verdict::told(verdict))
     }
 }

@@ -77,6 +77,24 @@ pub enum NotProposed {
     },
 }
 
+impl NotProposed {
+    /// None where all is proposed.
+    pub(crate) fn told(told: ffi::Proposal) -> Option<NotProposed> {
+        let (place, case) = (told.place, Rounded::told(told.answer));
+        match (told.status, told.kind) {
+            (0, 0) => None,
+            (0, 1) => Some(NotProposed::Nothing),
+            (0, 2) => Some(NotProposed::Amount {
+                column: place,
+                case,
+            }),
+            (0, _) => Some(NotProposed::Multiplier { row: place, case }),
+            (1, _) => Some(NotProposed::BadSize),
+            _ => Some(NotProposed::BadMaps),
+        }
+    }
+}
+
 impl fmt::Display for NotProposed {
     fn fmt(&self, f: &mut fmt::Formatter<'_>) -> fmt::Result {
         match self {
@@ -133,18 +151,7 @@ pub fn propose_into(
         amounts,
         mults,
     );
-    let (place, case) = (told.place, Rounded::told(told.answer));
-    match (told.status, told.kind) {
-        (0, 0) => Ok(()),
-        (0, 1) => Err(NotProposed::Nothing),
-        (0, 2) => Err(NotProposed::Amount {
-            column: place,
-            case,
-        }),
-        (0, _) => Err(NotProposed::Multiplier { row: place, case }),
-        (1, _) => Err(NotProposed::BadSize),
-        _ => Err(NotProposed::BadMaps),
-    }
+    NotProposed::told(told).map_or(Ok(()), Err)
 }
 
 /// Whole amounts and multipliers, as [`crate::sheet::Figures`] has them.

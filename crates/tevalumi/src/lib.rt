@@ -16,6 +16,7 @@ ghost use Rattle.face.specs.Face.{triResult, sheetNumbers, faced, facedBy};
 mod files;
 mod fixes;
 mod journals;
+mod nights;
 mod wholes;
 
 // with_diag 0: all ones on the diagonal, and diag isn't read.

@@ -5,6 +5,7 @@ use std::ffi::{OsStr, OsString};
 use super::desk::Act;
 use super::plan::{shown, Plan};
 use super::source::Format;
+use super::units::MOST_GROUPS;
 use super::Task;
 
 #[derive(Clone, Debug)]
@@ -40,6 +41,8 @@ pub struct Request {
     /// What `what-if` changes, and the journal's file.
     pub sets: Vec<String>,
     pub journal: OsString,
+    /// The groups whose columns `night` plans first; none: all are planned at once.
+    pub alarms: Vec<String>,
     /// How `night` tells.
     pub groups: Vec<String>,
     pub short: bool,
@@ -76,7 +79,9 @@ usage: tevalumi solve FILE    solve a plan and print its values
        tevalumi replay FILE JOURNAL [-o PLAN.tev]
                               make the journal's changes on the plan's sheet again
        tevalumi night FILE    which unit gets what it wants, and how good the plan is
-       tevalumi night         the bundled frost night, once with each set of costs
+       tevalumi night FILE --alarms GROUP
+                              alarms first, then the rest, and how good each of the two is
+       tevalumi night         the bundled frost night, with its prices and with alarms first
        tevalumi COMMAND --help
 
 exit status: 0 Optimal; 1 refused (answers 1 to 7; a change of the sheet: 11 to 16, 35 to 37);
@@ -238,6 +243,7 @@ exit status: 0 done; else as for `tevalumi what-if`
 
 pub const HELP_NIGHT: &str = "\
 usage: tevalumi night [OPTIONS] FILE
+       tevalumi night [OPTIONS] FILE --alarms GROUP[,GROUP]
        tevalumi night [--ascii] [--sheets] [--html FILE] [--json]
 
 With FILE: solves and audits that plan and tells which unit gets how much of what it wants. Columns
@@ -245,11 +251,23 @@ are named GROUP.UNIT, such as alarm.A01 and soil.A01. A column wants as much as 
 as an \"at most\" row of it alone. The first three lines have the answer: who is cut, what the plan
 costs, and how much cheaper another could be.
 
+With --alarms: alarms first, then the rest, by one proved call. The plan is solved with the costs of
+these groups' columns alone, rounded and audited. Then the row \"alarm cost at most what was found\"
+is added, and it is solved with all other costs, those of the reports. So the alarms that are handed
+out are never worth less than the first stage's, and by at most the first gap less than any plan's.
+The answer: who is cut, how good the alarms are, how good the reports are beside them; then which
+rows are full and what the alarms take of each. The plan has to be in whole numbers within the
+limits of `tevalumi audit`. Nothing is handed out, and it is said why, where (1) the alarms' audit
+shows no gap, (2) the plan has 96 rows, (3) the alarms' row would pass 2,048 entries, (4) an alarm
+cost is over 4,096 in size or (5) what was found is over 2^31. The alarms' own amounts are handed
+out where (6) the second stage gives no plan; else (7) the second stage's.
+
 Without: tells the bundled frost night. Alarms and soil reports share the air of a quarter hour; the
-same plan is solved and audited with the costs that lost the alarms and with alarms priced first.
+same plan is solved and audited with the costs that lost the alarms, and with alarms first.
 
 options:
-  --groups A,B one to three groups (alarm,soil)
+  --alarms A,B one to three groups whose columns are planned first
+  --groups A,B one to three groups to tell of (alarm,soil; with --alarms these, then the others)
   --short      at most 24 lines of 80 columns: the units that are cut most
   --ascii      draw the bars with # and .
   --sheets     print the audit sheets in full, as `tevalumi audit` would
@@ -259,7 +277,8 @@ options:
   `tevalumi solve`
 
 exit status: as for `tevalumi audit`; 4 too where the plan isn't in whole numbers; 2 too where no
-             column has such a name
+             column has such a name. With --alarms: 0 both audits show a gap; 1 and 3 the alarms
+             alone are refused or not solved; 4 every other answer; 2 as for `tevalumi audit`
 ";
 
 /// What is wrong with the command line.
@@ -340,7 +359,9 @@ fn night(args: &[OsString]) -> Result<Command, Usage> {
                 bundled.html.clone_from(file);
             }
             _ => {
-                let own = ["--ascii", "--sheets", "--short", "--groups", "--html"];
+                let own = [
+                    "--ascii", "--sheets", "--short", "--groups", "--alarms", "--html",
+                ];
                 return Ok(Command::Plans(Task::Night, request(args, &own)?));
             }
         }
@@ -408,7 +429,8 @@ fn request(args: &[OsString], own: &[&str]) -> Result<Request, Usage> {
             "--short" if own.contains(&option) => request.short = true,
             "--ascii" if own.contains(&option) => request.ascii = true,
             "--sheets" if own.contains(&option) => request.sheets = true,
-            "--groups" if own.contains(&option) => request.groups = groups(&value()?)?,
+            "--groups" if own.contains(&option) => request.groups = groups(option, &value()?)?,
+            "--alarms" if own.contains(&option) => request.alarms = groups(option, &value()?)?,
             "--set" if own.contains(&option) => request.sets.push(value()?),
             "--fix" if own.contains(&option) => request.fixes.push(value()?),
             "-o" | "--journal" | "--html" | "--sol" if own.contains(&option) => {
@@ -457,14 +479,14 @@ fn max_size(word: &str) -> Result<usize, Usage> {
 }
 
 /// One to three, parted by commas: more don't fit beside each other.
-fn groups(word: &str) -> Result<Vec<String>, Usage> {
+fn groups(option: &str, word: &str) -> Result<Vec<String>, Usage> {
     let groups: Vec<String> = word
         .split(',')
         .map(|group| group.trim().to_string())
         .collect();
-    match groups.len() > 3 || groups.iter().any(String::is_empty) {
+    match groups.len() > MOST_GROUPS || groups.iter().any(String::is_empty) {
         true => Err(format!(
-            "expected one to three names, parted by commas, behind --groups, found `{}`",
+            "expected one to three names, parted by commas, behind {option}, found `{}`",
             shown(word)
         )),
         false => Ok(groups),

@@ -104,7 +104,12 @@ fn propose(plan: &Plan, solved: &Solved, figures: &mut Figures) -> Result<(), St
     figures.mults = vec![0; plan.rows];
     let (amounts, mults) = (&mut figures.amounts, &mut figures.mults);
     let proposed = propose_into(&lent(plan), &solved.values, &solved.work, amounts, mults);
-    proposed.map_err(|why| match why {
+    proposed.map_err(|why| not_proposed(plan, why))
+}
+
+/// The first number that isn't whole, by name.
+pub fn not_proposed(plan: &Plan, why: NotProposed) -> String {
+    match why {
         NotProposed::Amount { column, case } => {
             let what = format!("the amount of column {}", plan.column_name(column));
             not_whole(&what, case, limits::SHEET_AMOUNT)
@@ -115,7 +120,7 @@ fn propose(plan: &Plan, solved: &Solved, figures: &mut Figures) -> Result<(), St
             not_whole(&what, case, limits::SHEET_MULTIPLIER)
         }
         other => other.to_string(),
-    })
+    }
 }
 
 fn not_whole(what: &str, case: Rounded, most: i64) -> String {

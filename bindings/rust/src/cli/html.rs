@@ -140,7 +140,8 @@ impl Page {
         self.text(words);
     }
 
-    fn head(&mut self, title: &str) {
+    /// A heading.
+    pub fn head(&mut self, title: &str) {
         self.body += &format!("<h2>{}</h2>\n", escaped(title));
     }
 

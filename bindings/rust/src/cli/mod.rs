@@ -17,6 +17,7 @@ pub mod report;
 pub mod show;
 pub mod sol;
 pub mod source;
+pub mod stages;
 pub mod text;
 pub mod units;
 pub mod why;
@@ -99,20 +100,25 @@ fn bundled(request: &Request, files: &dyn Files) -> Outcome {
     }
 }
 
-/// Its two plans as `night FILE --json` tells each; they have no file's name, and the page is written.
+/// Its plan as `night FILE --json` tells it, then with `--alarms`; it has no file's name, and the page is written.
 fn bundled_json(request: &Request, files: &dyn Files) -> Outcome {
-    let mut plans = Vec::new();
-    for text in [night::AS_PRICED, night::ALARMS_FIRST] {
-        match source::read(text.as_bytes(), source::Format::FreeMps, false) {
-            Ok(read) => plans.extend(read),
-            Err(fault) => return wrong(source::told("a bundled plan", fault)),
-        }
-    }
-    let request = Request {
-        html: OsString::new(),
-        ..request.clone()
+    let plan = match night::read() {
+        Ok(plan) => plan,
+        Err(what) => return wrong(format!("a bundled plan isn't read: {what}")),
     };
-    answer("", plans, &request, Task::Night, files)
+    let told = [Vec::new(), night::alarms()].map(|alarms| {
+        let request = Request {
+            html: OsString::new(),
+            alarms,
+            ..request.clone()
+        };
+        answer("", vec![plan.clone()], &request, Task::Night, files)
+    });
+    let [mut left, right] = told;
+    left.out += &right.out;
+    left.err += &right.err;
+    left.exit = left.exit.max(right.exit);
+    left
 }
 
 /// Puts a page or a list in its file, where one is asked for.
@@ -329,9 +335,30 @@ impl Case<'_> {
     }
 
     fn night(&self) -> Result<Told, Outcome> {
+        if !self.request.alarms.is_empty() {
+            return self.stages();
+        }
         let night = units::Night::new(self.plan, &self.solved, self.request);
         let night = night.map_err(|what| wrong(format!("{}: {what}", self.file)))?;
         let told = self.told(night.text(self.request), &night.as_json(), night.exit());
         Ok(self.with_page(told, || night.page()))
+    }
+
+    fn stages(&self) -> Result<Told, Outcome> {
+        let stages = stages::Stages::new(self.plan, &self.solved, self.request);
+        let stages = stages.map_err(|fault| match fault {
+            stages::Wrong::Names(what) => wrong(format!("{}: {what}", self.file)),
+            stages::Wrong::NotWhole(what) => self.not_whole(what),
+        })?;
+        let out = match self.request.json {
+            true => stages.as_json(&self.request.file.to_string_lossy()),
+            false => stages.text(self.request),
+        };
+        let told = Told {
+            out,
+            exit: stages.exit(),
+            page: None,
+        };
+        Ok(self.with_page(told, || stages.page()))
     }
 }

@@ -6,19 +6,17 @@ use tevalumi::sheet::{Sheet, Verdict};
 use super::args::Request;
 use super::engine::{self, Solved};
 use super::html::{Bar, Page};
-use super::plan::Plan;
+use super::plan::{counted, Plan};
 use super::show::wrapped;
 use super::source::{self, Format};
+use super::stages::{Stages, Wrong};
 use super::{audit, report};
 
-pub const AS_PRICED: &str = include_str!("../../plans/night-as-priced.mps");
-pub const ALARMS_FIRST: &str = include_str!("../../plans/night-alarms-first.mps");
+const AS_PRICED: &str = include_str!("../../plans/night-as-priced.mps");
 
-/// One of the two plans, solved and audited.
-struct Told {
-    plan: Plan,
-    solved: Solved,
-    sheet: Sheet,
+/// The groups whose columns go first on the right.
+pub fn alarms() -> Vec<String> {
+    vec!["alarm".to_string()]
 }
 
 /// A unit's part of a plan. A unit without frost has no alarm.
@@ -35,53 +33,78 @@ struct Share {
     got: i64,
 }
 
-/// The error is for a library that doesn't solve the bundled plans.
+/// The bundled plan.
+pub fn read() -> Result<Plan, String> {
+    let plans = source::read(AS_PRICED.as_bytes(), Format::FreeMps, false);
+    let plans = plans.map_err(|fault| format!("line {}: {}", fault.line, fault.what))?;
+    plans.into_iter().next().ok_or("no plan".to_string())
+}
+
+/// The error is for a library that doesn't solve the bundled plan.
 pub fn tell(options: &Request) -> Result<(String, Page), String> {
-    let (before, after) = (solved(AS_PRICED)?, solved(ALARMS_FIRST)?);
-    let (left, right) = (units(&before), units(&after));
+    let plan = read()?;
+    let solved = engine::solve(&plan);
+    if solved.answer.status != Status::Optimal {
+        return Err(report::sentence(&plan, &solved));
+    }
+    let before = audit::open(&plan, &solved)?;
+    let request = Request {
+        alarms: alarms(),
+        ..Request::default()
+    };
+    let stages = Stages::new(&plan, &solved, &request);
+    let stages = stages.map_err(|(Wrong::Names(what) | Wrong::NotWhole(what))| what)?;
+    let after = stages.handed().ok_or(stages.text(&request))?;
+    let (left, right) = (units(&plan, &before), units(&plan, after));
     let mut out = story(&left);
     out += &table(&left, &right, options.ascii);
-    out += &verdicts(&before, &after, &left, &right);
-    for told in [&before, &after] {
-        if options.sheets {
-            out += &format!("\n{}", report::head(&told.plan, &told.solved, false));
-            out += &audit::tables(&told.plan, &told.sheet);
-            out += &format!("\n{}\n", audit::verdict(&told.plan, &told.sheet));
-        }
+    out += &priced(&plan, &solved, &before, &left);
+    out += &first(&stages, &right);
+    out += &dearer(&before, after);
+    if options.sheets {
+        out += &format!("\n{}", report::head(&plan, &solved, false));
+        out += &audit::tables(&plan, &before);
+        out += &format!("\n{}\n", audit::verdict(&plan, &before));
+        out += &stages.sheets();
     }
-    let page = page(&[(TITLES[0], &before, &left), (TITLES[1], &after, &right)]);
+    let mut page = Page::new(
+        "The frost night",
+        &format!(
+            "{} {} {}",
+            sent(TITLES[0], &left),
+            sent(TITLES[1], &right),
+            stages.alarm_bound()
+        ),
+    );
+    page.text(&format!(
+        "{}: {}",
+        TITLES[0],
+        audit::verdict(&plan, &before)
+    ));
+    audit::put_gap(&mut page, &plan, &before);
+    put_units(&mut page, TITLES[0], &left);
+    stages.put(&mut page);
+    put_units(&mut page, TITLES[1], &right);
     Ok((out, page))
 }
 
-const TITLES: [&str; 2] = ["That night's prices", "Alarms priced first"];
+const TITLES: [&str; 2] = ["That night's prices", "Alarms first"];
 
-/// The same as a page: for each plan its sentence, and who gets what.
-fn page(nights: &[(&str, &Told, &[Unit])]) -> Page {
-    let sentence = |(title, _, units): &(&str, &Told, &[Unit])| sent(title, units);
-    let sentences: Vec<String> = nights.iter().map(sentence).collect();
-    let mut page = Page::new("The frost night", &sentences.join(" "));
-    for (title, told, units) in nights {
-        page.text(&format!(
-            "{title}: {}",
-            audit::verdict(&told.plan, &told.sheet)
-        ));
-        audit::put_gap(&mut page, &told.plan, &told.sheet);
-        let bar =
-            |name: &str, share: Share| Bar::of(name, share.got as f64, Some(share.wanted as f64));
-        let alarms = units
-            .iter()
-            .filter_map(|unit| Some(bar(&unit.name, unit.alarm?)));
-        page.bars(&format!("{title}: alarms, ms"), &alarms.collect::<Vec<_>>());
-        let soil = units.iter().map(|unit| bar(&unit.name, unit.soil));
-        page.bars(
-            &format!("{title}: soil reports, ms"),
-            &soil.collect::<Vec<_>>(),
-        );
-    }
-    page
+/// Who gets what, on the page.
+fn put_units(page: &mut Page, title: &str, units: &[Unit]) {
+    let bar = |name: &str, share: Share| Bar::of(name, share.got as f64, Some(share.wanted as f64));
+    let alarms = units
+        .iter()
+        .filter_map(|unit| Some(bar(&unit.name, unit.alarm?)));
+    page.bars(&format!("{title}: alarms, ms"), &alarms.collect::<Vec<_>>());
+    let soil = units.iter().map(|unit| bar(&unit.name, unit.soil));
+    page.bars(
+        &format!("{title}: soil reports, ms"),
+        &soil.collect::<Vec<_>>(),
+    );
 }
 
-/// `Alarms priced first: 25 of 25 alarms are sent whole, 0 lose milliseconds.`
+/// `Alarms first: 25 of 25 alarms are sent whole, 0 lose milliseconds.`
 fn sent(title: &str, units: &[Unit]) -> String {
     let alarms: Vec<Share> = units.iter().filter_map(|unit| unit.alarm).collect();
     let sent = alarms.iter().filter(|a| a.got >= a.wanted).count();
@@ -92,25 +115,8 @@ fn sent(title: &str, units: &[Unit]) -> String {
     )
 }
 
-fn solved(text: &str) -> Result<Told, String> {
-    let plans = source::read(text.as_bytes(), Format::FreeMps, false);
-    let plan = plans.map_err(|fault| format!("line {}: {}", fault.line, fault.what))?;
-    let plan = plan.into_iter().next().ok_or("no plan")?;
-    let solved = engine::solve(&plan);
-    if solved.answer.status != Status::Optimal {
-        return Err(report::sentence(&plan, &solved));
-    }
-    let sheet = audit::open(&plan, &solved)?;
-    Ok(Told {
-        plan,
-        solved,
-        sheet,
-    })
-}
-
 /// An alarm wants up to its upper bound, soil reports up to their backlog row's right side.
-fn units(told: &Told) -> Vec<Unit> {
-    let (plan, sheet) = (&told.plan, &told.sheet);
+fn units(plan: &Plan, sheet: &Sheet) -> Vec<Unit> {
     let column = |name: String| plan.column_names.iter().position(|n| *n == name);
     let unit = |i: usize| {
         let name = plan.row_names[i].strip_prefix("backlog.")?;
@@ -146,7 +152,8 @@ the one whose messages are worth most. (The numbers are made up.)
 
 Left: that night's prices. A millisecond is worth 1, and 1 more for each quarter
 hour that the message has waited. Reports wait for hours, alarms don't.
-Right: the same night with alarms priced first, at 100 a millisecond.
+Right: the same night with alarms first. They are planned alone; then the reports
+get what is left, in a plan whose alarms are worth no less.
 
 ",
         units.len()
@@ -160,7 +167,7 @@ fn table(left: &[Unit], right: &[Unit], ascii: bool) -> String {
     let blank = "";
     out += &format!(
         "{blank:<5}{:>13}   {:<27}   {}\n",
-        "ms wanted", "THAT NIGHT'S PRICES", "ALARMS PRICED FIRST"
+        "ms wanted", "THAT NIGHT'S PRICES", "ALARMS FIRST"
     );
     out += &format!(
         "{:<5}{:>6} {:>6}   {1:<13} {2:<13}   {1:<13} {2}\n",
@@ -209,27 +216,36 @@ fn part(share: Option<Share>, alarm: bool, ascii: bool) -> String {
     )
 }
 
-fn verdicts(before: &Told, after: &Told, left: &[Unit], right: &[Unit]) -> String {
-    let mut out = String::new();
-    for (title, told, units) in [(TITLES[0], before, left), (TITLES[1], after, right)] {
-        let verdict = audit::verdict(&told.plan, &told.sheet);
-        out += &format!(
-            "\n{}\nOptimal after {} steps. The audit sheet, in whole numbers, says:\n{}",
-            sent(title, units),
-            told.solved.answer.steps,
-            wrapped(&verdict, 80, "  ")
-        );
+fn priced(plan: &Plan, solved: &Solved, sheet: &Sheet, units: &[Unit]) -> String {
+    format!(
+        "\n{}\nOptimal after {} steps. The audit sheet, in whole numbers, says:\n{}",
+        sent(TITLES[0], units),
+        solved.answer.steps,
+        wrapped(&audit::verdict(plan, sheet), 80, "  ")
+    )
+}
+
+fn first(stages: &Stages<'_>, units: &[Unit]) -> String {
+    let (alone, then) = stages.steps();
+    format!(
+        "\n{}\nOptimal after {}, then {}. The two audit sheets say:\n{}{}{}",
+        sent(TITLES[1], units),
+        counted(alone, "step", "steps"),
+        counted(then, "step", "steps"),
+        wrapped(&stages.alarm_bound(), 80, "  "),
+        wrapped(&stages.report_bound(), 80, "  "),
+        stages.why()
+    )
+}
+
+/// What the plan with its alarms would have cost: a plan of that night too, only its prices differ.
+fn dearer(before: &Sheet, after: &Sheet) -> String {
+    let cost = (0..before.columns()).map(|j| before.cost_of(j) * after.amount(j));
+    let dearer = cost.sum::<i64>() - before.cost();
+    match before.verdict() {
+        Verdict::Gap(gap) if dearer * 1024 > gap => format!(
+            "\nAt that night's prices the plan on the right is dearer than the one on the left\nby {dearer}. So no rounding lost the alarms: the prices did.\n"
+        ),
+        _ => String::new(),
     }
-    // What the plan with its alarms would have cost: a plan of that night too, only its prices differ.
-    let sheet = &before.sheet;
-    let cost = (0..sheet.columns()).map(|j| sheet.cost_of(j) * after.sheet.amount(j));
-    let dearer = cost.sum::<i64>() - sheet.cost();
-    if let Verdict::Gap(gap) = sheet.verdict() {
-        if dearer * 1024 > gap {
-            out += &format!(
-                "\nAt that night's prices the plan on the right is dearer than the one on the left\nby {dearer}. So no rounding lost the alarms: the prices did.\n"
-            );
-        }
-    }
-    out
 }

@@ -12,11 +12,20 @@ use super::show::{number, of_1024, quoted, wrapped};
 use super::{audit, report};
 
 /// As wide as a terminal is, and with `--short` as high.
-const WIDTH: usize = 80;
+pub const WIDTH: usize = 80;
 const HEIGHT: usize = 24;
 
 /// The names before the dot where the command line has none.
 pub const GROUPS: [&str; 2] = ["alarm", "soil"];
+
+/// More groups don't fit beside each other.
+pub const MOST_GROUPS: usize = 3;
+
+/// Who gets what of a plan.
+pub struct Units {
+    groups: Vec<String>,
+    units: Vec<Unit>,
+}
 
 /// A unit's part of each group, in the order of the groups.
 struct Unit {
@@ -42,58 +51,43 @@ impl Share {
     }
 }
 
-/// A solved plan's units. The sheet is missing where the plan isn't in whole numbers; then the amounts
-/// are the run's own.
-pub struct Night<'a> {
-    plan: &'a Plan,
-    solved: &'a Solved,
-    sheet: Result<Sheet, String>,
-    groups: Vec<String>,
-    units: Vec<Unit>,
+/// A column's group and unit.
+pub fn parted(plan: &Plan, j: usize) -> Option<(&str, &str)> {
+    plan.column_names.get(j)?.split_once('.')
 }
 
-impl<'a> Night<'a> {
+/// That no column is of one of these groups.
+pub fn none_named(groups: &[String], option: &str) -> String {
+    let names: Vec<String> = groups.iter().map(|group| format!("{group}.UNIT")).collect();
+    format!(
+        "expected columns named {}, found none; {option} names other groups",
+        names.join(" or ")
+    )
+}
+
+impl Units {
     /// The error says that no column has such a name.
-    pub fn new(plan: &'a Plan, solved: &'a Solved, request: &Request) -> Result<Night<'a>, String> {
-        let groups = match request.groups.is_empty() {
-            true => GROUPS.map(str::to_string).to_vec(),
-            false => request.groups.clone(),
-        };
-        let mut night = Night {
-            plan,
-            solved,
-            sheet: Err(String::new()),
+    pub fn new(
+        plan: &Plan,
+        groups: Vec<String>,
+        got: impl Fn(usize) -> f64,
+    ) -> Result<Units, String> {
+        let mut all = Units {
             groups,
             units: Vec::new(),
         };
-        if solved.answer.status == Status::Optimal {
-            night.sheet = audit::open(plan, solved);
-        }
         for j in 0..plan.columns {
-            night.see(j);
+            all.see(plan, j, got(j));
         }
-        match night.units.is_empty() {
-            true => Err(format!(
-                "expected columns named {}, found none; --groups names other groups",
-                night
-                    .groups
-                    .iter()
-                    .map(|group| format!("{group}.UNIT"))
-                    .collect::<Vec<_>>()
-                    .join(" or ")
-            )),
-            false => Ok(night),
+        match all.units.is_empty() {
+            true => Err(none_named(&all.groups, "--groups")),
+            false => Ok(all),
         }
     }
 
     /// Puts a column of a group at its unit.
-    fn see(&mut self, j: usize) {
-        let Some((group, unit)) = self
-            .plan
-            .column_names
-            .get(j)
-            .and_then(|name| name.split_once('.'))
-        else {
+    fn see(&mut self, plan: &Plan, j: usize, got: f64) {
+        let Some((group, unit)) = parted(plan, j) else {
             return;
         };
         let Some(group) = self.groups.iter().position(|name| name == group) else {
@@ -109,121 +103,41 @@ impl<'a> Night<'a> {
                 self.units.len() - 1
             }
         };
-        let got = match &self.sheet {
-            Ok(sheet) => sheet.amount(j) as f64,
-            Err(_) => self.solved.values.get(j).copied().unwrap_or(0.0),
-        };
-        let wanted = wanted(self.plan, j);
+        let wanted = wanted(plan, j);
         self.units[place].shares[group] = Some(Share { wanted, got });
     }
 
-    /// 0 where there is a plan and the sheet shows a gap.
-    pub fn exit(&self) -> u8 {
-        match (self.solved.answer.status, &self.sheet) {
-            (Status::Optimal, Ok(sheet)) => audit::exit(sheet),
-            (Status::Optimal, Err(_)) => audit::NO_GAP,
-            (status, _) => report::exit(status),
-        }
+    /// `alarm: 3 of 25 whole, 22 cut; soil: 24 of 40 whole, 16 cut`
+    pub fn counted(&self) -> String {
+        let groups = self.groups.iter().enumerate().map(|(g, name)| {
+            let wanting = self.wanting(g);
+            let cut = wanting.iter().filter(|share| share.lost() > 0.0).count();
+            let all = wanting.len();
+            format!("{name}: {} of {all} whole, {cut} cut", all - cut)
+        });
+        groups.collect::<Vec<_>>().join("; ")
     }
 
-    pub fn text(&self, request: &Request) -> String {
-        let mut out = self.answer().join("\n") + "\n";
-        if self.solved.answer.status != Status::Optimal {
-            return out;
-        }
-        out += &match request.short {
-            true => self.short(request.ascii),
-            false => self.table(&(0..self.units.len()).collect::<Vec<_>>(), request.ascii),
-        };
-        out += &self.full();
-        if let (true, Ok(sheet)) = (request.sheets, &self.sheet) {
-            out += &audit::tables(self.plan, sheet);
-            out += &format!("\n{}\n", audit::verdict(self.plan, sheet));
-        }
-        out
-    }
-
-    /// Who gets what, what the plan costs, and how much cheaper another could be. A plan that isn't
-    /// solved has its status instead.
-    fn answer(&self) -> Vec<String> {
-        let name = match self.plan.name.as_str() {
-            "" => "This night".to_string(),
-            name => cut(name, 24),
-        };
-        if self.solved.answer.status != Status::Optimal {
-            let status = self.solved.answer.status.number();
-            let told = format!(
-                "Status {status}, {}",
-                report::sentence(self.plan, self.solved)
-            );
-            let lines = format!(
-                "{name}: there is no plan to show.\n{}",
-                wrapped(&told, WIDTH, "")
-            );
-            return lines.lines().map(str::to_string).collect();
-        }
-        let groups = (0..self.groups.len()).map(|group| self.counted(group));
-        let groups = groups.collect::<Vec<_>>().join("; ");
-        let steps = counted(self.solved.answer.steps, "step", "steps");
-        let (costs, second, third) = match &self.sheet {
-            Ok(sheet) => ("This whole plan", self.cost(sheet), self.gap(sheet)),
-            Err(what) => (
-                "This plan",
-                number(self.plan.objective(self.solved.answer.objective)),
-                format!("There is no audit: {what}."),
-            ),
-        };
-        let verb = if self.plan.maximise {
-            "is worth"
-        } else {
-            "costs"
-        };
-        vec![
-            cut(&format!("{name}: {groups}."), WIDTH),
-            cut(
-                &format!("{costs} {verb} {second}; Optimal after {steps}."),
-                WIDTH,
-            ),
-            cut(&third, WIDTH),
-        ]
-    }
-
-    /// `alarm: 3 of 25 whole, 22 cut`
-    fn counted(&self, group: usize) -> String {
+    fn wanting(&self, group: usize) -> Vec<Share> {
         let shares = self.units.iter().filter_map(|unit| unit.shares[group]);
-        let wanting: Vec<Share> = shares.filter(|share| share.wanted.is_some()).collect();
-        let cut = wanting.iter().filter(|share| share.lost() > 0.0).count();
-        let (all, name) = (wanting.len(), &self.groups[group]);
-        format!("{name}: {} of {all} whole, {cut} cut", all - cut)
+        shares.filter(|share| share.wanted.is_some()).collect()
     }
 
-    fn cost(&self, sheet: &Sheet) -> String {
-        let cost = sheet.cost();
-        if self.plan.maximise { -cost } else { cost }.to_string()
+    /// The groups that are cut, each with what it wants and what it gets.
+    pub fn cut(&self) -> Vec<(&str, f64, f64)> {
+        let groups = self.groups.iter().enumerate().map(|(g, name)| {
+            let wanting = self.wanting(g);
+            let wanted = wanting.iter().filter_map(|share| share.wanted).sum();
+            let got = wanting.iter().map(|share| share.got).sum();
+            (name.as_str(), wanted, got)
+        });
+        groups.filter(|&(_, wanted, got)| got < wanted).collect()
     }
 
-    fn gap(&self, sheet: &Sheet) -> String {
-        let cheaper = if self.plan.maximise {
-            "worth more"
-        } else {
-            "cheaper"
-        };
-        match sheet.verdict() {
-            Verdict::Gap(0) => format!("No plan, whole or fractional, is {cheaper}."),
-            Verdict::Gap(gap) => {
-                format!(
-                    "No plan, whole or fractional, is {cheaper} by more than {}.",
-                    of_1024(gap)
-                )
-            }
-            _ => "The audit sheet shows no gap: how good this plan is isn't known.".to_string(),
-        }
-    }
-
-    /// The units that lose most, of the first group first, as many as a terminal has lines for.
-    fn short(&self, ascii: bool) -> String {
+    /// The units that lose most, of the first group first, as many as a terminal has lines for beside the answer.
+    pub fn short(&self, ascii: bool, answer: usize) -> String {
         // The answer, a blank, the table's head, what is left out, and the full rows.
-        const MOST: usize = HEIGHT - 3 - 1 - 1 - 1 - 2;
+        let most = HEIGHT.saturating_sub(answer + 1 + 1 + 1 + 2);
         let lost = |u: usize| -> Vec<f64> {
             let shares = self.units[u].shares.iter();
             shares
@@ -237,9 +151,9 @@ impl<'a> Night<'a> {
                 .partial_cmp(&lost(a))
                 .unwrap_or(std::cmp::Ordering::Equal)
         });
-        let left = cut.len().saturating_sub(MOST);
+        let left = cut.len().saturating_sub(most);
         let whole = self.units.len() - cut.len();
-        cut.truncate(MOST);
+        cut.truncate(most);
         let mut out = match cut.is_empty() {
             true => String::new(),
             false => self.table(&cut, ascii),
@@ -249,6 +163,11 @@ impl<'a> Night<'a> {
             _ => format!("{left} more units are cut; {whole} get all that they want.\n"),
         };
         out
+    }
+
+    /// Every unit.
+    pub fn all(&self, ascii: bool) -> String {
+        self.table(&(0..self.units.len()).collect::<Vec<_>>(), ascii)
     }
 
     fn table(&self, units: &[usize], ascii: bool) -> String {
@@ -280,20 +199,7 @@ impl<'a> Night<'a> {
         out
     }
 
-    /// The rows that hold the plan back, but for those of one column, which say what it wants.
-    fn full(&self) -> String {
-        let rows = report::row_lines(self.plan, self.solved);
-        let shared = |i: usize| self.plan.row(i).is_some_and(|(cols, _)| cols.len() > 1);
-        let tight = rows.iter().enumerate();
-        let tight = tight.filter(|&(i, row)| row.multiplier != 0.0 && shared(i));
-        let names: Vec<String> = tight.map(|(_, row)| row.name.clone()).collect();
-        match names.is_empty() {
-            true => "No shared row is full.\n".to_string(),
-            false => cut(&format!("Full: {}", names.join(", ")), WIDTH) + "\n",
-        }
-    }
-
-    /// What an audit's JSON has beside it.
+    /// `"units":[..]`
     pub fn as_json(&self) -> String {
         let unit = |unit: &Unit| {
             let shares = self.groups.iter().zip(&unit.shares);
@@ -312,11 +218,162 @@ impl<'a> Night<'a> {
             )
         };
         let units: Vec<String> = self.units.iter().map(unit).collect();
+        format!("\"units\":[{}]", units.join(","))
+    }
+
+    /// A bar for each share.
+    pub fn put(&self, page: &mut Page) {
+        for (g, group) in self.groups.iter().enumerate() {
+            let bars = self.units.iter().filter_map(|unit| {
+                let share = unit.shares[g]?;
+                Some(Bar::of(&unit.name, share.got, share.wanted))
+            });
+            page.bars(
+                &format!("{}: got of wanted", group),
+                &bars.collect::<Vec<_>>(),
+            );
+        }
+    }
+}
+
+/// A solved plan's units. The sheet is missing where the plan isn't in whole numbers; then the amounts
+/// are the run's own.
+pub struct Night<'a> {
+    plan: &'a Plan,
+    solved: &'a Solved,
+    sheet: Result<Sheet, String>,
+    units: Units,
+}
+
+impl<'a> Night<'a> {
+    /// The error says that no column has such a name.
+    pub fn new(plan: &'a Plan, solved: &'a Solved, request: &Request) -> Result<Night<'a>, String> {
+        let groups = match request.groups.is_empty() {
+            true => GROUPS.map(str::to_string).to_vec(),
+            false => request.groups.clone(),
+        };
+        let sheet = match solved.answer.status {
+            Status::Optimal => audit::open(plan, solved),
+            _ => Err(String::new()),
+        };
+        let units = Units::new(plan, groups, |j| match &sheet {
+            Ok(sheet) => sheet.amount(j) as f64,
+            Err(_) => solved.values.get(j).copied().unwrap_or(0.0),
+        })?;
+        Ok(Night {
+            plan,
+            solved,
+            sheet,
+            units,
+        })
+    }
+
+    /// 0 where there is a plan and the sheet shows a gap.
+    pub fn exit(&self) -> u8 {
+        match (self.solved.answer.status, &self.sheet) {
+            (Status::Optimal, Ok(sheet)) => audit::exit(sheet),
+            (Status::Optimal, Err(_)) => audit::NO_GAP,
+            (status, _) => report::exit(status),
+        }
+    }
+
+    pub fn text(&self, request: &Request) -> String {
+        let answer = self.answer();
+        let mut out = answer.join("\n") + "\n";
+        if self.solved.answer.status != Status::Optimal {
+            return out;
+        }
+        out += &match request.short {
+            true => self.units.short(request.ascii, answer.len()),
+            false => self.units.all(request.ascii),
+        };
+        out += &self.full();
+        if let (true, Ok(sheet)) = (request.sheets, &self.sheet) {
+            out += &audit::tables(self.plan, sheet);
+            out += &format!("\n{}\n", audit::verdict(self.plan, sheet));
+        }
+        out
+    }
+
+    /// Who gets what, what the plan costs, and how much cheaper another could be. A plan that isn't
+    /// solved has its status instead.
+    fn answer(&self) -> Vec<String> {
+        let name = called(self.plan);
+        if self.solved.answer.status != Status::Optimal {
+            let status = self.solved.answer.status.number();
+            let told = format!(
+                "Status {status}, {}",
+                report::sentence(self.plan, self.solved)
+            );
+            let lines = format!(
+                "{name}: there is no plan to show.\n{}",
+                wrapped(&told, WIDTH, "")
+            );
+            return lines.lines().map(str::to_string).collect();
+        }
+        let steps = counted(self.solved.answer.steps, "step", "steps");
+        let (costs, second, third) = match &self.sheet {
+            Ok(sheet) => ("This whole plan", self.cost(sheet), self.gap(sheet)),
+            Err(what) => (
+                "This plan",
+                number(self.plan.objective(self.solved.answer.objective)),
+                format!("There is no audit: {what}."),
+            ),
+        };
+        let verb = if self.plan.maximise {
+            "is worth"
+        } else {
+            "costs"
+        };
+        vec![
+            cut(&format!("{name}: {}.", self.units.counted()), WIDTH),
+            cut(
+                &format!("{costs} {verb} {second}; Optimal after {steps}."),
+                WIDTH,
+            ),
+            cut(&third, WIDTH),
+        ]
+    }
+
+    fn cost(&self, sheet: &Sheet) -> String {
+        let cost = sheet.cost();
+        if self.plan.maximise { -cost } else { cost }.to_string()
+    }
+
+    fn gap(&self, sheet: &Sheet) -> String {
+        let cheaper = if self.plan.maximise {
+            "worth more"
+        } else {
+            "cheaper"
+        };
+        match sheet.verdict() {
+            Verdict::Gap(0) => format!("No plan, whole or fractional, is {cheaper}."),
+            Verdict::Gap(gap) => {
+                format!(
+                    "No plan, whole or fractional, is {cheaper} by more than {}.",
+                    of_1024(gap)
+                )
+            }
+            _ => "The audit sheet shows no gap: how good this plan is isn't known.".to_string(),
+        }
+    }
+
+    /// The rows that hold the plan back, but for those of one column, which say what it wants.
+    fn full(&self) -> String {
+        let rows = report::row_lines(self.plan, self.solved);
+        let shared = |i: usize| self.plan.row(i).is_some_and(|(cols, _)| cols.len() > 1);
+        let tight = rows.iter().enumerate();
+        let tight = tight.filter(|&(i, row)| row.multiplier != 0.0 && shared(i));
+        named_full(tight.map(|(_, row)| row.name.clone()).collect())
+    }
+
+    /// What an audit's JSON has beside it.
+    pub fn as_json(&self) -> String {
         let sheet = match &self.sheet {
             Ok(sheet) => audit::as_json(self.plan, sheet),
             Err(_) => String::new(),
         };
-        format!(",\"units\":[{}]{sheet}", units.join(","))
+        format!(",{}{sheet}", self.units.as_json())
     }
 
     pub fn page(&self) -> Page {
@@ -328,20 +385,27 @@ impl<'a> Night<'a> {
         if let Ok(sheet) = &self.sheet {
             audit::put_gap(&mut page, self.plan, sheet);
         }
-        for (g, group) in self.groups.iter().enumerate() {
-            let bars = self.units.iter().filter_map(|unit| {
-                let share = unit.shares[g]?;
-                Some(Bar::of(&unit.name, share.got, share.wanted))
-            });
-            page.bars(
-                &format!("{}: got of wanted", group),
-                &bars.collect::<Vec<_>>(),
-            );
-        }
+        self.units.put(&mut page);
         if let Ok(sheet) = &self.sheet {
             audit::put_tables(&mut page, self.plan, sheet);
         }
         page
+    }
+}
+
+/// The plan's name, as the answer begins with it.
+pub fn called(plan: &Plan) -> String {
+    match plan.name.as_str() {
+        "" => "This night".to_string(),
+        name => cut(name, 24),
+    }
+}
+
+/// `Full: air, mast.D`
+pub fn named_full(names: Vec<String>) -> String {
+    match names.is_empty() {
+        true => "No shared row is full.\n".to_string(),
+        false => cut(&format!("Full: {}", names.join(", ")), WIDTH) + "\n",
     }
 }
 
@@ -356,7 +420,7 @@ fn wanted(plan: &Plan, j: usize) -> Option<f64> {
 }
 
 /// At most so many characters.
-fn cut(text: &str, most: usize) -> String {
+pub fn cut(text: &str, most: usize) -> String {
     let text = super::plan::shown_whole(text);
     match text.chars().count() > most {
         true => {

@@ -1,0 +1,4 @@
+-- Laws of the whole call.
+pub mod Sections
+pub mod Laws
+pub mod Calls
