@@ -13,7 +13,8 @@ use Rattle.state.specs.Packed.{etaRowsAt, keptAt, countsAt, basicVarValsAt, nbV
 use Rattle.state.specs.Packed.{dualNormsAt, objectiveAt}
 use Rattle.state.specs.Memory.{memoryIn, pastOf, handed, answered}
 use Rattle.state.proofs.Sections.{glue}
-use Rattle.night_rules.specs.Arrays.{Arrays, arraysOf, memory, past, numbersOf, doublesOf, inArrays, ran, ranBy, runOn}
+use Rattle.night_rules.specs.Arrays.{Arrays, arraysOf, memory, past, numbersOf, doublesOf, inArrays, ran, ranBy}
+use Rattle.night_rules.specs.Arrays.{runOn}
 
 -- from place a on, a section and then what follows it
 next : {A : Type 0} (a k : ℕ) (xs : List A) {rest : List A} → drop (a + k) xs ≡ rest

@@ -10,6 +10,7 @@
 pub mod Arrays
 pub mod Doubles
 pub mod Numbers
+pub mod Shaped
 pub mod Stages
 pub mod Answers
 pub mod Second

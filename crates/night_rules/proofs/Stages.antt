@@ -2,19 +2,18 @@
 use mathlib.Core.Path.{_≡_, refl, sym, ap, _∙_, subst}
 use mathlib.Core.Logic.{_↔_}
 use mathlib.Core.Bool.{Bool, true, false}
-use mathlib.Core.List.{List, _++_}
+use mathlib.Core.List.{List}
 use Prim.Native.Nat.{ℕ, zero, suc}
 use native.Mathlib.Omega.{arith}
 use lib.Dec.{eqb}
-use lib.ListN.{length, length-append, length-drop, length-replicate}
-use lib.IntN.{ℤ, pos}
+use lib.ListN.{length}
+use lib.IntN.{ℤ}
 use lib.Ieee.{Float}
 use borrow.Author.Tests.{eqb-true, eqb-false, eq-eqb, ne-eqb}
-use Rattle.doubles.specs.Limits.{maxRows, maxColumns}
+use Rattle.doubles.specs.Limits.{maxColumns}
 use Rattle.doubles.proofs.Tests.{not-both, false-by}
 use Rattle.rules.specs.Answers.{numberOf}
-use Rattle.rules.proofs.Lists.{over-long}
-use Rattle.sheet_rules.specs.Sheet.{Plan, Kept, Sheet, sheetOf, fresh, overKept}
+use Rattle.sheet_rules.specs.Sheet.{Plan, Kept, Sheet, sheetOf}
 use Rattle.sheet_rules.specs.Opening.{opening, opened, leaves}
 use Rattle.sheet_rules.specs.Verdict.{verdict}
 use Rattle.sheet_rules.specs.declared.Verdict.{Verdict}
@@ -33,13 +32,14 @@ use Rattle.whole_propose.specs.declared.Proposal.the-variants.{Proposed, Nothin
 use Rattle.whole_propose.specs.declared.Proposal.the-variants.{MultiplierNotWhole}
 use Rattle.night_rules.specs.Arrays.{Arrays}
 use Rattle.night_rules.specs.Doubles.{startAt, entriesTo, entryCount, doublesPlan}
-use Rattle.night_rules.specs.Stage.{zeros, zeroKept, sectionCells}
+use Rattle.night_rules.specs.Stage.{sectionCells}
 use Rattle.night_rules.specs.Stage.{openedAudit, proposedAudit, auditOf, isJudged, Staged, stageAfter, stageOf}
 use Rattle.night_rules.specs.Stage.{sectionOf, sectionInto}
 use Rattle.night_rules.specs.declared.Audit.{Audit}
 use Rattle.night_rules.specs.declared.Audit.the-variants.{NotRun, NotWhole, NotOpened, Judged}
 use Rattle.night_rules.specs.Words.{theRun, theLent, theProposal, theSheet, Opens, AuditSays, Opened}
 use Rattle.night_rules.proofs.Numbers.{HandedOver, handed-over}
+use Rattle.night_rules.proofs.Shaped.{Shaped, stage-shaped, section-count}
 
 is-proposed : (u : Proposal) → (isProposed u ≡ true) ↔ (u ≡ Proposed)
 unfolding isProposed
@@ -168,83 +168,14 @@ module _ (budget : ℕ) (tolerance : Float) (p : Plan) (a : Arrays) where
     pub sized : Sized sheet
     sized = opening-so sheet (o .accepts) .0
 
+    shaped : Shaped (theStage .sheet)
+    shaped = stage-shaped budget tolerance p a (sized .rows-fit) (sized .cols-fit)
+
     pub amounts-long : length (theStage .sheet .plan .amounts) ≡ maxColumns
-    unfolding doublesPlan
-    amounts-long =
-        let t = ap length (stage-audited o .from-run .amounts-tail) in
-        let h = stage-openable o .good .sized .amounts-fit in
-        omega (
-          arith,
-          t,
-          h,
-          length-drop (p .cols) (theStage .sheet .plan .amounts),
-          length-drop (p .cols) (zeros maxColumns),
-          length-replicate maxColumns (pos 0),
-          ap (λ (q : Plan). q .cols) plan-is,
-          sized .cols-fit,
-        )
-
-    mults-long : length (theStage .sheet .plan .mults) ≡ maxRows
-    unfolding doublesPlan
-    mults-long =
-        let t = ap length (stage-audited o .from-run .mults-tail) in
-        let h = stage-openable o .good .sized .mults-fit in
-        omega (
-          arith,
-          t,
-          h,
-          length-drop (p .rows) (theStage .sheet .plan .mults),
-          length-drop (p .rows) (zeros maxRows),
-          length-replicate maxRows (pos 0),
-          ap (λ (q : Plan). q .rows) plan-is,
-          sized .rows-fit,
-        )
-
-    kept-is : theStage .sheet .kept ≡ overKept (fresh (sheet .plan)) zeroKept
-    unfolding stageOf stageAfter opened
-    kept-is = rw (o .accepts, opened)
-
-    R-long : length (theStage .sheet .kept .R) ≡ maxRows
-    unfolding overKept fresh
-    R-long = ap (λ (k : Kept). length (k .R)) kept-is ∙ over-long (p .rows) _ (zeros maxRows)
-        (omega (arith, sized .rows-fit, length-replicate maxRows (pos 0))) ∙ length-replicate maxRows (pos 0)
-
-    D-long : length (theStage .sheet .kept .D) ≡ maxColumns
-    unfolding overKept fresh
-    D-long = ap (λ (k : Kept). length (k .D)) kept-is ∙ over-long (p .cols) _ (zeros maxColumns)
-        (omega (arith, sized .cols-fit, length-replicate maxColumns (pos 0))) ∙ length-replicate maxColumns (pos 0)
-
-    few : (length (theStage .sheet .kept .C) ≡ 1) × (length (theStage .sheet .kept .B) ≡ 1)
-        × (length (theStage .sheet .kept .counts) ≡ 4)
-    unfolding overKept fresh
-    few = (
-      ap (λ (k : Kept). length (k .C)) kept-is,
-      ap (λ (k : Kept). length (k .B)) kept-is,
-      ap (λ (k : Kept). length (k .counts)) kept-is,
-    )
+    amounts-long = shaped .amounts-long
 
     pub section-long : length (sectionOf (theStage .sheet)) ≡ sectionCells
-    unfolding sectionOf
-    section-long =
-        let k = theStage .sheet .kept in
-        let x = theStage .sheet .plan .amounts in
-        let y = theStage .sheet .plan .mults in
-        omega (
-          arith,
-          length-append x (y ++ (k .R ++ (k .D ++ (k .C ++ (k .B ++ k .counts))))),
-          length-append y (k .R ++ (k .D ++ (k .C ++ (k .B ++ k .counts)))),
-          length-append (k .R) (k .D ++ (k .C ++ (k .B ++ k .counts))),
-          length-append (k .D) (k .C ++ (k .B ++ k .counts)),
-          length-append (k .C) (k .B ++ k .counts),
-          length-append (k .B) (k .counts),
-          amounts-long,
-          mults-long,
-          R-long,
-          D-long,
-          few .0,
-          few .1,
-          few .2,
-        )
+    section-long = section-count (theStage .sheet) shaped
 
     -- ---- the numbers of the solver's plan are exactly the sheet's
     same-doubles : doublesPlan budget tolerance (sheet .plan) ≡ doublesPlan budget tolerance p

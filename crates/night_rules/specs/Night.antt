@@ -24,7 +24,8 @@ use Rattle.night_rules.specs.declared.Audit.{Audit}
 use Rattle.night_rules.specs.declared.Audit.the-variants.{NotRun, NotWhole, NotOpened, Judged}
 use Rattle.night_rules.specs.declared.Stage.{Stage}
 use Rattle.night_rules.specs.declared.NightAnswer.{NightAnswer}
-use Rattle.night_rules.specs.declared.NightAnswer.the-variants.{ShortMemory, NoGap, RowsFull, EntriesFull, CostBeyond, FoundBeyond, FirstStands, Handed}
+use Rattle.night_rules.specs.declared.NightAnswer.the-variants.{ShortMemory, NoGap, RowsFull, EntriesFull}
+use Rattle.night_rules.specs.declared.NightAnswer.the-variants.{CostBeyond, FoundBeyond, FirstStands, Handed}
 use Rattle.night_rules.specs.declared.Next.{Next}
 use Rattle.night_rules.specs.declared.Next.the-variants.{Stops, Goes}
 

@@ -1,5 +1,5 @@
--- One stage of the night: solve, round, audit. 02, Ask 14: "A stage's sheet is opened exactly when its run gives 0, every
--- proposed number is Whole and opening accepts". Assumes nothing.
+-- One stage of the night: solve, round, audit. 02, Ask 14: "A stage's sheet is opened exactly when its run gives 0,
+-- every proposed number is Whole and opening accepts". Assumes nothing.
 use mathlib.Core.Bool.{Bool, true, false}
 use mathlib.Core.List.{List, _++_}
 use Prim.Native.Nat.{ℕ, zero, suc, _+_, _*_, _≤_}

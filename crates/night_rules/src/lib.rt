@@ -4,8 +4,8 @@ ghost use Prim.Native.Nat.{_+_, _≤_};
 ghost use lib.ListN.{length};
 ghost use Rattle.lu_packed.specs.Written.{written};
 
-// What came of a stage's audit: nothing was proposed, as the run was refused or didn't end in 0; a proposed number isn't
-// whole; opening refused with this number; or the sheet was opened and judged.
+// What came of a stage's audit: nothing was proposed, as the run was refused or didn't end in 0; a proposed number
+// isn't whole; opening refused with this number; or the sheet was opened and judged.
 pub enum Audit {
     NotRun,
     NotWhole(whole_propose::Proposal),

@@ -2,7 +2,7 @@
 use mathlib.Core.Path.{_≡_, refl, sym, ap, _∙_}
 use mathlib.Core.Logic.{⊎-elim}
 use mathlib.Core.Bool.{Bool, true, false, _&&_}
-use mathlib.Core.List.{List, []}
+use mathlib.Core.List.{List}
 use Prim.Native.Nat.{ℕ, _+_, _<_, _≤_}
 use native.Mathlib.Omega.{arith}
 use lib.ListN.{length, take}
@@ -17,7 +17,7 @@ use Rattle.doubles.proofs.Loops.{both-true}
 use Rattle.rules.specs.Plan as Rules
 use Rattle.rules.specs.Refusals as Refusals
 use Rattle.rules.specs.Refusals.{sizesFit, startsRise, passes1}
-use Rattle.rules.specs.Solve.{solved, solvePlan}
+use Rattle.rules.specs.Solve.{solvePlan}
 use Rattle.rules.specs.Answers.{asRow}
 use Rattle.rules.specs.declared.Answer.the-variants.{BadSize}
 use Rattle.sheet_rules.specs.Sum.{_‼_}
@@ -25,11 +25,12 @@ use Rattle.sheet_rules.specs.Sheet.{Plan}
 use Rattle.lu_factor_rules.specs.Packed.{factorNumbers, factorCoeffs}
 use Rattle.state.specs.Memory.{numbersEnd, doublesEnd}
 use Rattle.night_rules.specs.Doubles.{doublesPlan, startAt, entryCount}
-use Rattle.night_rules.specs.Arrays.{Arrays, Ran, memory, ran, runOn}
+use Rattle.night_rules.specs.Arrays.{Arrays, memory, ran, runOn}
 use Rattle.night_rules.specs.Stage.{auditOf, isJudged, Staged, stageSays, stageAfter, stageOf, foundAt, sectionInto}
 use Rattle.night_rules.specs.Stage.{Lends, Left, left, leaves}
 use Rattle.night_rules.specs.Night.{NightPlan, wholeEnd, sizesIn, planLong, memoryLong, enough, showsGap}
-use Rattle.night_rules.specs.Night.{entriesAfter, firstBeyond, testsAfter, Called, called, secondPart, afterFirst, nightPlan}
+use Rattle.night_rules.specs.Night.{entriesAfter, firstBeyond, testsAfter, Called, called, secondPart, afterFirst}
+use Rattle.night_rules.specs.Night.{nightPlan}
 use Rattle.night_rules.specs.declared.Audit.{Audit}
 use Rattle.night_rules.specs.declared.Audit.the-variants.{NotRun, NotWhole, NotOpened, Judged}
 use Rattle.night_rules.specs.declared.Stage.{Stage}
@@ -40,7 +41,8 @@ use Rattle.night_rules.specs.declared.Next.the-variants.{Stops, Goes}
 use Rattle.night_rules.proofs.Arrays.{refused-is}
 use Rattle.night_second.specs.Costed.{costed}
 use Rattle.night_second.proofs.Laws.{no-gap, rows-full}
-use Rattle.night_run.proofs.Sections.{Shaped, stage-shaped, front-amounts, front-found}
+use Rattle.night_rules.proofs.Shaped.{Shaped, stage-shaped}
+use Rattle.night_run.proofs.Sections.{front-amounts, front-found}
 
 -- ---- sizes over their limits are the solver's 1
 sizes-off : (c r e b x y z : Bool) → r && c ≡ false → (c && r && e && b) && x && y && z ≡ false
@@ -55,7 +57,8 @@ module _ (budget : ℕ) (tolerance : Float) (p : Plan) (a : Arrays) (h : sizesIn
   over-limit : passes1 q (memory a) ≡ false
   unfolding passes1 sizesFit sizesIn doublesPlan
   over-limit =
-      sizes-off (leb (p .cols) maxColumns) (leb (p .rows) maxRows) (leb (entryCount p) maxEntries) (leb budget maxBudget)
+      sizes-off (leb (p .cols) maxColumns) (leb (p .rows) maxRows) (leb (entryCount p) maxEntries)
+      (leb budget maxBudget)
       (Refusals.planLong q) (Refusals.memoryLong q (memory a)) (startsRise q) h
 
   refused-run : ran BadSize a ≡ runOn q a

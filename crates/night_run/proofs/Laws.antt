@@ -16,14 +16,17 @@ use Rattle.sheet_rules.specs.Sheet.{Plan, planOf}
 use Rattle.state.specs.Packed.{section}
 use Rattle.night_rules.specs.Second.{secondPlan}
 use Rattle.night_rules.specs.Arrays.{Arrays}
-use Rattle.night_rules.specs.Stage.{zeros, isJudged, Staged, stageOf, sectionCells, sectionInto, Lends, Left, left, leaves}
-use Rattle.night_rules.specs.Night.{NightPlan, secondAt, handedAt, coefsAt, wholeEnd, firstStands, Called, called, handOut, secondPart}
+use Rattle.night_rules.specs.Stage.{zeros, isJudged, Staged, stageOf, sectionCells, sectionInto, Lends, Left, left}
+use Rattle.night_rules.specs.Stage.{leaves}
+use Rattle.night_rules.specs.Night.{NightPlan, secondAt, handedAt, coefsAt, wholeEnd, firstStands, Called, called}
+use Rattle.night_rules.specs.Night.{handOut, secondPart}
 use Rattle.night_rules.specs.declared.Audit.{Audit}
 use Rattle.night_rules.specs.declared.Audit.the-variants.{NotRun, NotWhole, NotOpened, Judged}
 use Rattle.night_rules.specs.declared.Stage.{Stage}
 use Rattle.night_rules.specs.declared.NightAnswer.the-variants.{FirstStands, Handed}
 use Rattle.night_run.specs.Handing.{stored, handOver}
-use Rattle.night_run.proofs.Sections.{Shaped, stage-shaped, written-in, front-amounts, fresh-section}
+use Rattle.night_rules.proofs.Shaped.{Shaped, stage-shaped}
+use Rattle.night_run.proofs.Sections.{written-in, front-amounts, fresh-section}
 
 module _ (a : Audit) (z w : List ℤ) where
   pub stores : isJudged a ≡ true → stored a z w ≡ written secondAt z w
@@ -101,8 +104,11 @@ module _ (p : Plan) (l : Lends p) where
   coefs-count : length Q ≡ (p .rows + 1) * p .cols
   coefs-count =
       simp length-append
-      (omega (arith, length-take-le (p .rows * p .cols) (p .coefs) (l .coefs-long),
-      length-take-le (p .cols) (p .costs) (l .costs-long)))
+      (omega (
+        arith,
+        length-take-le (p .rows * p .cols) (p .coefs) (l .coefs-long),
+        length-take-le (p .cols) (p .costs) (l .costs-long),
+      ))
 
   -- the coefficients are lent where they were laid
   pub coefs-lent : (w : List ℤ) (e : ℕ) → wholeEnd ≤ length w → e ≡ (p .rows + 1) * p .cols
@@ -167,5 +173,6 @@ module _ (n : NightPlan) (f : Stage) (found : ℤ) (a : Arrays) (w : List ℤ)
       t
       ∙ ap (λ (o : Left). handOver f (o .stage) x (o .section) (o .arrays) w1) e
       ∙ ap (λ (y : List ℤ). handOver f (S .stage) y (sectionInto 0 S (zeros sectionCells)) (S .arrays) w1) r
-      ∙ ap (λ (y : List ℤ). handOver f (S .stage) (take maxColumns w) (sectionInto 0 S (zeros sectionCells)) (S .arrays) y) p
+      ∙ ap (λ (y : List ℤ). handOver f (S .stage) (take maxColumns w) (sectionInto 0 S (zeros sectionCells))
+      (S .arrays) y) p
       ∙ handed-is S second-shaped f (take maxColumns w) (written coefsAt (laid (n .plan)) w)

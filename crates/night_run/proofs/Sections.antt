@@ -1,163 +1,23 @@
--- A stage's section: how long its arrays are, and where the amounts and the found cost stand. No contract cites this
--- file. Assumes nothing.
-use mathlib.Core.Path.{_≡_, refl, sym, ap, _∙_}
-use mathlib.Core.Bool.{Bool, true, false}
-use mathlib.Core.List.{List, [], _∷_, _++_, append-nil}
-use Prim.Native.Nat.{ℕ, zero, suc, _+_, _<_, _≤_}
+-- A stage's section as it is written into an array. No contract cites this file. Assumes nothing.
+use mathlib.Core.Path.{_≡_, sym, ap, _∙_}
+use mathlib.Core.Bool.{true}
+use mathlib.Core.List.{List, _++_, append-nil}
+use Prim.Native.Nat.{ℕ, _+_, _<_}
 use native.Mathlib.Omega.{arith}
-use lib.ListN.{length, take, drop, length-append, length-replicate, List·getD-append}
-use lib.Seq.{take-at, take-append-le, drop-length, getD-append-add}
+use lib.ListN.{length, take, drop, length-replicate, List·getD-append}
+use lib.Seq.{take-append-le, drop-length}
 use lib.IntN.{ℤ, pos}
-use lib.Ieee.{Float}
-use Rattle.doubles.specs.Limits.{maxRows, maxColumns}
-use Rattle.doubles.specs.Loop.{table}
-use Rattle.doubles.specs.Lists.{over}
-use Rattle.doubles.proofs.Loops.{length-tab}
+use Rattle.doubles.specs.Limits.{maxColumns}
 use Rattle.lu_packed.specs.Written.{written}
-use Rattle.rules.specs.Plan as Rules
 use Rattle.sheet_rules.specs.Sum.{_‼_}
-use Rattle.sheet_rules.specs.Sheet.{Plan, Sheet, sheetOf, activity, price, fresh, overKept, x as amountAt}
-use Rattle.sheet_rules.specs.Opening as Opening
-use Rattle.sheet_rules.specs.Opening.{opening, opened}
-use Rattle.sheet_rules.proofs.Fronts.{over-length}
-use Rattle.whole_multipliers.specs.Rows.{multipliers}
-use Rattle.whole_propose.specs.Propose as Propose
-use Rattle.whole_propose.specs.Propose.{Lent, Handed, amountsOf, proposal, isProposed, proposed, memory}
-use Rattle.whole_propose.specs.declared.Proposal.{Proposal}
-use Rattle.night_rules.specs.Doubles.{doublesPlan}
-use Rattle.night_rules.specs.Arrays.{Arrays, runOn}
-use Rattle.night_rules.specs.Stage.{zeros, lentFrom, withAmounts, sheetWith, isJudged, Staged, stageAfter, stageOf, foundAt}
-use Rattle.night_rules.specs.Stage.{sectionCells, sectionOf, sectionInto}
+use Rattle.night_rules.specs.Stage.{zeros, isJudged, Staged, foundAt, sectionCells, sectionOf, sectionInto}
+use Rattle.night_rules.proofs.Shaped.{Shaped, section-count, section-amounts, section-found}
 
 -- all cells of an array written
 pub all-written : {A : Type 0} (xs d : List A) → length xs ≡ length d → written 0 xs d ≡ xs
 all-written {A} xs d e =
     let q : 0 + length xs ≡ length d = omega (arith, e) in
     ap (λ (n : ℕ). xs ++ drop n d) q ∙ ap (λ (t : List A). xs ++ t) (drop-length d) ∙ append-nil xs
-
--- every array has the cells of its limit
-pub record Shaped (s : Sheet) : Type 0 where
-  pub amounts-long : length (s .plan .amounts) ≡ maxColumns
-  pub mults-long : length (s .plan .mults) ≡ maxRows
-  pub R-long : length (s .kept .R) ≡ maxRows
-  pub D-long : length (s .kept .D) ≡ maxColumns
-  pub C-long : length (s .kept .C) ≡ 1
-  pub B-long : length (s .kept .B) ≡ 1
-  pub counts-long : length (s .kept .counts) ≡ 4
-
--- ---- a proposal keeps the lengths of its arrays
-record Handable (h : Handed) : Type 0 where
-  amounts-kept : length (h .amounts-left) ≡ maxColumns
-  mults-kept : length (h .mults-left) ≡ maxRows
-
-front : (n k : ℕ) (xs : List ℤ) → length xs ≡ n → n ≤ k → length (over xs (zeros k)) ≡ k
-front n k xs e h =
-    over-length xs (zeros k) (omega (arith, e, length-replicate k (pos 0))) ∙ length-replicate k (pos 0)
-
-amounts-count : (n : ℕ) (v : List Float) → length (amountsOf n v) ≡ n
-unfolding amountsOf
-amounts-count n v = length-tab n 0 _
-
-mults-count : (q : Rules.Plan) (m : Rules.Memory) → length (multipliers q m) ≡ q .rows
-unfolding multipliers
-mults-count q m = length-tab (q .rows) 0 _
-
-module _ (q : Rules.Plan) (a : Arrays) (h : q .columns ≤ maxColumns) (k : q .rows ≤ maxRows) where
-  handable : (b : Bool) (z : Proposal) → Handable (Propose.leaves b (lentFrom q a) z)
-  handable true z =
-      let l = lentFrom q a in
-      record {
-        amounts-kept = front (q .columns) maxColumns (amountsOf (q .columns) (a .values)) (amounts-count _ _) h;
-        mults-kept = front (q .rows) maxRows (multipliers (l .plan) (memory l)) (mults-count _ _) k;
-      }
-  handable false z =
-      record {
-        amounts-kept = length-replicate maxColumns (pos 0);
-        mults-kept = length-replicate maxRows (pos 0);
-      }
-
-  proposed-long : Handable (proposed (lentFrom q a))
-  unfolding proposed
-  proposed-long = handable (isProposed (proposal (lentFrom q a))) (proposal (lentFrom q a))
-
--- ---- and so does an opening
-module _ (p : Plan) (x y : List ℤ) (ex : length x ≡ maxColumns) (ey : length y ≡ maxRows) (h : p .rows ≤ maxRows)
-    (k : p .cols ≤ maxColumns) where
-  by-number : (n : ℕ) → let s = sheetWith p x y in
-      Shaped (Opening.leaves n (sheetOf (s .plan) (overKept (fresh (s .plan)) (s .kept))) s)
-  unfolding overKept fresh
-  by-number zero =
-      record {
-        amounts-long = ex;
-        mults-long = ey;
-        R-long = let t = withAmounts p x y in
-            front (p .rows) maxRows (table (p .rows) (activity t (amountAt t))) (length-tab (p .rows) 0 _) h;
-        D-long = front (p .cols) maxColumns (table (p .cols) (price (withAmounts p x y))) (length-tab (p .cols) 0 _) k;
-        C-long = refl;
-        B-long = refl;
-        counts-long = refl;
-      }
-  by-number (suc n) =
-      record {
-        amounts-long = ex;
-        mults-long = ey;
-        R-long = length-replicate maxRows (pos 0);
-        D-long = length-replicate maxColumns (pos 0);
-        C-long = refl;
-        B-long = refl;
-        counts-long = refl;
-      }
-
-  opened-shaped : Shaped (opened (sheetWith p x y))
-  unfolding opened
-  opened-shaped = by-number (opening (sheetWith p x y))
-
--- ---- a stage's sheet
-module _ (budget : ℕ) (tolerance : Float) (p : Plan) (a : Arrays) (h : p .rows ≤ maxRows) (k : p .cols ≤ maxColumns)
-    where
-  abbrev q : Rules.Plan
-  q = doublesPlan budget tolerance p
-
-  same-columns : q .columns ≡ p .cols
-  unfolding doublesPlan
-  same-columns = refl
-
-  same-rows : q .rows ≡ p .rows
-  unfolding doublesPlan
-  same-rows = refl
-
-  pub stage-shaped : Shaped (stageOf budget tolerance p a .sheet)
-  unfolding stageOf stageAfter
-  stage-shaped =
-      let l = proposed-long q (runOn q a .arrays) (omega (arith, same-columns, k)) (omega (arith, same-rows, h)) in
-      opened-shaped p _ _ (l .amounts-kept) (l .mults-kept) h k
-
--- ---- in a section
-behind : (xs ys : List ℤ) (n k : ℕ) → length xs ≡ n → (xs ++ ys) ‼ (n + k) ≡ ys ‼ k
-behind xs ys n k e = ap (λ (i : ℕ). (xs ++ ys) ‼ (i + k)) (sym e) ∙ getD-append-add xs ys k (pos 0)
-
-first-of : (xs ys : List ℤ) → length xs ≡ 1 → (xs ++ ys) ‼ 0 ≡ xs ‼ 0
-first-of [] ys e = absurd (omega (arith, e))
-first-of (x ∷ xs) ys e = refl
-
-module _ (s : Sheet) (z : Shaped s) where
-  section-long : length (sectionOf s) ≡ sectionCells
-  unfolding sectionOf
-  section-long = simp length-append (omega (arith, z))
-
-  section-amounts : take maxColumns (sectionOf s) ≡ s .plan .amounts
-  unfolding sectionOf
-  section-amounts = take-at (s .plan .amounts) _ maxColumns (z .amounts-long)
-
-  section-found : sectionOf s ‼ foundAt ≡ s .kept .C ‼ 0
-  unfolding sectionOf
-  section-found =
-      let k = s .kept in
-      behind (s .plan .amounts) _ maxColumns (maxRows + (maxRows + maxColumns)) (z .amounts-long)
-      ∙ behind (s .plan .mults) _ maxRows (maxRows + maxColumns) (z .mults-long)
-      ∙ behind (k .R) _ maxRows maxColumns (z .R-long)
-      ∙ behind (k .D) (k .C ++ (k .B ++ k .counts)) maxColumns 0 (z .D-long)
-      ∙ first-of (k .C) (k .B ++ k .counts) (z .C-long)
 
 -- ---- written
 module _ (g : Staged) (z : Shaped (g .sheet)) (h : isJudged (g .stage .audit) ≡ true) where
@@ -174,12 +34,12 @@ module _ (g : Staged) (z : Shaped (g .sheet)) (h : isJudged (g .stage .audit) �
   pub front-amounts : (w : List ℤ) → take maxColumns (sectionInto 0 g w) ≡ g .sheet .plan .amounts
   front-amounts w =
       ap (take maxColumns) (at-front w)
-      ∙ take-append-le maxColumns S (drop (0 + length S) w) (omega (arith, section-long (g .sheet) z))
+      ∙ take-append-le maxColumns S (drop (0 + length S) w) (omega (arith, section-count (g .sheet) z))
       ∙ section-amounts (g .sheet) z
 
   pub front-found : (w : List ℤ) → sectionInto 0 g w ‼ foundAt ≡ g .sheet .kept .C ‼ 0
   front-found w =
-      let l : foundAt < length S = omega (arith, section-long (g .sheet) z) in
+      let l : foundAt < length S = omega (arith, section-count (g .sheet) z) in
       ap (λ (t : List ℤ). t ‼ foundAt) (at-front w)
       ∙ List·getD-append S (drop (0 + length S) w) (pos 0) foundAt l
       ∙ section-found (g .sheet) z
@@ -188,4 +48,4 @@ module _ (g : Staged) (z : Shaped (g .sheet)) (h : isJudged (g .stage .audit) �
   pub fresh-section : sectionInto 0 g (zeros sectionCells) ≡ S
   fresh-section =
       written-in 0 (zeros sectionCells)
-      ∙ all-written S (zeros sectionCells) (section-long (g .sheet) z ∙ sym (length-replicate sectionCells (pos 0)))
+      ∙ all-written S (zeros sectionCells) (section-count (g .sheet) z ∙ sym (length-replicate sectionCells (pos 0)))

@@ -14,7 +14,7 @@ use Rattle.doubles.specs.Loop.{run}
 use Rattle.doubles.proofs.Loops.{run-same}
 use Rattle.lu_packed.specs.Written.{written}
 use Rattle.sheet_rules.specs.Sum.{_‼_}
-use Rattle.sheet_rules.specs.Sheet.{Plan, planOf, c}
+use Rattle.sheet_rules.specs.Sheet.{Plan, c}
 use Rattle.night_rules.specs.Doubles.{countCell, nonzeros, startAt, entryCount}
 use Rattle.night_rules.specs.Night.{showsGap, entriesAfter, firstBeyond, testsAfter}
 use Rattle.night_rules.specs.declared.Stage.{Stage}
@@ -71,21 +71,38 @@ module _ (f : Stage) (p : Plan) (z : ℤ) where
         unfolding testsAfter
         cost-beyond j q h =
             ap (λ (k : ℕ). Stops (CostBeyond f k)) q
-            ∙ rw (g, lt-ltb (p .rows) maxRows r, le-leb (entriesAfter p) maxEntries e,
-            ne-eqb (firstBeyond p) (p .cols) (λ (t : firstBeyond p ≡ p .cols). h (q ∙ t)), testsAfter)
+            ∙ rw (
+              g,
+              lt-ltb (p .rows) maxRows r,
+              le-leb (entriesAfter p) maxEntries e,
+              ne-eqb (firstBeyond p) (p .cols) (λ (t : firstBeyond p ≡ p .cols). h (q ∙ t)),
+              testsAfter,
+            )
 
         module _ (b : firstBeyond p ≡ p .cols) where
           pub found-beyond : maxRightSide < natAbs z → Stops (FoundBeyond f) ≡ testsAfter f p z
           unfolding testsAfter
           found-beyond h =
-              rw (g, lt-ltb (p .rows) maxRows r, le-leb (entriesAfter p) maxEntries e,
-              eq-eqb (firstBeyond p) (p .cols) b, lt-leb (natAbs z) maxRightSide h, testsAfter)
+              rw (
+                g,
+                lt-ltb (p .rows) maxRows r,
+                le-leb (entriesAfter p) maxEntries e,
+                eq-eqb (firstBeyond p) (p .cols) b,
+                lt-leb (natAbs z) maxRightSide h,
+                testsAfter,
+              )
 
           pub goes-on : natAbs z ≤ maxRightSide → Goes ≡ testsAfter f p z
           unfolding testsAfter
           goes-on h =
-              rw (g, lt-ltb (p .rows) maxRows r, le-leb (entriesAfter p) maxEntries e,
-              eq-eqb (firstBeyond p) (p .cols) b, le-leb (natAbs z) maxRightSide h, testsAfter)
+              rw (
+                g,
+                lt-ltb (p .rows) maxRows r,
+                le-leb (entriesAfter p) maxEntries e,
+                eq-eqb (firstBeyond p) (p .cols) b,
+                le-leb (natAbs z) maxRightSide h,
+                testsAfter,
+              )
 
 -- ---- what the tests read
 module _ (m n : ℕ) (co cs : List ℤ) where

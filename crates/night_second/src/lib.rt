@@ -5,7 +5,6 @@ ghost use Prim.Native.Nat.{_+_, _*_, _≤_, _<_};
 ghost use lib.ListN.{length, take};
 ghost use Rattle.doubles.specs.Limits.{maxRows, maxColumns};
 ghost use Rattle.lu_packed.specs.Written.{written};
-ghost use Rattle.sheet_rules.specs.Sheet.{planOf};
 ghost use Rattle.night_rules.specs.Stage.{isJudged};
 ghost use Rattle.night_rules.specs.Night.{coefsAt, wholeEnd, showsGap, firstBeyond, testsAfter, firstStands};
 ghost use Rattle.night_second.specs.Costed.{costed};

@@ -63,7 +63,8 @@ loop-again c =
       i .0,
       omega (arith, h),
       ap (λ (z : ℤ). set (t .before .loop .to) (s .args .at + t .before .loop .k) z) (result _ (c .to .given))
-          ∙ copied-more (s .args .at) (s .args .from .now) (s .args .to .now) (s .pre) (t .before .loop .k) (i .2) (pos 0) h,
+          ∙ copied-more (s .args .at) (s .args .from .now) (s .args .to .now) (s .pre) (t .before .loop .k) (i .2)
+          (pos 0) h,
     )
 
 same-length : tie.Need-same-length Inv-loop μ-loop

@@ -27,8 +27,8 @@ returns c a =
     let d : tie.After-first-stands = search in
     let y : tie.Then1 = search in
     let l : tie.After-put-cells = search in
-    first-handed (s .args .first) (s .args .second) (s .args .amounts .now) (s .args .section .now) (s .args .whole .now)
-    a (t .store .ensures) (sym (d .first-stands .ensures) ∙ y .if1 .taken) (l .put-cells .ensures)
+    first-handed (s .args .first) (s .args .second) (s .args .amounts .now) (s .args .section .now)
+    (s .args .whole .now) a (t .store .ensures) (sym (d .first-stands .ensures) ∙ y .if1 .taken) (l .put-cells .ensures)
 
 slice-aggregate-put-cells : tie.Need-slice-aggregate-put-cells
 slice-aggregate-put-cells c =

@@ -1,5 +1,5 @@
 -- `night_run::night` meets its contract: each way through it ends where the definition does. Assumes nothing.
-use mathlib.Core.Path.{_≡_, sym, ap, _∙_}
+use mathlib.Core.Path.{_≡_, sym, _∙_}
 use mathlib.Core.Bool.{true}
 use mathlib.Core.List.{List, []}
 use Prim.Native.Nat.{_≤_}
@@ -8,14 +8,14 @@ use lib.ListN.{length}
 use lib.IntN.{ℤ}
 use borrow.Author.Needs.{needs}
 use borrow.Author.Tests.{not-true, not-false}
-use Rattle.doubles.specs.Limits.{maxRows, maxColumns}
 use Rattle.sheet_rules.specs.Sum.{_‼_}
 use Rattle.sheet_rules.specs.Sheet.{Plan, planOf}
 use Rattle.sheet_terms.proofs.Machine.{word, result}
 use Rattle.night_rules.specs.Arrays.{Arrays, arraysOf}
 use Rattle.night_rules.specs.Stage.{foundAt, Lends}
 use Rattle.night_rules.specs.Night.{NightPlan, nightOf, wholeEnd, sizesIn, planLong, memoryLong}
-use Rattle.night_run.proofs.Calls.{too-big, short-plan, short-memory, few, lends, whole-long, stopped, rows-fewer, went}
+use Rattle.night_run.proofs.Calls.{too-big, short-plan, short-memory, few, lends, whole-long, stopped}
+use Rattle.night_run.proofs.Calls.{rows-fewer, went}
 use Rattle.night_run.proofs.night.Statement.{statement}
 use Rattle.night_run.proofs.night.Tie as tie
 

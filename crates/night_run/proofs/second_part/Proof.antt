@@ -1,11 +1,11 @@
 -- `night_run::second_part`: the second stage on its plan, then what it left is handed out. Assumes nothing.
-use mathlib.Core.Path.{_≡_, refl, sym, ap, _∙_, subst}
+use mathlib.Core.Path.{_≡_, sym, ap, _∙_, subst}
 use mathlib.Core.List.{List, [], _∷_, _++_}
-use Prim.Native.Nat.{ℕ, _+_, _-_, _*_, _<_, _≤_}
+use Prim.Native.Nat.{ℕ, _+_, _-_, _*_, _≤_}
 use native.Mathlib.Omega.{arith}
-use lib.ListN.{length, take, drop}
+use lib.ListN.{take}
 use lib.Seq.{length-take-le}
-use lib.IntN.{ℤ, pos}
+use lib.IntN.{ℤ}
 use borrow.Author.Needs.{needs}
 use Rattle.doubles.specs.Limits.{maxRows, maxColumns}
 use Rattle.lu_packed.specs.Written.{written}
@@ -15,7 +15,7 @@ use Rattle.sheet_terms.proofs.Machine.{of-word}
 use Rattle.night_rules.specs.Arrays.{Arrays, arraysOf}
 use Rattle.night_rules.specs.Second.{secondPlan}
 use Rattle.night_rules.specs.Stage.{Lends, zeros, sectionCells, stageOf, leaves}
-use Rattle.night_rules.specs.Night.{NightPlan, nightOf, coefsAt, wholeEnd}
+use Rattle.night_rules.specs.Night.{NightPlan, nightOf, coefsAt}
 use Rattle.night_second.proofs.Laws.{cells-fit}
 use Rattle.night_run.proofs.Sections.{all-written}
 use Rattle.night_run.proofs.Laws.{laid, coefs-lent, front-lent, plan-lent, lends-second, second-is}
@@ -225,7 +225,8 @@ returns c =
     ∙ ap (λ (q : Plan). leaves (stageOf (a .budget) (a .tolerance) q (lent t)) (zeros sectionCells)) (planned o))
     (l o .lay-coefs .ensures)
     (m o .put-cells .ensures
-    ∙ all-written (take maxColumns (w t)) (zeros maxColumns) (length-take-le maxColumns (w t) (omega (arith, t .pre .3))))
+    ∙ all-written (take maxColumns (w t)) (zeros maxColumns)
+    (length-take-le maxColumns (w t) (omega (arith, t .pre .3))))
     (h .hand-out .ensures _)
 
 pub second-part-spec : {M : Type 1} → statement M

@@ -1,11 +1,5 @@
 -- `night_run::store`: by the audit. Assumes nothing.
-use mathlib.Core.Path.{_≡_, refl, sym, ap, _∙_}
-use mathlib.Core.Bool.{Bool, true, false}
-use mathlib.Core.List.{List}
-use lib.IntN.{ℤ}
-use Rattle.lu_packed.specs.Written.{written}
-use Rattle.night_rules.specs.Night.{secondAt}
-use Rattle.night_run.specs.Handing.{stored}
+use mathlib.Core.Path.{sym, _∙_}
 use Rattle.night_run.proofs.Laws.{stores, stays}
 use borrow.Author.Needs.{needs}
 use Rattle.night_run.proofs.store.Statement.{statement}
@@ -24,7 +18,8 @@ returns : tie.Need-returns
 returns c =
     let t : tie.After-put-cells = search in
     let j : tie.After-is-judged = search in
-    t .put-cells .ensures ∙ sym (stores _ _ _ (sym (j .is-judged .ensures) ∙ (let y : tie.Then1 = search in y .if1 .taken)))
+    let y : tie.Then1 = search in
+    t .put-cells .ensures ∙ sym (stores _ _ _ (sym (j .is-judged .ensures) ∙ y .if1 .taken))
 
 returns-2 : tie.Need-returns-2
 returns-2 c =

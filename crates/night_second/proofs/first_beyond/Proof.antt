@@ -1,6 +1,6 @@
 -- `night_second::first_beyond`: no column before is one. Assumes nothing.
 use mathlib.Core.Path.{_≡_, ap, _∙_}
-use mathlib.Core.Bool.{true, false, not}
+use mathlib.Core.Bool.{not}
 use mathlib.Core.List.{[]}
 use Prim.Native.Nat.{_-_, _≤_}
 use native.Mathlib.Omega.{arith}
@@ -34,7 +34,9 @@ module _ (w : tie.After-size Inv-loop μ-loop) where
   start = search
 
   element : w .size .result ≡ natAbs (start .args .costs .now ‼ head .before .loop .j)
-  element = w .size .ensures ∙ ap natAbs (result (start .args .costs .now ‼ head .before .loop .j) (w .before .size-arg .given))
+  element =
+      w .size .ensures
+      ∙ ap natAbs (result (start .args .costs .now ‼ head .before .loop .j) (w .before .size-arg .given))
 
 loop-holds : tie.Need-loop-holds Inv-loop μ-loop
 unfolding firstBeyond
@@ -62,10 +64,10 @@ loop-less c = omega arith
 
 loop-again : tie.Need-loop-again Inv-loop μ-loop
 loop-again c = let t : tie.In-loop Inv-loop μ-loop = search in (
-      omega arith,
-      passed (t .before .loop .inv .1) (t .loop-test .taken)
-          (rw (← element (c .before)) (rw (le-leb _ _ (c .if1 .left)))),
-    )
+  omega arith,
+  passed (t .before .loop .inv .1) (t .loop-test .taken)
+      (rw (← element (c .before)) (rw (le-leb _ _ (c .if1 .left)))),
+)
 
 returns-2 : tie.Need-returns-2 Inv-loop μ-loop
 returns-2 c = missed (c .before .loop .inv .1) (omega arith)

@@ -1,17 +1,18 @@
 -- `night_second::tests`: each answer after the tests before it. Assumes nothing.
 use mathlib.Core.Path.{_≡_, sym, ap, _∙_}
 use mathlib.Core.Bool.{true}
-use Prim.Native.Nat.{_+_, _<_, _≤_}
+use Prim.Native.Nat.{_+_, _<_}
 use native.Mathlib.Omega.{arith}
 use lib.IntN.{natAbs}
 use borrow.Author.Needs.{needs}
 use borrow.Author.Tests.{not-true, not-false}
-use Rattle.doubles.specs.Limits.{maxRows, maxEntries}
+use Rattle.doubles.specs.Limits.{maxRows}
 use Rattle.sheet_rules.specs.Sheet.{Plan}
 use Rattle.sheet_terms.proofs.Machine.{of-word}
 use Rattle.night_rules.specs.Night.{showsGap, entriesAfter, firstBeyond}
 use Rattle.night_second.specs.Costed.{costed}
-use Rattle.night_second.proofs.Laws.{entries-most, no-gap, rows-full, entries-full, cost-beyond, found-beyond, goes-on, same-beyond, entries-are}
+use Rattle.night_second.proofs.Laws.{entries-most, no-gap, rows-full, entries-full, cost-beyond, found-beyond}
+use Rattle.night_second.proofs.Laws.{goes-on, same-beyond, entries-are}
 use Rattle.night_second.proofs.tests.Statement.{statement}
 use Rattle.night_second.proofs.tests.Tie as tie
 
@@ -88,8 +89,8 @@ returns-4 c =
     let n : tie.After-entries2 = search in
     let u : tie.Else3 = search in
     let b : tie.After-first-beyond = search in
-    cost-beyond (s .args .first) (p s) (s .args .found) (shown e) (few r) (omega (arith, counted n, u .if3 .left)) _ (beyond b)
-    (c .if4 .taken)
+    cost-beyond (s .args .first) (p s) (s .args .found) (shown e) (few r) (omega (arith, counted n, u .if3 .left)) _
+    (beyond b) (c .if4 .taken)
 
 size-requires : tie.Need-size-requires
 size-requires c κs = search needs
