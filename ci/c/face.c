@@ -1,5 +1,5 @@
-/* The library's face as a C program sees it: night case N2's plan with its state, triangles, and night case N5's sheet
-   with its edits and its file; N2's run as whole numbers. */
+/* The library's face as a C program sees it: night case N2's plan with its state, a column of it held still and let go,
+   triangles, and night case N5's sheet with its edits and its file; N2's run as whole numbers. */
 #include <math.h>
 #include <stdio.h>
 #include <string.h>
@@ -27,13 +27,18 @@ static void check(int holds, const char *what) {
 static size_t factor_numbers[TEVALUMI_FACTOR_NUMBERS + 1];
 static double factor_coeffs[TEVALUMI_FACTOR_COEFFS + 1];
 
+#define N2_ARRAYS \
+    const double costs[] = {-3, -1}, lowers[] = {0, 0}, uppers[] = {HUGE_VAL, 2}, coeffs[] = {1, 1}, rhs[] = {4}; \
+    const size_t starts[] = {0, 2}, cols[] = {0, 1}; \
+    const uint8_t ops[] = {0};
+#define N2(budget) \
+    2, 1, 2, budget, 1e-9, ARRAY(costs), ARRAY(lowers), ARRAY(uppers), ARRAY(starts), ARRAY(cols), ARRAY(coeffs), ARRAY(ops), ARRAY(rhs)
+
 static TevalumiAnswer solve_with(double *values, size_t *numbers, size_t numbers_len, double *doubles, size_t doubles_len, size_t factor_numbers_len,
     size_t factor_coeffs_len) {
-    const double costs[] = {-3, -1}, lowers[] = {0, 0}, uppers[] = {HUGE_VAL, 2}, coeffs[] = {1, 1}, rhs[] = {4};
-    const size_t starts[] = {0, 2}, cols[] = {0, 1};
-    const uint8_t ops[] = {0};
-    return tevalumi_solve(2, 1, 2, 10, 1e-9, ARRAY(costs), ARRAY(lowers), ARRAY(uppers), ARRAY(starts), ARRAY(cols), ARRAY(coeffs), ARRAY(ops), ARRAY(rhs),
-        values, 4, numbers, numbers_len, doubles, doubles_len, factor_numbers, factor_numbers_len, factor_coeffs, factor_coeffs_len);
+    N2_ARRAYS
+    return tevalumi_solve(
+        N2(10), values, 4, numbers, numbers_len, doubles, doubles_len, factor_numbers, factor_numbers_len, factor_coeffs, factor_coeffs_len);
 }
 
 static TevalumiAnswer solve(double *values, size_t *numbers, size_t numbers_len, double *doubles, size_t doubles_len) {
@@ -109,6 +114,66 @@ static void plan(void) {
             && MARKED(doubles, TEVALUMI_DOUBLES, LEN(doubles)),
         "all other cells of doubles");
     check(MARKED(factor_numbers, 0, LEN(factor_numbers)) && MARKED(factor_coeffs, 0, LEN(factor_coeffs)), "and no factor");
+}
+
+/* N2's memory, with a cell more in each array. */
+typedef struct {
+    double values[4], doubles[TEVALUMI_DOUBLES + 1], factor_coeffs[TEVALUMI_FACTOR_COEFFS + 1];
+    size_t numbers[TEVALUMI_NUMBERS + 1], factor_numbers[TEVALUMI_FACTOR_NUMBERS + 1];
+} Memory;
+
+#define LENT(m) ARRAY((m)->values), ARRAY((m)->numbers), ARRAY((m)->doubles), ARRAY((m)->factor_numbers), ARRAY((m)->factor_coeffs)
+
+static TevalumiAnswer fix(Memory *m, size_t budget, size_t column, double value) {
+    N2_ARRAYS
+    return tevalumi_fix(N2(budget), LENT(m), column, value);
+}
+
+static TevalumiAnswer unfix(Memory *m, size_t column) {
+    N2_ARRAYS
+    return tevalumi_unfix(N2(10), LENT(m), column);
+}
+
+static int refused(TevalumiAnswer a, size_t status) {
+    return a.status == status && a.objective == 0 && a.steps == 0 && a.place == 0 && a.excess == 0;
+}
+
+/* A column held still and let go, and each refusal of the two calls; a refused call changes nothing. */
+static void fixes(void) {
+    N2_ARRAYS
+    static Memory m, before;
+    memset(&m, 0, sizeof m);
+    m.values[3] = m.doubles[TEVALUMI_DOUBLES] = m.factor_coeffs[TEVALUMI_FACTOR_COEFFS] = MARK;
+    m.numbers[TEVALUMI_NUMBERS] = m.factor_numbers[TEVALUMI_FACTOR_NUMBERS] = MARK;
+    check(refused(unfix(&m, 0), 41), "41: no run is kept");
+    check(tevalumi_solve(N2(10), LENT(&m)).status == 0, "N2's run");
+    memcpy(&before, &m, sizeof m);
+    check(refused(fix(&m, 10001, 0, 3), 1), "1: as a solve");
+    check(refused(fix(&m, 10, 2, NAN), 42) && refused(unfix(&m, 2), 42), "42: no such column");
+    check(refused(fix(&m, 10, 1, 3), 43) && refused(fix(&m, 10, 0, HUGE_VAL), 43) && refused(fix(&m, 10, 0, NAN), 43), "43: a value outside");
+    check(refused(unfix(&m, 0), 44) && refused(unfix(&m, 1), 44), "44: a column that isn't held");
+    check(memcmp(&m, &before, sizeof m) == 0, "and nothing changed");
+    m.numbers[TEVALUMI_FLAGS] = 4;
+    check(refused(fix(&m, 10, 0, 3), 41), "41: flags that no call leaves");
+    m.numbers[TEVALUMI_FLAGS] = 1;
+
+    TevalumiAnswer a = fix(&m, 10, 0, 3);
+    check(a.status == 0 && a.objective == -10 && a.steps == 1 && a.excess == 0, "a basic column held");
+    check(m.values[0] == 3 && m.values[1] == 1 && m.values[2] == 0, "its values");
+    size_t place = m.numbers[TEVALUMI_VAR_STATES];
+    check(place < 2 && m.numbers[TEVALUMI_FLAGS + place] == 7 && m.doubles[TEVALUMI_NB_VAR_VALS + place] == 3, "its place, its mark");
+    a = fix(&m, 10, 0, 4);
+    check(a.status == 0 && a.objective == -12 && m.values[0] == 4 && m.numbers[TEVALUMI_VAR_STATES] == place, "held elsewhere");
+    check(m.numbers[TEVALUMI_COUNTS + 3] == a.steps && m.numbers[TEVALUMI_COUNTS + 4] == 0, "its counts");
+    a = unfix(&m, 0);
+    check(a.status == 0 && a.objective == -12 && m.numbers[TEVALUMI_FLAGS + place] != 7, "let go");
+    a = fix(&m, 0, 0, 1);
+    check(a.status == 21 && a.objective == -12 && a.steps == 0, "21: no budget to move it");
+    check(tevalumi_solve(N2(10), LENT(&m)).status == 0 && fix(&m, 10, 0, 5).status == 26, "26: nothing takes the move up");
+    check(m.numbers[TEVALUMI_COUNTS + 4] == 26 && refused(fix(&m, 10, 0, 3), 41), "its status, and 41 after it");
+    check(m.values[3] == MARK && m.numbers[TEVALUMI_NUMBERS] == MARK && m.doubles[TEVALUMI_DOUBLES] == MARK
+            && m.factor_numbers[TEVALUMI_FACTOR_NUMBERS] == MARK && m.factor_coeffs[TEVALUMI_FACTOR_COEFFS] == MARK,
+        "the cells past the arrays");
 }
 
 /* 2 x0 = 6 and 2 x0 + 4 x1 = 0, by columns; cells past the second are marked. */
@@ -345,6 +410,7 @@ static void wholes(void) {
 
 int main(void) {
     plan();
+    fixes();
     wholes();
     triangle();
     factors();

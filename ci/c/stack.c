@@ -35,35 +35,60 @@ static void *solve(void *answer) {
 
 enum { CUBE = 8 };
 
+static struct {
+    size_t rows, entries, starts[2 * CUBE], cols[4 * CUBE], numbers[TEVALUMI_NUMBERS], factor_numbers[TEVALUMI_FACTOR_NUMBERS];
+    double costs[CUBE], lowers[CUBE], uppers[CUBE], coeffs[4 * CUBE], rhs[2 * CUBE], values[COLUMNS + ROWS], doubles[TEVALUMI_DOUBLES],
+        factor_coeffs[TEVALUMI_FACTOR_COEFFS];
+    uint8_t ops[2 * CUBE];
+} cube;
+
+#define CUBE_PLAN \
+    CUBE, cube.rows, cube.entries, 10000, 1e-6, ARRAY(cube.costs), ARRAY(cube.lowers), ARRAY(cube.uppers), ARRAY(cube.starts), ARRAY(cube.cols), \
+        ARRAY(cube.coeffs), ARRAY(cube.ops), ARRAY(cube.rhs), ARRAY(cube.values), ARRAY(cube.numbers), ARRAY(cube.doubles), ARRAY(cube.factor_numbers), \
+        ARRAY(cube.factor_coeffs)
+
+static int factored(TevalumiAnswer a) {
+    return a.status == 0 && cube.numbers[TEVALUMI_COUNTS + 5] == 1 && cube.numbers[TEVALUMI_COUNTS + 6] == 1;
+}
+
 /* A cube whose run has more exchanges than the eta store has room for: the basis is factored. */
 static void *factor(void *answer) {
-    static double costs[CUBE], lowers[CUBE], uppers[CUBE], coeffs[4 * CUBE], rhs[2 * CUBE], values[COLUMNS + ROWS], doubles[TEVALUMI_DOUBLES],
-        factor_coeffs[TEVALUMI_FACTOR_COEFFS];
-    static size_t starts[2 * CUBE], cols[4 * CUBE], numbers[TEVALUMI_NUMBERS], factor_numbers[TEVALUMI_FACTOR_NUMBERS];
-    static uint8_t ops[2 * CUBE];
     size_t rows = 1, entries = 1;
     double right = 0.016;
     for (size_t k = CUBE; k-- > 0;) {
-        costs[k] = k + 1 == CUBE ? -0.1 : costs[k + 1] * 1.25;
-        uppers[k] = INFINITY;
+        cube.costs[k] = k + 1 == CUBE ? -0.1 : cube.costs[k + 1] * 1.25;
+        cube.uppers[k] = INFINITY;
     }
-    coeffs[0] = rhs[0] = 0.001;
+    cube.coeffs[0] = cube.rhs[0] = 0.001;
     for (size_t k = 1; k < CUBE; k++) {
         for (int below = 1; below >= 0; below--, rows++) {
-            starts[rows] = entries;
-            ops[rows] = below ? 2 : 0;
-            rhs[rows] = below ? 0 : right;
-            cols[entries] = k - 1;
-            coeffs[entries++] = below ? -0.004 : 0.004;
-            cols[entries] = k;
-            coeffs[entries++] = 0.001;
+            cube.starts[rows] = entries;
+            cube.ops[rows] = below ? 2 : 0;
+            cube.rhs[rows] = below ? 0 : right;
+            cube.cols[entries] = k - 1;
+            cube.coeffs[entries++] = below ? -0.004 : 0.004;
+            cube.cols[entries] = k;
+            cube.coeffs[entries++] = 0.001;
         }
         right *= 16;
     }
-    starts[rows] = entries;
-    TevalumiAnswer a = tevalumi_solve(CUBE, rows, entries, 10000, 1e-6, ARRAY(costs), ARRAY(lowers), ARRAY(uppers), ARRAY(starts), ARRAY(cols), ARRAY(coeffs),
-        ARRAY(ops), ARRAY(rhs), ARRAY(values), ARRAY(numbers), ARRAY(doubles), ARRAY(factor_numbers), ARRAY(factor_coeffs));
-    *(int *)answer = a.status == 0 && numbers[TEVALUMI_COUNTS + 5] == 1 && numbers[TEVALUMI_COUNTS + 6] == 1;
+    cube.starts[rows] = entries;
+    cube.rows = rows;
+    cube.entries = entries;
+    *(int *)answer = factored(tevalumi_solve(CUBE_PLAN));
+    return NULL;
+}
+
+/* From what that run left: the transposes are made anew, and steps follow. */
+static void *fix(void *answer) {
+    TevalumiAnswer a = tevalumi_fix(CUBE_PLAN, 0, 0.5);
+    *(int *)answer = factored(a) && a.steps > 0 && cube.values[0] == 0.5;
+    return NULL;
+}
+
+static void *unfix(void *answer) {
+    TevalumiAnswer a = tevalumi_unfix(CUBE_PLAN, 0);
+    *(int *)answer = factored(a) && a.steps > 0;
     return NULL;
 }
 
@@ -134,6 +159,8 @@ static void measure(const char *name, void *(*body)(void *), size_t limit) {
 int main(void) {
     measure("tevalumi_solve", solve, 512 << 10);
     measure("tevalumi_solve with a factor", factor, 512 << 10);
+    measure("tevalumi_fix with a factor", fix, 512 << 10);
+    measure("tevalumi_unfix with a factor", unfix, 512 << 10);
     measure("tevalumi_lower_sparse", triangle, 24 << 10);
     measure("tevalumi_open and tevalumi_edit", edit, 8 << 10);
     printf("%d passed, %d failed\n", passed, failed);

@@ -444,6 +444,10 @@ fn full(rng: &mut Rng, list: &mut List) {
         list.poke(Lent::Etaptr, eta + 1, state.etaidx.len() as u64);
     }
     list.poke(Lent::Counts, 1, limits::ETA_COLUMNS);
+    if rng.one_in(4) {
+        // The count of factorings may be any number, and goes on past the largest.
+        list.poke(Lent::Counts, 6, u64::MAX);
+    }
     if rng.one_in(2) {
         let (row, col) = (rng.below(state.kept.len()), rng.below(list.columns()));
         let (leaving, entering) = (state.basic[row], state.nonbasic[col]);

@@ -872,7 +872,7 @@ fn exchanged(rules: &Rules, now: &Now, exchange: Exchange) -> Result<Now, Outcom
         next.etas.push(eta(&col, row, pivot)?);
     } else {
         next.factor = Some(factored(rules, &next.basic)?);
-        next.factorings += 1;
+        next.factorings = next.factorings.wrapping_add(1);
         next.etas.clear();
     }
     Ok(next)

@@ -1020,7 +1020,7 @@ impl Solver {
                 }
                 return self.check_noted(false);
             }
-            self.factorings += 1;
+            self.factorings = self.factorings.wrapping_add(1);
             return self
                 .basis_solver
                 .factor(&self.orig_constraints_csc, &self.basic_vars);
@@ -1035,7 +1035,7 @@ impl Solver {
                 .push_eta_matrix(&self.col_coeffs, pivot_elem.row, pivot_coeff);
             Ok(())
         } else {
-            self.factorings += 1;
+            self.factorings = self.factorings.wrapping_add(1);
             self.basis_solver
                 .reset(&self.orig_constraints_csc, &self.basic_vars)
         }

@@ -2,12 +2,11 @@
 use mathlib.Core.Path.{_≡_, refl, sym, ap, _∙_, subst}
 use mathlib.Core.Bool.{Bool, true, false}
 use mathlib.Core.List.{List}
-use Prim.Native.Nat.{ℕ, _+_, _-_, _<_, _≤_}
+use Prim.Native.Nat.{ℕ, _+_, _-_, _<_}
 use native.Mathlib.Omega.{arith}
-use lib.Dec.{ltb, eqb}
+use lib.Dec.{eqb}
 use lib.ListN.{length}
 use lib.Ieee.{Float, eq}
-use borrow.Author.Tests.{ltb-true, ltb-false}
 use Rattle.doubles.specs.Limits.{maxBudget, maxColumns, vars}
 use Rattle.doubles.specs.Lists.{_!_, _#_}
 use Rattle.rules.specs.Plan.{Problem, Workspace, State, nOf, mOf, column, varStateOf, varMin, varMax}
@@ -35,6 +34,7 @@ use Rattle.step_refactor.specs.declared.Went.{Went}
 use Rattle.step_refactor.specs.declared.Went.the-variants.{On, Stops}
 use Rattle.step.proofs.Laws.{steppedOf, moves-on, stops-at}
 use Rattle.step_dual.proofs.Laws.{dual-step-part}
+use Rattle.check_final.proofs.Laws.{row-cell}
 use Rattle.run.specs.Lent.{Running}
 use Rattle.run.proofs.Laws.{part, whole}
 use Rattle.run.proofs.Primal.{run-part}
@@ -107,7 +107,7 @@ module _ (P : Problem) (s : State) (row : ℕ) (value : Float) where
   unfolding fixStep fixTest
   fix-step-is e o q = rw e at q
 
-  fix-step-part : fixStep P s row value ≡ fixStep (steppedOf P) s row value
+  pub fix-step-part : fixStep P s row value ≡ fixStep (steppedOf P) s row value
   unfolding fixStep fixTest
   fix-step-part = dual-step-part (fixTest P s row value) P s (fixLeaving P s row value)
 
@@ -141,7 +141,7 @@ module _ (P : Problem) (s : State) (row : ℕ) (value : Float) where
           ∙ ap (afterFixStep P s j) (sym o) ∙ by-step
 
 -- ---- an unfix reads of the problem the bounds alone
-unmark-part : (P : Problem) (s : State) (c : ℕ) → unmarked (boundsOf P) s c ≡ unmarked P s c
+pub unmark-part : (P : Problem) (s : State) (c : ℕ) → unmarked (boundsOf P) s c ≡ unmarked P s c
 unfolding unmarked flagsAt varMin varMax
 unmark-part P s c = refl
 
@@ -163,22 +163,6 @@ module _ (P : Problem) (s : State) (j : ℕ) where
       let all : P .plan .budget - t .steps ≡ P .plan .budget = omega (arith, k, ap (λ (u : State). u .steps) et) in
       ez ∙ sym (run-part P (P .plan .budget - t .steps) t) ∙ ap (λ (b : ℕ). runOf P b t) all
       ∙ ap (runOf P (P .plan .budget)) (et ∙ unmark-part P s (s .ws .varStates # j))
-
-pub place-told : (n cell c : ℕ) → varStateOf n cell ≡ NonBasic c → (c ≡ cell) × (cell < n)
-unfolding varStateOf
-place-told n cell c q = go (ltb cell n) refl q
-  where
-    go : (b : Bool) → ltb cell n ≡ b → elim b [ true ↦ NonBasic cell | false ↦ Basic (cell - n) ] ≡ NonBasic c → (c ≡ cell) × (cell < n)
-    go true e q = (cc, ltb-true cell n e)
-    go false e q = absurd (let z : _≡_ {A = ℕ} 0 1 = cc in omega arith)
-
-pub row-told : (n cell r : ℕ) → varStateOf n cell ≡ Basic r → cell ≡ n + r
-unfolding varStateOf
-row-told n cell r q = go (ltb cell n) refl q
-  where
-    go : (b : Bool) → ltb cell n ≡ b → elim b [ true ↦ NonBasic cell | false ↦ Basic (cell - n) ] ≡ Basic r → cell ≡ n + r
-    go true e q = absurd (let z : _≡_ {A = ℕ} 0 1 = cc in omega arith)
-    go false e q = let d : cell - n ≡ r = cc in omega (arith, d, ltb-false cell n e)
 
 -- the cell of column j, as the workspace's
 pub cell-is : (N : List ℕ) (D : List Float) (j : ℕ) → j < vars → N # (varStatesAt + j) ≡ packed N D .varStates # j
@@ -241,7 +225,7 @@ module _ {n : ℕ} {lowers uppers : List Float} {starts cols : List ℕ} {coeffs
 
     pub stands-in : (row : ℕ) → varStateOf n (N # (varStatesAt + j)) ≡ Basic row → StandsIn n kept N D j row
     stands-in row q =
-        let e : packed N D .varStates # j ≡ n + row = sym (cell-is N D j column-below) ∙ row-told n (N # (varStatesAt + j)) row q in
+        let e : packed N D .varStates # j ≡ n + row = sym (cell-is N D j column-below) ∙ sym (row-cell n (N # (varStatesAt + j)) row q) in
         record {
           column = inside;
           row-inside = omega (arith, e, a .state-fits .maps .variable j (omega arith) .cell);

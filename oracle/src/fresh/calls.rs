@@ -122,7 +122,7 @@ fn repriced(rules: &Rules, now: &Now, costs: &[f64]) -> Result<Now, Outcome> {
     let mut next = now.clone();
     if !now.etas.is_empty() {
         next.factor = Some(factored(rules, &now.basic)?);
-        next.factorings += 1;
+        next.factorings = next.factorings.wrapping_add(1);
         next.etas.clear();
     }
     let cost = |var: usize| if var < rules.columns { costs[var] } else { 0.0 };

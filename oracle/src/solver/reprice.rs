@@ -24,7 +24,7 @@ impl Solver {
         // ours: "Where eta columns are stored: the basis is factored in their place (23 and 25 as in
         // Ask 5)". The shown reset stands at the head of recalc_obj_coeffs.
         if self.basis_solver.eta_matrices.len() > 0 {
-            self.factorings += 1;
+            self.factorings = self.factorings.wrapping_add(1);
             self.basis_solver
                 .factor(&self.orig_constraints_csc, &self.basic_vars)?;
         }

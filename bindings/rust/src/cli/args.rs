@@ -120,7 +120,7 @@ options:
   --html FILE  write one page to keep or print
   --fix COLUMN=X
                hold a column of the solved plan still at X and go on from there; again for more. The
-               plan is shown before and after, with the steps that each took and those of a fresh solve
+               plan is shown before and after, with the steps that each took beside a fresh solve's
 
 in LP:  `x <= -3` alone leaves the lower bound 0, as GLPK and Clp read it, and the bounds cross
 in MPS: a negative UP without a lower bound means no lower bound; bounds of 1e20 and more mean

@@ -1,7 +1,7 @@
 //! Hands a plan to the library and keeps what it answers.
 
 use tevalumi::raw::{
-    limits, sections, solve_lent, Answer, PlanRef, Status, Workspace, WorkspaceMut,
+    fix_into, limits, sections, solve_lent, Answer, PlanRef, Status, Workspace, WorkspaceMut,
 };
 
 use super::plan::Plan;
@@ -16,6 +16,16 @@ pub struct Solved {
     pub kept: Vec<usize>,
     /// What the run left.
     pub work: Box<Workspace>,
+    /// Where the call was a fix.
+    pub fix: Option<Fix>,
+}
+
+/// A column that is to be held still, where it stood and where it is to stand.
+#[derive(Clone, Copy, Debug)]
+pub struct Fix {
+    pub column: usize,
+    pub from: f64,
+    pub value: f64,
 }
 
 /// Where a variable of a solved plan stands.
@@ -55,6 +65,11 @@ impl Solved {
     pub fn basic(&self, row: usize) -> (usize, f64) {
         let var = self.work.numbers[sections::BASIC_VARS][row];
         (var, self.work.doubles[sections::BASIC_VAR_VALS][row])
+    }
+
+    /// The fix whose own first part found no column for this kept row: what it was to hold is basic there still.
+    pub fn unmoved(&self, row: usize) -> Option<Fix> {
+        self.fix.filter(|fix| self.basic(row).0 == fix.column)
     }
 
     /// Each row's multiplier, as minimised: minus the price of its slack, 0 for a dropped row.
@@ -98,17 +113,33 @@ pub fn solve(plan: &Plan) -> Solved {
         cut(plan, &mut memory, &mut values_lent, name, length);
     }
     let answer = solve_lent(&lent(plan), &mut memory, values_lent);
-    after(plan, answer, values, work)
+    after(plan, answer, values, work, None)
+}
+
+/// Holds a column still, from where the call before it left off.
+pub fn fix(plan: &Plan, before: &Solved, fix: Fix) -> Solved {
+    let mut work = before.work.clone();
+    let mut values = vec![0.0; limits::COLUMNS + limits::ROWS];
+    let lent = lent(plan);
+    let answer = fix_into(&lent, &mut work, &mut values, fix.column, fix.value);
+    after(plan, answer, values, work, Some(fix))
 }
 
 /// An answer of a call with what it left.
-pub fn after(plan: &Plan, answer: Answer, mut values: Vec<f64>, work: Box<Workspace>) -> Solved {
+fn after(
+    plan: &Plan,
+    answer: Answer,
+    mut values: Vec<f64>,
+    work: Box<Workspace>,
+    fix: Option<Fix>,
+) -> Solved {
     if answer.status.is_refusal() {
         return Solved {
             answer,
             values: Vec::new(),
             kept: Vec::new(),
             work,
+            fix,
         };
     }
     let kept = work.kept().to_vec();
@@ -121,6 +152,7 @@ pub fn after(plan: &Plan, answer: Answer, mut values: Vec<f64>, work: Box<Worksp
         values,
         kept,
         work,
+        fix,
     }
 }
 

@@ -1,22 +1,21 @@
 //! `solve --fix NAME=VALUE`: columns of a solved plan held still, one after another, each from where the call before it
 //! left off, and what a fresh solve with the same columns held takes.
 
-use tevalumi::raw::{fix_into, limits, Place, Status};
+use tevalumi::raw::Status;
 
 use super::desk::found;
-use super::engine::{self, Solved};
+use super::engine::{self, Fix, Solved};
 use super::html::Page;
 use super::plan::{counted, shown, Plan};
-use super::report::{self, EPS};
+use super::report;
 use super::show::{json, number, quoted};
 
 /// A column that was held still, what came of it, and the same plan solved anew with its bounds there.
 pub struct Held {
-    column: usize,
-    value: f64,
-    /// Where the column stood before.
-    from: f64,
+    fix: Fix,
     pub after: Solved,
+    /// The plan with the bounds of every column that is held so far at its value.
+    pub bound: Plan,
     fresh: Solved,
 }
 
@@ -39,25 +38,25 @@ pub fn named(plan: &Plan, fixes: &[String]) -> Result<Vec<(usize, f64)>, String>
 
 /// Holds each in turn, until one doesn't end in 0.
 pub fn hold(plan: &Plan, solved: &Solved, fixes: &[(usize, f64)]) -> Vec<Held> {
-    let mut held = Vec::new();
+    let mut held: Vec<Held> = Vec::new();
     let mut bound = plan.clone();
-    let mut before = solved.clone();
     for &(column, value) in fixes {
-        let mut work = before.work.clone();
-        let mut values = vec![0.0; limits::COLUMNS + limits::ROWS];
-        let answer = fix_into(&engine::lent(plan), &mut work, &mut values, column, value);
-        (bound.lowers[column], bound.uppers[column]) = (value, value);
-        let after = engine::after(plan, answer, values, work);
-        let from = before.values[column];
-        before = after.clone();
-        held.push(Held {
+        let before = held.last().map_or(solved, |held| &held.after);
+        let fix = Fix {
             column,
+            from: before.values[column],
             value,
-            from,
+        };
+        let after = engine::fix(plan, before, fix);
+        (bound.lowers[column], bound.uppers[column]) = (value, value);
+        let ended = after.answer.status;
+        held.push(Held {
+            fix,
             after,
             fresh: engine::solve(&bound),
+            bound: bound.clone(),
         });
-        if answer.status != Status::Optimal {
+        if ended != Status::Optimal {
             break;
         }
     }
@@ -66,27 +65,7 @@ pub fn hold(plan: &Plan, solved: &Solved, fixes: &[(usize, f64)]) -> Vec<Held> {
 
 impl Held {
     fn name(&self, plan: &Plan) -> String {
-        plan.column_name(self.column)
-    }
-
-    /// The status in a sentence. A 26 of the fix's own first part is no broken row: the column can't be moved.
-    fn sentence(&self, plan: &Plan) -> String {
-        let answer = &self.after.answer;
-        match (answer.status, answer.place) {
-            (Status::Infeasible, Place::KeptRow(k)) if self.after.basic(k).0 == self.column => format!(
-                "Infeasible: the solver finds no column that could take up the move of {} from {} to {}: none that has room to move has a coefficient of at least {EPS:e} in size in its row.",
-                self.name(plan),
-                number(self.from),
-                number(self.value)
-            ),
-            (Status::ValueOutside, _) => format!(
-                "refused: {} may stand from {} to {}.",
-                self.name(plan),
-                plan.lowers[self.column],
-                plan.uppers[self.column]
-            ),
-            _ => report::sentence(plan, &self.after),
-        }
+        plan.column_name(self.fix.column)
     }
 
     /// What solving anew takes, in words.
@@ -110,10 +89,10 @@ impl Held {
         let mut out = format!(
             "\nfixed      {} at {}, from {}\nstatus     {}, {}\n",
             self.name(plan),
-            number(self.value),
-            number(self.from),
+            number(self.fix.value),
+            number(self.fix.from),
             answer.status.number(),
-            self.sentence(plan)
+            report::sentence(plan, &self.after)
         );
         if !answer.status.is_refusal() {
             out += &report::result(plan, &self.after, false);
@@ -127,10 +106,10 @@ impl Held {
         format!(
             "{{\"column\":{},\"value\":{},\"from\":{},\"status\":{},\"sentence\":{},\"objective\":{},\"steps\":{},\"fresh_status\":{},\"fresh_steps\":{}}}",
             quoted(&self.name(plan)),
-            json(self.value),
-            json(self.from),
+            json(self.fix.value),
+            json(self.fix.from),
             answer.status.number(),
-            quoted(&self.sentence(plan)),
+            quoted(&report::sentence(plan, &self.after)),
             json(plan.objective(answer.objective)),
             answer.steps,
             fresh.status.number(),
@@ -161,9 +140,9 @@ pub fn page(plan: &Plan, held: &[Held], last: &Solved) -> Page {
         page.text(&format!(
             "{} was fixed at {}, from {}: {} {}; {}.",
             one.name(plan),
-            number(one.value),
-            number(one.from),
-            one.sentence(plan),
+            number(one.fix.value),
+            number(one.fix.from),
+            report::sentence(plan, &one.after),
             counted(one.after.answer.steps, "step", "steps"),
             one.anew()
         ));

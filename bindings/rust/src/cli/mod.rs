@@ -268,7 +268,9 @@ impl Case<'_> {
         };
         let last = held.last().map_or(&self.solved, |held| &held.after);
         let optimal = last.answer.status == Status::Optimal;
-        let list = optimal.then(|| sol::printed(plan, last));
+        // The list of a plan whose columns are held is that of the plan with their bounds there.
+        let bound = held.last().map_or(plan, |held| &held.bound);
+        let list = optimal.then(|| sol::printed(bound, last));
         put(&self.request.sol, list, files)?;
         if !held.is_empty() {
             let text = report::head(plan, &self.solved, bits)

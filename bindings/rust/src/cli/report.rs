@@ -2,7 +2,7 @@
 
 use tevalumi::raw::{limits, Place, Status};
 
-use super::engine::{Solved, Stands};
+use super::engine::{Fix, Solved, Stands};
 use super::html::{Bar, Page};
 use super::plan::{counted, Plan, EQ, GE, LE};
 use super::show::{bits, json, number, quoted, Side, Table};
@@ -440,12 +440,37 @@ pub fn sentence(plan: &Plan, solved: &Solved) -> String {
             kept_name(plan, solved, k),
             largest(solved)
         ),
-        (Status::Infeasible, Place::KeptRow(k)) => format!(
+        (Status::Infeasible, Place::KeptRow(k)) => match solved.unmoved(k) {
+            Some(fix) => format!(
+                "Infeasible: the solver finds no column that could take up the move of {} from {} to {}: none that has room to move has a coefficient of at least {EPS:e} in size in its row.",
+                plan.column_name(fix.column),
+                number(fix.from),
+                number(fix.value)
+            ),
+            None => format!(
             "Infeasible: the solver finds no column that could mend row {}, {}: none that has room to move has a coefficient of at least {EPS:e} in size there.",
             kept_name(plan, solved, k),
             out_of_bounds(plan, solved, k)
         ),
+        },
+        (Status::ValueOutside, _) => {
+            let may = |fix: Fix| {
+                let (name, column) = (plan.column_name(fix.column), fix.column);
+                format!("{name} may stand {}", range(plan.lowers[column], plan.uppers[column]))
+            };
+            format!("refused: {}.", solved.fix.map_or(status.sentence().to_string(), may))
+        }
         (status, _) => format!("{}.", status.sentence()),
+    }
+}
+
+/// Where a column may stand, in words.
+fn range(lower: f64, upper: f64) -> String {
+    match (lower.is_finite(), upper.is_finite()) {
+        (true, true) => format!("from {} to {}", number(lower), number(upper)),
+        (true, false) => format!("from {} on", number(lower)),
+        (false, true) => format!("up to {}", number(upper)),
+        (false, false) => "at any finite number".to_string(),
     }
 }
 

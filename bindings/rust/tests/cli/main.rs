@@ -10,6 +10,7 @@ mod answers;
 mod audits;
 mod damage;
 mod desk;
+mod fix;
 mod formats;
 mod kept;
 mod pages;

@@ -7,9 +7,10 @@ use Rattle.rules.specs.Plan.{Problem, State, varStateOf}
 use Rattle.rules.specs.declared.VarState.{VarState}
 use Rattle.state.specs.Packed.{stateIn, varStatesAt}
 use Rattle.doubles.specs.Lists.{_#_}
+use Rattle.check_final.proofs.Laws.{place-cell}
 use Rattle.run_launch.proofs.Laws.{transposes}
 use Rattle.fix_run.specs.Lent.{calledOf}
-use Rattle.fix_run.proofs.Laws.{column-below, cell-is, stands-in, place-told, fixed-by}
+use Rattle.fix_run.proofs.Laws.{column-below, cell-is, stands-in, fixed-by}
 use Rattle.fix_run.proofs.fixed.Statement.{statement}
 use Rattle.fix_run.proofs.fixed.Tie as tie
 
@@ -76,9 +77,8 @@ fix-non-basic-requires c κs =
     let w : tie.After-standing = search in
     let v : tie.After-var-state = search in
     let b = columns-at v in
-    let s = entry b in
-    let p = place-told (s .args .n) _ _ (stands v _ (w .standing .given .1)) in (
-      (s .pre .0, s .pre .1, omega (arith, p)),
+    let s = entry b in (
+      (s .pre .0, s .pre .1, place-cell (s .args .n) _ _ (stands v _ (w .standing .given .1))),
       (b .by-columns .ensures .0, omega (arith, b .by-columns .ensures .1, s .pre .0 .problem-fits .plan .columns-most), s .pre .3),
     )
 
