@@ -1,3 +1,4 @@
 -- What the conversion asks and leaves.
 pub mod Laid
 pub mod Converted
+pub mod Meaning
