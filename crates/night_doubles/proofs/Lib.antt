@@ -1,4 +1,2 @@
--- The conversion's laws. The theorem:
---     what the solver is handed     Meaning     handed-over
+-- The conversion's laws.
 pub mod Laws
-pub mod Meaning
