@@ -292,7 +292,7 @@ class Files(unittest.TestCase):
 
     @unittest.skipUnless(PROGRAM, "no program is named")
     def test_the_program_answers_alike(self):
-        for plan in ("two-tunnels", "night-as-priced", "night-alarms-first"):
+        for plan in ("two-tunnels", "night-as-priced"):
             file = PLANS / f"{plan}.mps"
             solution = tevalumi.read(file).solve()
             told = json.loads(program("solve", "--json", file))
@@ -344,7 +344,7 @@ class Files(unittest.TestCase):
 
     @unittest.skipUnless(PROGRAM, "no program is named")
     def test_the_program_judges_alike(self):
-        for plan in ("two-tunnels", "night-as-priced", "night-alarms-first"):
+        for plan in ("two-tunnels", "night-as-priced"):
             file = PLANS / f"{plan}.mps"
             told = json.loads(program("audit", "--json", file))["sheet"]
             sheet = tevalumi.read(file).audit()

@@ -89,7 +89,9 @@ impl Arrays {
     /// An array that is too short stays so.
     fn of(night: &Night, rng: &mut Rng) -> Arrays {
         let plan = &night.plan;
-        let longer = reference::lengths(night).iter().all(|(_, lent, needed)| lent >= needed);
+        let longer = reference::lengths(night)
+            .iter()
+            .all(|(_, lent, needed)| lent >= needed);
         let mut extra = || if longer { rng.below(EXTRA) } else { 0 };
         Arrays {
             numbers: [
@@ -101,8 +103,7 @@ impl Arrays {
                 &plan.rhs,
             ]
             .map(|cells| Lent::longer(cells, extra())),
-            bytes: [&plan.haslow, &plan.hasup, &plan.ops]
-                .map(|cells| Lent::longer(cells, extra())),
+            bytes: [&plan.haslow, &plan.hasup, &plan.ops].map(|cells| Lent::longer(cells, extra())),
         }
     }
 
@@ -113,7 +114,12 @@ impl Arrays {
             && bytes.into_iter().all(|(is, was)| is.stayed(was, 0))
     }
 
-    fn night(&self, night: &Night, memory: &mut plans::Memory, whole: &mut Lent<i64>) -> library::Night {
+    fn night(
+        &self,
+        night: &Night,
+        memory: &mut plans::Memory,
+        whole: &mut Lent<i64>,
+    ) -> library::Night {
         let [coefs, alarms, reports, lowers, uppers, rhs] = &self.numbers;
         let [lower_marks, upper_marks, ops] = &self.bytes;
         tevalumi_night(
@@ -226,12 +232,18 @@ fn memory_differs(
                     .stayed(&before.factor_coeffs, guards.factor_coeffs),
         ),
     ];
-    same.into_iter().find(|(_, same)| !same).map(|(name, _)| name)
+    same.into_iter()
+        .find(|(_, same)| !same)
+        .map(|(name, _)| name)
 }
 
 /// The same arrays beside those that the library's own solve leaves, one stage's plan after the other: so for the cells
 /// that a factoring emptied too, which the oracle doesn't tell.
-fn solves_differ(told: &Told, lent: &plans::Memory, mut own: plans::Memory) -> Option<&'static str> {
+fn solves_differ(
+    told: &Told,
+    lent: &plans::Memory,
+    mut own: plans::Memory,
+) -> Option<&'static str> {
     for plan in &told.solved {
         own.solve(plan, &Given::of(plan));
     }

@@ -252,8 +252,6 @@ fn bundled_plans() {
     assert_eq!(solution[small.variables["north"]], 4.5);
     let night = read(include_str!("../plans/night-as-priced.mps"));
     assert_eq!(night.problem.solve().unwrap().steps(), 51);
-    let first = read(include_str!("../plans/night-alarms-first.mps"));
-    assert_eq!(first.problem.solve().unwrap().steps(), 23);
 }
 
 #[test]

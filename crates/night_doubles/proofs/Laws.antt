@@ -94,11 +94,14 @@ module _ {A : Type 0} (xs l : List A) (x : A) where
   over-snoc h =
       ap (λ (t : List A). set (xs ++ t) (length xs) x) (drop-cons l (length xs) x h)
       ∙ set-at xs (getD l (length xs) x) (drop (suc (length xs)) l) x (length xs) refl
-      ∙ sym (ap (λ (k : ℕ). (xs ++ (x ∷ [])) ++ drop k l) (length-append xs (x ∷ []) ∙ add-one (length xs)) ∙ append-snoc xs x (drop (suc (length xs)) l))
+      ∙ sym (ap (λ (k : ℕ). (xs ++ (x ∷ [])) ++ drop k l) (length-append xs (x ∷ []) ∙ add-one (length xs))
+      ∙ append-snoc xs x (drop (suc (length xs)) l))
 
   -- the front xs of l is k long
-  set-behind : (k : ℕ) (l′ : List A) → k ≡ length xs → k < length l → l′ ≡ over xs l → set l′ k x ≡ over (xs ++ (x ∷ [])) l
-  set-behind k l′ e h q = ap (λ (t : List A). set t k x) q ∙ ap (λ (j : ℕ). set (over xs l) j x) e ∙ over-snoc (omega arith)
+  set-behind : (k : ℕ) (l′ : List A) → k ≡ length xs → k < length l → l′ ≡ over xs l → set l′ k x
+      ≡ over (xs ++ (x ∷ [])) l
+  set-behind k l′ e h q = ap (λ (t : List A). set t k x) q ∙ ap (λ (j : ℕ). set (over xs l) j x) e
+      ∙ over-snoc (omega arith)
 
 laid-more : (e : Entries) (k : ℕ) (l : List ℕ) (xs : List Float) (j : ℕ) (v : Float) → k < maxEntries → Laid e k l xs
     → Laid (entriesOf (e .columns ++ (j ∷ [])) (e .values ++ (v ∷ []))) (k + 1) (set l k j) (set xs k v)
@@ -107,9 +110,11 @@ laid-more e k l xs j v h r =
       columns-counted = omega (arith, r .columns-counted, length-append (e .columns) (j ∷ []));
       values-counted = omega (arith, r .values-counted, length-append (e .values) (v ∷ []));
       columns-laid =
-          set-behind (e .columns) (replicate maxEntries 0) j k l (r .columns-counted) (omega (arith, length-replicate {A = ℕ} maxEntries 0)) (r .columns-laid);
+          set-behind (e .columns) (replicate maxEntries 0) j k l (r .columns-counted)
+          (omega (arith, length-replicate {A = ℕ} maxEntries 0)) (r .columns-laid);
       values-laid =
-          set-behind (e .values) (replicate maxEntries f0) v k xs (r .values-counted) (omega (arith, length-replicate maxEntries f0)) (r .values-laid);
+          set-behind (e .values) (replicate maxEntries f0) v k xs (r .values-counted)
+          (omega (arith, length-replicate maxEntries f0)) (r .values-laid);
     }
 
 module _ (row : ℕ → ℤ) (at : ℕ) (l : List ℕ) (xs : List Float) where
@@ -134,7 +139,8 @@ module _ (row : ℕ → ℤ) (at : ℕ) (l : List ℕ) (xs : List Float) where
     cell-laid v h g f =
         record {
           row-counted = omega (arith, r .row-counted, count-one row n h);
-          row-laid = λ e q. rw (entry-next e) (rw (h, entryCell, f) ((laid-more (rowEntries row n e) k l′ xs′ n (asDouble (row n)) g (r .row-laid e q))));
+          row-laid = λ e q. rw (entry-next e) (rw (h, entryCell, f)
+              ((laid-more (rowEntries row n e) k l′ xs′ n (asDouble (row n)) g (r .row-laid e q))));
         }
 
 -- ---- a row cut out of the coefficients
@@ -146,13 +152,16 @@ module _ (co : List ℤ) (m n i : ℕ) (h : i * n + n ≤ length co) where
   unfolding nonzeros
   cut-count =
       ap (nonzeros rowCut) (cut-long co (i * n) n h)
-      ∙ run-same (λ j k. countCell (rowCut j) k) (λ j k. countCell (a (cellsOf m n co) i j) k) n (λ j k g. ap (λ (z : ℤ). countCell z k) (cut-at co (i * n) n j g)) 0
+      ∙ run-same (λ j k. countCell (rowCut j) k) (λ j k. countCell (a (cellsOf m n co) i j) k) n
+      (λ j k g. ap (λ (z : ℤ). countCell z k) (cut-at co (i * n) n j g)) 0
 
-  pub cut-entries : (e : Entries) → rowEntries rowCut (length (cut co (i * n) n)) e ≡ rowEntries (a (cellsOf m n co) i) n e
+  pub cut-entries : (e : Entries) → rowEntries rowCut (length (cut co (i * n) n)) e
+      ≡ rowEntries (a (cellsOf m n co) i) n e
   unfolding rowEntries
   cut-entries e =
       ap (λ (k : ℕ). rowEntries rowCut k e) (cut-long co (i * n) n h)
-      ∙ run-same (λ j s. entryCell j (rowCut j) s) (λ j s. entryCell j (a (cellsOf m n co) i j) s) n (λ j s g. ap (λ (z : ℤ). entryCell j z s) (cut-at co (i * n) n j g)) e
+      ∙ run-same (λ j s. entryCell j (rowCut j) s) (λ j s. entryCell j (a (cellsOf m n co) i j) s) n
+      (λ j s g. ap (λ (z : ℤ). entryCell j z s) (cut-at co (i * n) n j g)) e
 
 -- ---- the rows
 module _ (p : Plan) where
@@ -178,8 +187,10 @@ module _ (p : Plan) where
   entries-next i = rw add-one
 
 -- a row more
-module _ (co : List ℤ) (m n i : ℕ) (h : i * n + n ≤ length co) (at : ℕ) (l : List ℕ) (xs : List Float) (k : ℕ) (l′ : List ℕ) (xs′ : List Float)
-    (r : RowLaid (rowCut co m n i h) at l xs (length (cut co (i * n) n)) k l′ xs′) (e : at ≡ startAt (cellsOf m n co) i) where
+module _ (co : List ℤ) (m n i : ℕ) (h : i * n + n ≤ length co) (at : ℕ) (l : List ℕ) (xs : List Float) (k : ℕ)
+    (l′ : List ℕ) (xs′ : List Float)
+    (r : RowLaid (rowCut co m n i h) at l xs (length (cut co (i * n) n)) k l′ xs′)
+    (e : at ≡ startAt (cellsOf m n co) i) where
   pub row-start : k ≡ startAt (cellsOf m n co) (i + 1)
   row-start = omega (arith, e, r .row-counted, cut-count co m n i h, start-next (cellsOf m n co) i)
 
@@ -188,40 +199,58 @@ module _ (co : List ℤ) (m n i : ℕ) (h : i * n + n ≤ length co) (at : ℕ) 
       rw (entries-next (cellsOf m n co) i, ← cut-entries co m n i h (entriesTo (cellsOf m n co) i))
       (r .row-laid (entriesTo (cellsOf m n co) i) q)
 
-pub none-laid : (m n : ℕ) (co : List ℤ) (l : List ℕ) (xs : List Float) → Blank l xs → Laid (entriesTo (cellsOf m n co) 0) 0 l xs
+pub none-laid : (m n : ℕ) (co : List ℤ) (l : List ℕ) (xs : List Float) → Blank l xs
+    → Laid (entriesTo (cellsOf m n co) 0) 0 l xs
 unfolding entriesTo run
 none-laid m n co l xs b =
-    record { columns-counted = refl; values-counted = refl; columns-laid = b .columns-blank; values-laid = b .values-blank }
+    record {
+      columns-counted = refl;
+      values-counted = refl;
+      columns-laid = b .columns-blank;
+      values-laid = b .values-blank;
+    }
 
 -- ---- the whole plan
-module _ (p : Plan) {c₀ l₀ u₀ r₀ c l u r : List Float} {s₀ s ks : List ℕ} {xs : List Float} {k₀ : List ℕ} {x₀ : List Float}
+module _ (p : Plan) {c₀ l₀ u₀ r₀ c l u r : List Float} {s₀ s ks : List ℕ} {xs : List Float} {k₀ : List ℕ}
+    {x₀ : List Float}
     (z : Zeroed c₀ l₀ u₀ s₀ k₀ x₀ r₀) {lo hi : Float} (low : lo ≡ -inf) (high : hi ≡ +inf)
     (costs-are : c ≡ over (table (p .cols) (λ j. asDouble (p .costs ‼ j))) c₀)
     (lowers-are : l ≡ over (table (p .cols) (λ j. boundOr lo (p .lowerMarks # j) (p .lowers ‼ j))) l₀)
     (uppers-are : u ≡ over (table (p .cols) (λ j. boundOr hi (p .upperMarks # j) (p .uppers ‼ j))) u₀)
     (starts-are : s ≡ over (table (p .rows + 1) (startAt (cellsOf (p .rows) (p .cols) (p .coefs)))) s₀)
-    (q : Laid (entriesTo (cellsOf (p .rows) (p .cols) (p .coefs)) (p .rows)) (entryCount (cellsOf (p .rows) (p .cols) (p .coefs))) ks xs)
+    (q : Laid (entriesTo (cellsOf (p .rows) (p .cols) (p .coefs)) (p .rows))
+    (entryCount (cellsOf (p .rows) (p .cols) (p .coefs))) ks xs)
     (rhs-are : r ≡ over (table (p .rows) (λ i. asDouble (p .rhs ‼ i))) r₀) where
   pub converted-is : converted (p .cols) (p .rows) (entryCount (cellsOf (p .rows) (p .cols) (p .coefs))) c l u s ks xs r
-      ≡ doublesPlan 0 f0 (planOf (p .rows) (p .cols) (p .coefs) (p .costs) (p .lowers) (p .uppers) (p .lowerMarks) (p .upperMarks) (p .rhs) [] [] [])
+      ≡ doublesPlan 0 f0 (planOf (p .rows) (p .cols) (p .coefs) (p .costs) (p .lowers) (p .uppers) (p .lowerMarks)
+      (p .upperMarks) (p .rhs) [] [] [])
   unfolding doublesPlan entryCount startAt entriesTo
   converted-is = λ i.
-      converted (p .cols) (p .rows) (entryCount (cellsOf (p .rows) (p .cols) (p .coefs))) ((rw (z .costs-zero) at costs-are) i)
-      ((rw (low, z .lowers-zero) at lowers-are) i) ((rw (high, z .uppers-zero) at uppers-are) i) ((rw (z .starts-zero) at starts-are) i)
+      converted (p .cols) (p .rows) (entryCount (cellsOf (p .rows) (p .cols) (p .coefs)))
+      ((rw (z .costs-zero) at costs-are) i)
+      ((rw (low, z .lowers-zero) at lowers-are) i) ((rw (high, z .uppers-zero) at uppers-are) i)
+      ((rw (z .starts-zero) at starts-are) i)
       (q .columns-laid i) (q .values-laid i) ((rw (z .rhs-zero) at rhs-are) i)
 
   -- what is written fits
-  tabled : {A : Type 0} (n : ℕ) (f : ℕ → A) (k : List A) {g g₀ : List A} → g ≡ over (table n f) g₀ → g₀ ≡ k → n ≤ length k → length g ≡ length k
+  tabled : {A : Type 0} (n : ℕ) (f : ℕ → A) (k : List A) {g g₀ : List A} → g ≡ over (table n f) g₀ → g₀ ≡ k
+      → n ≤ length k → length g ≡ length k
   tabled n f k e d h = ap length (rw d at e) ∙ over-long n f k h
 
   pub converted-long : Converts p → Long c l u ks xs r
   converted-long h =
       let e = entriesTo (cellsOf (p .rows) (p .cols) (p .coefs)) (p .rows) in
       record {
-        costs-long = tabled (p .cols) (λ j. asDouble (p .costs ‼ j)) (replicate maxColumns f0) costs-are (z .costs-zero) (h .cols-few);
-        lowers-long = tabled (p .cols) (λ j. boundOr lo (p .lowerMarks # j) (p .lowers ‼ j)) (replicate maxColumns f0) lowers-are (z .lowers-zero) (h .cols-few);
-        uppers-long = tabled (p .cols) (λ j. boundOr hi (p .upperMarks # j) (p .uppers ‼ j)) (replicate maxColumns f0) uppers-are (z .uppers-zero) (h .cols-few);
-        cols-long = ap length (q .columns-laid) ∙ over-length (e .columns) (replicate maxEntries 0) (omega (arith, q .columns-counted, h .entries-few));
-        coeffs-long = ap length (q .values-laid) ∙ over-length (e .values) (replicate maxEntries f0) (omega (arith, q .values-counted, h .entries-few));
-        rhs-long = tabled (p .rows) (λ i. asDouble (p .rhs ‼ i)) (replicate maxRows f0) rhs-are (z .rhs-zero) (h .rows-few);
+        costs-long = tabled (p .cols) (λ j. asDouble (p .costs ‼ j)) (replicate maxColumns f0) costs-are
+            (z .costs-zero) (h .cols-few);
+        lowers-long = tabled (p .cols) (λ j. boundOr lo (p .lowerMarks # j) (p .lowers ‼ j)) (replicate maxColumns f0)
+            lowers-are (z .lowers-zero) (h .cols-few);
+        uppers-long = tabled (p .cols) (λ j. boundOr hi (p .upperMarks # j) (p .uppers ‼ j)) (replicate maxColumns f0)
+            uppers-are (z .uppers-zero) (h .cols-few);
+        cols-long = ap length (q .columns-laid) ∙ over-length (e .columns) (replicate maxEntries 0)
+            (omega (arith, q .columns-counted, h .entries-few));
+        coeffs-long = ap length (q .values-laid) ∙ over-length (e .values) (replicate maxEntries f0)
+            (omega (arith, q .values-counted, h .entries-few));
+        rhs-long = tabled (p .rows) (λ i. asDouble (p .rhs ‼ i)) (replicate maxRows f0) rhs-are (z .rhs-zero)
+            (h .rows-few);
       }

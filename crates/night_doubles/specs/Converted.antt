@@ -35,7 +35,8 @@ pub record Zeroed (costs lowers uppers : List Float) (starts cols : List ℕ) (c
   pub rhs-zero : rhs ≡ replicate maxRows f0
 
 -- the budget, the tolerance and the comparisons aren't converted
-abbrev pub converted : ℕ → ℕ → ℕ → List Float → List Float → List Float → List ℕ → List ℕ → List Float → List Float → Rules.Plan
+abbrev pub converted : ℕ → ℕ → ℕ → List Float → List Float → List Float → List ℕ → List ℕ → List Float → List Float
+    → Rules.Plan
 converted n m e costs lowers uppers starts cols coeffs rhs =
     planOf n m e 0 f0 costs lowers uppers starts cols coeffs [] rhs
 

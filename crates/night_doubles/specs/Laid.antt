@@ -28,6 +28,7 @@ pub record Laid (e : Entries) (k : ℕ) (l : List ℕ) (xs : List Float) : Type 
   pub values-laid : xs ≡ over (e .values) (replicate maxEntries f0)
 
 -- whatever `at` entries stood at the fronts of l and xs: those of a row's first n columns now stand behind them
-pub record RowLaid (row : ℕ → ℤ) (at : ℕ) (l : List ℕ) (xs : List Float) (n k : ℕ) (l′ : List ℕ) (xs′ : List Float) : Type 0 where
+pub record RowLaid (row : ℕ → ℤ) (at : ℕ) (l : List ℕ) (xs : List Float) (n k : ℕ) (l′ : List ℕ) (xs′ : List Float) :
+    Type 0 where
   pub row-counted : k ≡ at + nonzeros row n
   pub row-laid : (e : Entries) → Laid e at l xs → Laid (rowEntries row n e) k l′ xs′

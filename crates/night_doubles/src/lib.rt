@@ -5,7 +5,7 @@ ghost use mathlib.Core.List.{[]};
 ghost use Prim.Native.Nat.{_+_, _*_, _≤_};
 ghost use lib.ListN.{length};
 ghost use Rattle.doubles.specs.Num.{f0};
-ghost use Rattle.doubles.specs.Limits.{maxRows, maxColumns, maxEntries};
+ghost use Rattle.doubles.specs.Limits.{maxRows, maxEntries};
 ghost use Rattle.doubles.specs.Lists.{_#_, over};
 ghost use Rattle.doubles.specs.Loop.{table};
 ghost use Rattle.sheet_rules.specs.Sum.{_‼_};
@@ -165,8 +165,20 @@ pub fn convert(
         (now (cols .exit)) (now (coeffs .exit)) (now («plan_rhs» .exit)) ⌝ }
 {
     numbers(columns, costs, plan_costs);
-    bounds(columns, -doubles::infinity(), lower_marks, lowers, plan_lowers);
-    bounds(columns, doubles::infinity(), upper_marks, uppers, plan_uppers);
+    bounds(
+        columns,
+        -doubles::infinity(),
+        lower_marks,
+        lowers,
+        plan_lowers,
+    );
+    bounds(
+        columns,
+        doubles::infinity(),
+        upper_marks,
+        uppers,
+        plan_uppers,
+    );
     lay_rows(rows, columns, coefs, starts, cols, coeffs);
     numbers(rows, rhs, plan_rhs);
 }

@@ -1,12 +1,12 @@
--- "the same numbers in doubles" (02, Ask 14): a whole number of size up to 2 ^ 53 is its double's exact value, and every
--- number of a plan that the sheet accepts is far below. Assumes nothing.
+-- "the same numbers in doubles" (02, Ask 14): a whole number of size up to 2 ^ 53 is its double's exact value, and
+-- every number of a plan that the sheet accepts is far below. Assumes nothing.
 use mathlib.Core.Path.{_≡_, refl, sym, ap, _∙_}
 use mathlib.Core.Bool.{Bool, true, false}
 use Prim.Native.Nat.{ℕ, suc, _+_, _*_, _^_, _<_, _≤_}
 use native.Mathlib.Nat.{mul-one, le-trans}
 use lib.Dec.{lit≤}
 use lib.IntN.{ℤ, pos, negsuc, negℤ, natAbs, _*ℤ_, pos-*ℤ-pos}
-use lib.Ieee.{Float, nan, inf, fin, binary64, up, down, round, ofInt}
+use lib.Ieee.{Float, fin, binary64, up, down, round, ofInt}
 use lib.Ieee.Exact.{HasValue}
 use lib.Ieee.Back.{round-whole}
 use Rattle.doubles.specs.Num.{finite}
@@ -25,7 +25,8 @@ pub record IsExactly (x : Float) (z : ℤ) : Type 0 where
 
 by-value : (x : Float) (s : Bool) (n : ℕ) → HasValue x s n 1 → IsExactly x (signed s n)
 unfolding finite
-by-value (fin t m e) s n h = record { is-finite = refl; same-value = ap (λ (b : Bool). signed b m *ℤ pos (up e)) (h .0) ∙ go s }
+by-value (fin t m e) s n h =
+    record { is-finite = refl; same-value = ap (λ (b : Bool). signed b m *ℤ pos (up e)) (h .0) ∙ go s }
   where
     sizes : pos m *ℤ pos (up e) ≡ pos n *ℤ pos (down e)
     sizes = pos-*ℤ-pos m (up e) ∙ ap pos (sym (mul-one (m * up e)) ∙ h .1) ∙ sym (pos-*ℤ-pos n (down e))
@@ -57,7 +58,8 @@ same-numbers s e =
     let k = l .arrays-in in
     record {
       costs-same = λ j h. small (c p j) (k .costs-in j h) (lit≤ tt);
-      coefs-same = λ i j h g. small (a p i j) (l .coefs-in (i * p .cols + j) (place-in i (p .rows) j (p .cols) h g)) (lit≤ tt);
+      coefs-same = λ i j h g. small (a p i j) (l .coefs-in (i * p .cols + j) (place-in i (p .rows) j (p .cols) h g))
+          (lit≤ tt);
       lowers-same = λ j h. small (lower p j) (k .lowers-in j h .small) (lit≤ tt);
       uppers-same = λ j h. small (upper p j) (k .uppers-in j h .small) (lit≤ tt);
       rhs-same = λ i h. small (rhs p i) (k .rhs-in i h) (lit≤ tt);

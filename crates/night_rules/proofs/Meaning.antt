@@ -14,6 +14,7 @@ use lib.Ieee.{Float}
 use Rattle.doubles.specs.Limits.{maxColumns}
 use Rattle.rules.specs.Solve.{solvePlan}
 use Rattle.state.specs.Packed.{section}
+use Rattle.state.specs.Memory.{handed, answered}
 use Rattle.state.proofs.Sections.{section-at}
 use Rattle.sheet_rules.specs.Sum.{_‼_}
 use Rattle.sheet_rules.specs.Sheet.{Plan, c, x, cost}
@@ -21,8 +22,8 @@ use Rattle.sheet_rules.specs.declared.Verdict.the-variants.{Gap}
 use Rattle.sheet_rules.proofs.Bools.{unlike}
 use Rattle.sheet_rules.proofs.Sums.{sum-ext}
 use Rattle.night_rules.specs.Doubles.{doublesPlan}
-use Rattle.night_rules.specs.Arrays.{Arrays, memory, past, inArrays, ranBy, runOn}
-use Rattle.night_rules.specs.Stage.{stageAfter, stageOf, sectionCells}
+use Rattle.night_rules.specs.Arrays.{Arrays, memory, past}
+use Rattle.night_rules.specs.Stage.{Staged, stageAfter, stageOf, sectionCells}
 use Rattle.night_rules.specs.Night.{NightPlan, Called, nightPlan, handedAt, wholeEnd}
 use Rattle.night_rules.specs.declared.Audit.the-variants.{Judged}
 use Rattle.night_rules.specs.declared.Stage.{Stage}
@@ -32,18 +33,24 @@ use Rattle.night_rules.specs.declared.NightAnswer.the-variants.{CostBeyo
 use Rattle.night_rules.specs.declared.NightAnswer.the-variants.{FoundBeyond, FirstStands, Handed}
 use Rattle.night_rules.specs.Words.{firstStage, secondStage, PastFound, Says}
 use Rattle.night_rules.specs.Words.{coefsEnd, HandsOut, Leaves, handsNone, arraysLeft, AlarmsFirst}
+use Rattle.night_rules.proofs.Left.{run-promised}
 use Rattle.night_rules.proofs.Stages.{sized}
 use Rattle.night_rules.proofs.Answers.{leaves, same-answer, night-says, night-only}
 use Rattle.night_rules.proofs.Whole.{first-opens, cells-in, leaves-so}
 use Rattle.night_rules.proofs.Alarms.{first-alarms, handed-alarms}
 
--- ---- a stage's run is `solve`'s own on the stage's own plan, so all that is said of a solve is said of it (demand 2)
-pub stage-solves : (budget : ℕ) (tolerance : Float) (p : Plan) (a : Arrays)
-    → (stageOf budget tolerance p a .stage .run ≡ solvePlan (doublesPlan budget tolerance p) (memory a) .answer)
-    × (stageOf budget tolerance p a .arrays
-    ≡ inArrays (solvePlan (doublesPlan budget tolerance p) (memory a) .memory) (past a))
-unfolding stageOf stageAfter runOn ranBy
-stage-solves budget tolerance p a = (refl, refl)
+-- ---- a stage's run is a solve of the stage's own plan: what solve's contract says of its answer and of the five
+-- arrays
+-- holds of the stage, so all of `solve!Meaning` does (demand 2)
+module _ (budget : ℕ) (tolerance : Float) (p : Plan) (a : Arrays) where
+  abbrev g : Staged
+  g = stageOf budget tolerance p a
+
+  pub stage-solves : answered (g .stage .run) (g .arrays .values) (g .arrays .numbers) (g .arrays .doubles)
+      (g .arrays .factorNumbers) (g .arrays .factorCoeffs)
+      ≡ handed (solvePlan (doublesPlan budget tolerance p) (memory a)) (past a)
+  unfolding stageOf stageAfter
+  stage-solves = run-promised (doublesPlan budget tolerance p) a
 
 -- what the call's contract says of a result
 abbrev pub Promised : NightPlan → Arrays → List ℤ → Called → Type 0

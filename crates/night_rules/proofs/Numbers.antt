@@ -44,8 +44,10 @@ pub record HandedOver (p : Plan) (q : Rules.Plan) : Type 0 where
   pub no-upper : (j : ℕ) → j < p .cols → ¬ (upperMark p j ≡ 1) → q .uppers ! j ≡ +inf
   pub rights : (i : ℕ) → i < p .rows → IsExactly (q .rhs ! i) (rhs p i)
   pub comparisons : q .ops ≡ p .ops
-  -- each entry of a row is one of its coefficients, and each that isn't 0 is an entry
+  -- each entry of a row is one of its coefficients, columns rise, and each that isn't 0 is an entry
   pub entry : (i k : ℕ) → i < p .rows → q .starts # i ≤ k → k < q .starts # (i + 1) → EntryOf p q i k
+  pub rises : (i k : ℕ) → i < p .rows → q .starts # i ≤ k → k + 1 < q .starts # (i + 1)
+      → q .cols # k < q .cols # (k + 1)
   pub every : (i j : ℕ) → i < p .rows → j < p .cols → ¬ (a p i j ≡ pos 0)
       → (k : ℕ) × (q .starts # i ≤ k) × (k < q .starts # (i + 1)) × (q .cols # k ≡ j)
 
@@ -54,6 +56,7 @@ record Row (row : ℕ → ℤ) (n lo hi : ℕ) (e : Entries) : Type 0 where
   column : (k : ℕ) → lo ≤ k → k < hi → e .columns # k < n
   not-zero : (k : ℕ) → lo ≤ k → k < hi → ¬ (row (e .columns # k) ≡ pos 0)
   number : (k : ℕ) → lo ≤ k → k < hi → e .values ! k ≡ asDouble (row (e .columns # k))
+  rises : (k : ℕ) → lo ≤ k → k + 1 < hi → e .columns # k < e .columns # (k + 1)
   every : (j : ℕ) → j < n → ¬ (row j ≡ pos 0) → (k : ℕ) × (lo ≤ k) × (k < hi) × (e .columns # k ≡ j)
 
 -- the first cells of e stay
@@ -75,6 +78,7 @@ row-stays {row} {n} {lo} {hi} {e} {f} h s r = record {
   column = λ k l u. rw (s .columns-stay k (omega arith)) (r .column k l u);
   not-zero = λ k l u. rw (s .columns-stay k (omega arith)) (r .not-zero k l u);
   number = λ k l u. rw (s .columns-stay k (omega arith), s .values-stay k (omega arith)) (r .number k l u);
+  rises = λ k l u. rw (s .columns-stay k (omega arith), s .columns-stay (k + 1) (omega arith)) (r .rises k l u);
   every = λ j l z. let x = r .every j l z in (x .0, x .1, x .2, s .columns-stay (x .0) (omega (arith, x .2)) ∙ x .3);
 }
 
@@ -117,6 +121,7 @@ module _ (row : ℕ → ℤ) (e : Entries) where
       column = λ k h u. omega (arith, l .its .column k h u);
       not-zero = l .its .not-zero;
       number = l .its .number;
+      rises = l .its .rises;
       every = λ j h y. ⊎-elim (λ b. l .its .every j b y) (λ (b : j ≡ n). absurd (y (ap row b ∙ z)))
           (last? j n (omega (arith, h)));
     };
@@ -166,6 +171,11 @@ module _ (row : ℕ → ℤ) (e : Entries) where
             number = below (λ k. g .values ! k ≡ asDouble (row (g .columns # k)))
                 (λ k b u. rw (s .columns-stay k u, s .values-stay k u) (r .number k b u))
                 (rw (last-column, last-value));
+            rises = λ k b u. ⊎-elim
+                (λ v. rw (s .columns-stay k (omega arith), s .columns-stay (k + 1) v) (r .rises k b v))
+                (λ (v : k + 1 ≡ length (f .columns)).
+                rw (v, last-column, s .columns-stay k (omega (arith, v))) (r .column k b (omega (arith, v))))
+                (last? (k + 1) (length (f .columns)) (omega (arith, u, one-more)));
             every = λ j h y. ⊎-elim
                 (λ b. let x = r .every j b y in
                 (x .0, x .1, omega (arith, x .2, one-more), s .columns-stay (x .0) (x .2) ∙ x .3))
@@ -185,6 +195,7 @@ module _ (row : ℕ → ℤ) (e : Entries) where
       column = λ k b u. absurd (omega arith);
       not-zero = λ k b u. absurd (omega arith);
       number = λ k b u. absurd (omega arith);
+      rises = λ k b u. absurd (omega arith);
       every = λ j u. absurd (omega arith);
     };
   }
@@ -291,6 +302,12 @@ module _ (budget : ℕ) (tolerance : Float) (s : Sheet) (o : opening s ≡ 0) wh
               (same .coefs-same i (e .columns # k) h j);
         }
 
+    rises-at : (k : ℕ) → q .starts # i ≤ k → k + 1 < q .starts # (i + 1) → q .cols # k < q .cols # (k + 1)
+    rises-at k b u =
+        let u′ : k + 1 < startAt p (i + 1) = omega (arith, u, start-at (i + 1) (omega arith)) in
+        rw (column-at k (within k (omega arith)), column-at (k + 1) (within (k + 1) u′))
+        (its .rises k (omega (arith, b, start-at i (omega arith))) u′)
+
     entry-for : (j : ℕ) → j < p .cols → ¬ (a p i j ≡ pos 0)
         → (k : ℕ) × (q .starts # i ≤ k) × (k < q .starts # (i + 1)) × (q .cols # k ≡ j)
     entry-for j g z =
@@ -318,6 +335,7 @@ module _ (budget : ℕ) (tolerance : Float) (s : Sheet) (o : opening s ≡ 0) wh
         (same .rhs-same i h);
     comparisons = refl;
     entry = λ i k h. entry-of i h k;
+    rises = λ i k h. rises-at i h k;
     every = λ i j h. entry-for i h j;
   }
     where

@@ -37,7 +37,8 @@ use Rattle.night_rules.specs.Stage.{openedAudit, proposedAudit, auditOf,
 use Rattle.night_rules.specs.Stage.{sectionOf, sectionInto}
 use Rattle.night_rules.specs.declared.Audit.{Audit}
 use Rattle.night_rules.specs.declared.Audit.the-variants.{NotRun, NotWhole, NotOpened, Judged}
-use Rattle.night_rules.specs.Words.{theRun, theLent, theProposal, theSheet, Opens, AuditSays, Opened}
+use Rattle.night_rules.specs.Words.{theRun, theLent, theProposal, theSheet, AllWhole, Opens, AuditSays, Opened}
+use Rattle.night_rules.proofs.Proposals.{whole-exactly}
 use Rattle.night_rules.proofs.Numbers.{HandedOver, handed-over}
 use Rattle.night_rules.proofs.Shaped.{Shaped, stage-shaped, section-count}
 
@@ -78,6 +79,11 @@ module _ (budget : ℕ) (tolerance : Float) (p : Plan) (a : Arrays) where
   abbrev sheet : Sheet
   sheet = theSheet budget tolerance p a
 
+  proposed-exactly : number ≡ 0 → (isProposed answer ≡ true) ↔ AllWhole budget tolerance p a
+  proposed-exactly z =
+      let w = whole-exactly budget tolerance p a z in
+      (λ t. w .0 (is-proposed answer .0 t), λ h. is-proposed answer .1 (w .1 h))
+
   -- ---- each audit exactly when its words hold
   pub audit-says : AuditSays budget tolerance p a theAudit
   unfolding stageOf stageAfter auditOf proposedAudit openedAudit
@@ -87,24 +93,28 @@ module _ (budget : ℕ) (tolerance : Float) (p : Plan) (a : Arrays) where
           → AuditSays budget tolerance p a
           (elim b [ true ↦ elim d [ true ↦ openedAudit k sheet | false ↦ NotWhole answer ] | false ↦ NotRun ])
       at false e d f k g = AuditSays.not-run (eqb-false _ 0 e)
-      at true e false f k g = AuditSays.not-whole (eqb-true _ 0 e) (λ h. not-both (is-proposed answer .1 h) f)
+      at true e false f k g =
+          let z = eqb-true _ 0 e in
+          AuditSays.not-whole z (λ h. not-both (proposed-exactly z .1 h) f)
       at true e true f zero g =
-          AuditSays.judged (record { gives-0 = eqb-true _ 0 e; whole = is-proposed answer .0 f; accepts = g })
+          let z = eqb-true _ 0 e in
+          AuditSays.judged (record { gives-0 = z; whole = proposed-exactly z .0 f; accepts = g })
       at true e true f (suc k) g =
+          let z = eqb-true _ 0 e in
           subst (λ (j : ℕ). AuditSays budget tolerance p a (NotOpened j)) g
-          (AuditSays.not-opened (eqb-true _ 0 e) (is-proposed answer .0 f) (λ h. absurd (omega (arith, g, h))))
+          (AuditSays.not-opened z (proposed-exactly z .0 f) (λ h. absurd (omega (arith, g, h))))
 
   pub audit-only : {u : Audit} → AuditSays budget tolerance p a u → theAudit ≡ u
   unfolding stageOf stageAfter auditOf proposedAudit openedAudit
   audit-only (AuditSays.not-run h) = rw (ne-eqb number 0 h, auditOf)
   audit-only (AuditSays.not-whole e h) =
-      rw (eq-eqb number 0 e, false-by (λ t. h (is-proposed answer .0 t)), auditOf, proposedAudit)
+      rw (eq-eqb number 0 e, false-by (λ t. h (proposed-exactly e .0 t)), auditOf, proposedAudit)
   audit-only (AuditSays.not-opened e h k) =
-      rw (eq-eqb number 0 e, is-proposed answer .1 h, auditOf, proposedAudit) (refused (opening sheet) sheet k)
+      rw (eq-eqb number 0 e, proposed-exactly e .1 h, auditOf, proposedAudit) (refused (opening sheet) sheet k)
   audit-only (AuditSays.judged o) =
       rw (
         eq-eqb number 0 (o .gives-0),
-        is-proposed answer .1 (o .whole),
+        proposed-exactly (o .gives-0) .1 (o .whole),
         o .accepts,
         auditOf,
         proposedAudit,
@@ -155,7 +165,9 @@ module _ (budget : ℕ) (tolerance : Float) (p : Plan) (a : Arrays) where
     stage-audited =
         let x = theProposal budget tolerance p a .amounts-left in
         let y = theProposal budget tolerance p a .mults-left in
-        audited {x = x} {y = y} (ap (λ (u : Proposal). handed u x y) (sym (o .whole))) refl refl opens
+        audited {x = x} {y = y}
+        (ap (λ (u : Proposal). handed u x y)
+        (sym (whole-exactly budget tolerance p a (o .gives-0) .1 (o .whole)))) refl refl opens
 
     pub stage-openable : Openable (theStage .sheet)
     stage-openable = rw sheet-is (opened-good sheet (o .accepts))
@@ -198,5 +210,6 @@ module _ (budget : ℕ) (tolerance : Float) (p : Plan) (a : Arrays) where
           entry = λ i k h b u.
               let x = n .entry i k h b u in
               record { column = x .column; not-zero = x .not-zero; number = x .number };
+          rises = n .rises;
           every = n .every;
         }

@@ -1,6 +1,6 @@
--- A sheet's plan as the solver takes it. 02, Ask 14: "handed to the solver as the same numbers in doubles, absent bounds
--- infinite and zero coefficients left out". Assumes nothing.
-use mathlib.Core.Bool.{Bool, true, false}
+-- A sheet's plan as the solver takes it. 02, Ask 14: "handed to the solver as the same numbers in doubles, absent
+-- bounds infinite and zero coefficients left out". Assumes nothing.
+use mathlib.Core.Bool.{true, false}
 use mathlib.Core.List.{List, [], _∷_, _++_}
 use Prim.Native.Nat.{ℕ, _+_}
 use lib.ListN.{replicate}

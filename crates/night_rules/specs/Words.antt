@@ -21,7 +21,7 @@ use Rattle.sheet_rules.specs.Words.{Keeps}
 use Rattle.sheet_rules.specs.declared.Verdict.{Verdict}
 use Rattle.sheet_rules.specs.declared.Verdict.the-variants.{NoneExists, NotPlan, Gap}
 use Rattle.whole_propose.specs.Propose.{Lent, Handed, proposed}
-use Rattle.whole_propose.specs.declared.Proposal.the-variants.{Proposed}
+use Rattle.whole_propose.specs.Words.{WholeAmount, WholeMultiplier, Each}
 use Rattle.night_rules.specs.Doubles.{doublesPlan}
 use Rattle.night_rules.specs.Arrays.{Arrays, Ran, runOn}
 use Rattle.night_rules.specs.Second.{secondPlan}
@@ -49,17 +49,21 @@ module _ (budget : ℕ) (tolerance : Float) (p : Plan) (a : Arrays) where
   abbrev pub theSheet : Sheet
   theSheet = sheetWith p (theProposal .amounts-left) (theProposal .mults-left)
 
+  -- every proposed number is Whole
+  pub record AllWhole : Type 0 where
+    pub amounts : Each theLent (p .cols) (WholeAmount theLent)
+    pub mults : Each theLent (p .rows) (WholeMultiplier theLent)
+
   -- 02: "its run gives 0, every proposed number is Whole and opening accepts"
   pub record Opens : Type 0 where
     pub gives-0 : numberOf (theRun .answer) ≡ 0
-    pub whole : theProposal .answer ≡ Proposed
+    pub whole : AllWhole
     pub accepts : opening theSheet ≡ 0
 
   pub data AuditSays : Audit → Type 0 where
     not-run : ¬ (numberOf (theRun .answer) ≡ 0) → AuditSays NotRun
-    not-whole : numberOf (theRun .answer) ≡ 0 → ¬ (theProposal .answer ≡ Proposed)
-        → AuditSays (NotWhole (theProposal .answer))
-    not-opened : numberOf (theRun .answer) ≡ 0 → theProposal .answer ≡ Proposed → ¬ (opening theSheet ≡ 0)
+    not-whole : numberOf (theRun .answer) ≡ 0 → ¬ AllWhole → AuditSays (NotWhole (theProposal .answer))
+    not-opened : numberOf (theRun .answer) ≡ 0 → AllWhole → ¬ (opening theSheet ≡ 0)
         → AuditSays (NotOpened (opening theSheet))
     judged : Opens → AuditSays (Judged (verdict (opened theSheet)))
 

@@ -1,23 +1,24 @@
 -- A section written array by array, and each way through an audit. No contract cites this file. Assumes nothing.
 use mathlib.Core.Path.{_≡_, refl, sym, ap, _∙_}
-use mathlib.Core.Bool.{Bool, true, false}
+use mathlib.Core.Bool.{false}
 use mathlib.Core.List.{List, [], _++_, append-assoc}
 use Prim.Native.Nat.{ℕ, zero, suc, _+_}
 use native.Mathlib.Omega.{arith}
-use lib.ListN.{length, take, drop, length-append}
+use lib.ListN.{length, drop, length-append}
 use lib.Seq.{take-at, drop-append-add, drop-drop}
 use lib.IntN.{ℤ}
 use Rattle.doubles.specs.Limits.{maxRows, maxColumns}
 use Rattle.doubles.specs.Lists.{over}
 use Rattle.lu_packed.specs.Written.{written}
-use Rattle.sheet_rules.specs.Sheet.{Plan, Sheet, sheetOf}
-use Rattle.sheet_rules.specs.Opening.{opening, opened}
+use Rattle.sheet_rules.specs.Sheet.{Plan, Sheet}
+use Rattle.sheet_rules.specs.Opening.{opened}
 use Rattle.sheet_rules.specs.Verdict.{verdict}
 use Rattle.sheet_rules.specs.Promises.{Opens, Judges}
 use Rattle.sheet_rules.specs.declared.Verdict.{Verdict}
 use Rattle.whole_propose.specs.Propose.{Lent, Handed, handed, proposed, isProposed}
 use Rattle.whole_propose.specs.declared.Proposal.{Proposal}
-use Rattle.whole_propose.specs.declared.Proposal.the-variants.{Proposed, Nothing, Refused, AmountNotWhole, MultiplierNotWhole}
+use Rattle.whole_propose.specs.declared.Proposal.the-variants.{Proposed, Nothing, Refused, AmountNotWhole}
+use Rattle.whole_propose.specs.declared.Proposal.the-variants.{MultiplierNotWhole}
 use Rattle.night_rules.specs.Stage.{sheetWith, openedAudit, proposedAudit, isJudged, sectionOf}
 use Rattle.night_rules.specs.declared.Audit.the-variants.{NotWhole, NotOpened, Judged}
 use Rattle.night_sheet.specs.Audited.{Audited, audited, auditLeft, judged, auditBy, cellsOf}
@@ -52,7 +53,8 @@ module _ (x y r d c b n z : List ℤ) {z1 z2 z3 z4 z5 z6 z7 : List ℤ} where
       let l6 = length-append (x ++ y ++ r ++ d ++ c) b in
       let p7 = e7 ∙ behind (x ++ y ++ r ++ d ++ c ++ b) n z 450 z6 (omega arith) p6 in
       let same : x ++ y ++ r ++ d ++ c ++ b ++ n ≡ x ++ (y ++ (r ++ (d ++ (c ++ (b ++ n))))) = simp append-assoc refl in
-      p7 ∙ ap (λ (t : List ℤ). over t z) same ∙ sym (behind [] (x ++ (y ++ (r ++ (d ++ (c ++ (b ++ n)))))) z 0 z refl refl)
+      p7 ∙ ap (λ (t : List ℤ). over t z) same ∙ sym (behind [] (x ++ (y ++ (r ++ (d ++ (c ++ (b ++ n)))))) z 0 z refl
+      refl)
 
 -- ---- opened and judged
 module _ (s : Sheet) (z : List ℤ) where
@@ -97,13 +99,15 @@ module _ (p : Plan) (l : Lent) (z : List ℤ) where
       let s = sheetWith p (h .amounts-left) (h .mults-left) in
       auditLeft (proposedAudit (h .answer) s) (opened s) z
 
-  pub not-whole : {a : Proposal} {x y : List ℤ} → handed a x y ≡ proposed l → (a ≡ Proposed → ⊥) → audited (NotWhole a) z ≡ auditBy p l z
+  pub not-whole : {a : Proposal} {x y : List ℤ} → handed a x y ≡ proposed l → (a ≡ Proposed → ⊥)
+      → audited (NotWhole a) z ≡ auditBy p l z
   unfolding auditBy byHanded auditLeft proposedAudit isJudged
   not-whole {a} {x} {y} e h =
       let here : audited (NotWhole a) z ≡ byHanded (handed a x y) = rw (not-proposed a h, proposedAudit) refl in
       here ∙ ap byHanded e
 
-  pub was-proposed : {a : Proposal} {x y : List ℤ} {r : Audited} → handed a x y ≡ proposed l → a ≡ Proposed → r ≡ judged (sheetWith p x y) z
+  pub was-proposed : {a : Proposal} {x y : List ℤ} {r : Audited} → handed a x y ≡ proposed l → a ≡ Proposed → r
+      ≡ judged (sheetWith p x y) z
       → r ≡ auditBy p l z
   unfolding auditBy byHanded proposedAudit isProposed judged
   was-proposed {a} {x} {y} e q f = f ∙ ap (λ (b : Proposal). byHanded (handed b x y)) (sym q) ∙ ap byHanded e

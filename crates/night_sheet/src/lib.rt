@@ -1,5 +1,5 @@
-// A stage's audit over arrays of its own: propose, open, judge. Its section is written exactly where the sheet is opened
-// (02, Ask 14).
+// A stage's audit over arrays of its own: propose, open, judge. Its section is written exactly where the sheet is
+// opened (02, Ask 14).
 ghost use mathlib.Core.Path.{_≡_};
 ghost use mathlib.Core.List.{[]};
 ghost use Prim.Native.Nat.{_≤_};

@@ -1,11 +1,11 @@
 -- What a stage's calls ask, and each way through it. No contract cites this file. Assumes nothing.
-use mathlib.Core.Path.{_≡_, refl, sym, ap, _∙_}
+use mathlib.Core.Path.{_≡_, refl, ap, _∙_}
 use mathlib.Core.Bool.{Bool, true, false, _&&_}
 use mathlib.Core.List.{List, []}
 use Prim.Native.Nat.{ℕ, _+_, _<_, _≤_}
 use lib.ListN.{length, replicate}
 use native.Mathlib.Omega.{arith}
-use lib.Dec.{leb, eqb}
+use lib.Dec.{leb}
 use lib.IntN.{ℤ}
 use lib.Ieee.{Float}
 use borrow.Author.Tests.{lt-leb, eq-eqb, ne-eqb}
@@ -23,8 +23,9 @@ use Rattle.rules.proofs.Lists.{over-long}
 use Rattle.start_gate.proofs.Gate.{size-over}
 use Rattle.solve.proofs.Laws.{refuses}
 use Rattle.night_rules.specs.Doubles.{startAt, entriesTo, entryCount, doublesPlan}
-use Rattle.night_rules.specs.Arrays.{Arrays, arraysOf, memory, Ran, ran, runOn}
-use Rattle.night_rules.specs.Stage.{Lends, zeros, lentFrom, proposedAudit, auditOf, isJudged, stageSays, stageAfter, stageOf, sectionInto, Left, left, leaves}
+use Rattle.night_rules.specs.Arrays.{Arrays, memory, Ran, ran, runOn}
+use Rattle.night_rules.specs.Stage.{Lends, zeros, lentFrom, proposedAudit, auditOf, isJudged, stageSays, stageAfter}
+use Rattle.night_rules.specs.Stage.{stageOf, sectionInto, Left, left, leaves}
 use Rattle.night_rules.specs.declared.Audit.{Audit}
 use Rattle.night_rules.specs.declared.Audit.the-variants.{NotRun}
 use Rattle.night_rules.proofs.Arrays.{ran-is}
@@ -42,7 +43,8 @@ past-it false b = refl
 
 -- the comparisons aside
 abbrev pub converts : Plan → Plan
-converts p = planOf (p .rows) (p .cols) (p .coefs) (p .costs) (p .lowers) (p .uppers) (p .lowerMarks) (p .upperMarks) (p .rhs) [] [] []
+converts p = planOf (p .rows) (p .cols) (p .coefs) (p .costs) (p .lowers) (p .uppers) (p .lowerMarks) (p .upperMarks)
+    (p .rhs) [] [] []
 
 abbrev pub entriesIn : Plan → ℕ
 entriesIn p = entryCount (cellsOf (p .rows) (p .cols) (p .coefs))
@@ -74,7 +76,8 @@ module _ (p : Plan) where
     unfolding doublesPlan entryCount startAt entriesTo
     plan-is {k} {c} {l} {u} {s} {v} {x} {r} e f =
         ap (λ (i : ℕ). Parts.planOf (p .cols) (p .rows) i budget tolerance c l u s v x (p .ops) r) e
-        ∙ ap (λ (g : Rules.Plan). Parts.planOf (g .columns) (g .rows) (g .entries) budget tolerance (g .costs) (g .lowers) (g .uppers) (g .starts) (g .cols) (g .coeffs) (p .ops) (g .rhs)) f
+        ∙ ap (λ (g : Rules.Plan). Parts.planOf (g .columns) (g .rows) (g .entries) budget tolerance (g .costs)
+        (g .lowers) (g .uppers) (g .starts) (g .cols) (g .coeffs) (p .ops) (g .rhs)) f
 
     pub starts-long : p .rows ≤ maxRows → {s : List ℕ} → s ≡ q .starts → length s ≡ maxRows + 1
     unfolding doublesPlan
@@ -83,12 +86,14 @@ module _ (p : Plan) where
     -- more than 2,048 entries: solve's own 1
     over-size : maxEntries < entriesIn p → sizesFit q ≡ false
     unfolding sizesFit doublesPlan entryCount startAt
-    over-size h = rw (lt-leb (entriesIn p) maxEntries h) (past-it (leb (p .cols) maxColumns && leb (p .rows) maxRows) (leb budget maxBudget))
+    over-size h = rw (lt-leb (entriesIn p) maxEntries h)
+        (past-it (leb (p .cols) maxColumns && leb (p .rows) maxRows) (leb budget maxBudget))
 
     pub too-many : maxEntries < entriesIn p → (a : Arrays) → ran BadSize a ≡ runOn q a
     too-many h a =
         ran-is (a .values) (a .numbers) (a .doubles) (a .factorNumbers) (a .factorCoeffs) q a BadSize
-        (refuses q (a .values) (a .numbers) (a .doubles) (a .factorNumbers) (a .factorCoeffs) BadSize (size-over q (memory a) (over-size h)))
+        (refuses q (a .values) (a .numbers) (a .doubles) (a .factorNumbers) (a .factorCoeffs) BadSize
+        (size-over q (memory a) (over-size h)))
 
     -- by what the run left
     module _ (z : List ℤ) where
@@ -103,7 +108,8 @@ module _ (p : Plan) where
       unfolding byRan leaves stageAfter sectionInto isJudged auditOf
       not-run-by r a h = rw (ne-eqb (numberOf r) 0 h, auditOf) refl
 
-      was-run-by : (r : Answer) (a : Arrays) → numberOf r ≡ 0 → byAudit r a (auditBy p (lentFrom q a) z) ≡ byRan (ran r a)
+      was-run-by : (r : Answer) (a : Arrays) → numberOf r ≡ 0 → byAudit r a (auditBy p (lentFrom q a) z)
+          ≡ byRan (ran r a)
       unfolding byRan byAudit leaves stageAfter sectionInto auditBy auditLeft auditOf proposedAudit isJudged
       was-run-by r a h = rw (eq-eqb (numberOf r) 0 h, auditOf) refl
 
@@ -115,7 +121,8 @@ module _ (p : Plan) where
 
         -- s are the row starts that the run handed out
         pub was-run : {s : List ℕ} {u : Audit} {y : List ℤ} → numberOf r ≡ 0 → s ≡ q .starts
-            → audited u y ≡ auditBy p (lentOf (p .cols) (p .rows) s (p .ops) (a .values) (a .numbers) (a .doubles) (zeros maxColumns) (zeros maxRows)) z
+            → audited u y ≡ auditBy p (lentOf (p .cols) (p .rows) s (p .ops) (a .values) (a .numbers) (a .doubles)
+            (zeros maxColumns) (zeros maxRows)) z
             → left (stageSays r u) a y ≡ leaves (stageOf budget tolerance p b) z
         unfolding stageOf byRan byAudit doublesPlan
         was-run h g f = ap (byAudit r a) (rw g at f) ∙ was-run-by r a h ∙ ap byRan e

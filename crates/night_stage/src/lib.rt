@@ -1,5 +1,5 @@
-// One stage of the night: a sheet's plan is handed to the solver, the run's numbers are rounded, and the sheet with them
-// is opened and judged (02, Ask 14).
+// One stage of the night: a sheet's plan is handed to the solver, the run's numbers are rounded, and the sheet with
+// them is opened and judged (02, Ask 14).
 ghost use mathlib.Core.Path.{_≡_};
 ghost use mathlib.Core.List.{[]};
 ghost use Prim.Native.Nat.{_+_, _≤_};

@@ -122,7 +122,11 @@ fn ordinary(rng: &mut Rng, units: usize, odd: usize) -> Draft {
         let mut columns = vec![];
         if !rng.one_in(3) {
             let most = 10 * between(rng, 20, 120) + if rng.one_in(odd) { 5 } else { 0 };
-            let report = if rng.one_in(3) { -between(rng, 1, 9) } else { 0 };
+            let report = if rng.one_in(3) {
+                -between(rng, 1, 9)
+            } else {
+                0
+            };
             columns.push(draft.column(-between(rng, 1, 8), report, Some(0), Some(most)));
             wanted += takes * most;
         }
@@ -170,7 +174,10 @@ fn calm(rng: &mut Rng) -> Draft {
         }
     }
     for row in &mut draft.rows {
-        let taken = row.entries.iter().map(|(j, a)| a * draft.bounds[*j].1.unwrap_or(0));
+        let taken = row
+            .entries
+            .iter()
+            .map(|(j, a)| a * draft.bounds[*j].1.unwrap_or(0));
         row.rhs = taken.sum::<i64>() + between(rng, 0, 500);
     }
     draft
@@ -210,7 +217,11 @@ fn uneven(rng: &mut Rng) -> Draft {
     let mut draft = Draft::new();
     let columns = rng.between(2, 7);
     for _ in 0..columns {
-        let upper = if rng.one_in(4) { None } else { Some(between(rng, 3, 90)) };
+        let upper = if rng.one_in(4) {
+            None
+        } else {
+            Some(between(rng, 3, 90))
+        };
         draft.column(-between(rng, 0, 5), -between(rng, 0, 9), Some(0), upper);
     }
     for _ in 0..rng.between(1, 4) {
@@ -229,7 +240,12 @@ fn uneven_later(rng: &mut Rng) -> Draft {
     if rng.one_in(2) {
         // An alarm that fits whatever the rest takes.
         let most = between(rng, 1, 30);
-        draft.column(-between(rng, 1, 4), -between(rng, 0, 2), Some(0), Some(most));
+        draft.column(
+            -between(rng, 1, 4),
+            -between(rng, 0, 2),
+            Some(0),
+            Some(most),
+        );
     }
     draft
 }
@@ -254,16 +270,21 @@ fn stretches(rng: &mut Rng) -> Draft {
     let mut draft = Draft::new();
     let rows = rng.between(80, 95);
     let mut entries = vec![vec![]; rows];
-    let mut left = 1_900;
+    let mut left = 1_700;
     for j in 0..rng.between(100, 128) {
-        let length = rng.between(1, 28).min(left);
+        let length = rng.between(1, 28).min(left).max(1);
         let from = rng.below(rows - length + 1);
-        let cost = -between(rng, 1, 40 * length.max(1) as i64);
-        draft.column(cost, -between(rng, 0, 2), Some(0), rng.pick(&[None, Some(40)]));
+        let cost = -between(rng, 1, 40 * length as i64);
+        // One without a most must not want more in the second stage, which would be refused.
+        if rng.one_in(2) {
+            draft.column(cost, -between(rng, 0, 2), Some(0), Some(40));
+        } else {
+            draft.column(cost, between(rng, 0, 2), Some(0), None);
+        }
         for row in &mut entries[from..from + length] {
             row.push((j, 1));
         }
-        left -= length;
+        left = left.saturating_sub(length);
     }
     for entries in entries {
         let taken = entries.iter().map(|(j, _)| draft.bounds[*j].1.unwrap_or(0));
@@ -287,15 +308,20 @@ const FAMILIES: [Family; 7] = [
     ("ordinary", 2_560, |rng| of(rng, "ordinary", usual)),
     ("tiny", 600, |rng| of(rng, "tiny", tiny)),
     ("uneven", 220, |rng| of(rng, "uneven", uneven)),
-    ("uneven later", 220, |rng| of(rng, "uneven later", uneven_later)),
-    ("thirds", 200, |rng| of(rng, "thirds", thirds)),
+    ("uneven later", 220, |rng| {
+        of(rng, "uneven later", uneven_later)
+    }),
+    ("thirds", 350, |rng| of(rng, "thirds", thirds)),
     ("stretches", 40, |rng| of(rng, "stretches", stretches)),
-    ("short", 330, short),
+    ("short", 510, short),
 ];
 
 /// Every seeded night.
 pub fn nights(seed: u64, see: &mut dyn FnMut(Night)) {
-    let families = FAMILIES.iter().chain(&stages::FAMILIES).chain(&growth::FAMILIES);
+    let families = FAMILIES
+        .iter()
+        .chain(&stages::FAMILIES)
+        .chain(&growth::FAMILIES);
     for (name, count, make) in families {
         let mut rng = Rng::named(seed, name);
         for _ in 0..*count {
@@ -364,7 +390,7 @@ pub fn wanted() -> Vec<(String, u64)> {
     want("seeded nights", 5_000);
     let arrays = reference::lengths(&Draft::new().night("", &mut Rng::new(1)));
     for (name, _, _) in arrays {
-        want(&format!("short memory: {name}"), 10);
+        want(&format!("short memory: {name}"), 20);
     }
     for (name, least) in [("rows full", 40), ("entries full", 40), ("cost beyond", 60)] {
         want(name, least);
@@ -388,10 +414,22 @@ pub fn wanted() -> Vec<(String, u64)> {
     ] {
         want(&format!("no gap: the run gives {number}"), least);
     }
-    for (number, least) in [(2, 30), (7, 60), (20, 30), (21, 30), (23, 20), (24, 20), (25, 10), (26, 20)] {
+    for (number, least) in [
+        (2, 30),
+        (7, 60),
+        (20, 30),
+        (21, 30),
+        (23, 20),
+        (24, 20),
+        (25, 10),
+        (26, 20),
+    ] {
         want(&format!("the first stands: the run gives {number}"), least);
     }
-    for (name, least) in [("an amount isn't whole", 30), ("a multiplier isn't whole", 30)] {
+    for (name, least) in [
+        ("an amount isn't whole", 30),
+        ("a multiplier isn't whole", 30),
+    ] {
         want(&format!("no gap: {name}"), least);
         want(&format!("the first stands: {name}"), least);
     }
@@ -415,7 +453,10 @@ pub fn wanted() -> Vec<(String, u64)> {
     }
     want("second stages without a factor after a first with one", 5);
     for (k, least) in [(1, 300), (2, 200), (3, 150)] {
-        want(&format!("nights whose plans in 1/{k} were all tried"), least);
+        want(
+            &format!("nights whose plans in 1/{k} were all tried"),
+            least,
+        );
     }
     want("nights with more than one plan among them", 500);
     wanted

@@ -71,7 +71,10 @@ fn floor(plan: &Sheet, costs: &[i64], mults: &[i64]) -> Option<i128> {
 
 /// The whole numbers of a section.
 fn cells(whole: &[i64], from: usize, count: usize) -> Vec<i128> {
-    whole[from..][..count].iter().map(|&cell| cell.into()).collect()
+    whole[from..][..count]
+        .iter()
+        .map(|&cell| cell.into())
+        .collect()
 }
 
 /// The promises of a night that hands amounts out.
@@ -81,7 +84,11 @@ pub fn test(night: &Night, gaps: &Gaps, whole: &[i64], tried: &mut Tried) {
     let (handed, first) = (cells(whole, HANDED, columns), cells(whole, FIRST, columns));
     let (cost, least) = (sum(&plan.cost, &handed), sum(&plan.cost, &first));
     let say = || format!("{}: {handed:?} after {first:?}", night.family);
-    tried.see("amounts that keep every row and bound", keeps(plan, &handed, 1), say);
+    tried.see(
+        "amounts that keep every row and bound",
+        keeps(plan, &handed, 1),
+        say,
+    );
     tried.see("alarm costs at most the first stage's", cost <= least, say);
     let mults = &whole[FIRST + MULTS..][..rows];
     let floor = floor(plan, &plan.cost, mults);
@@ -147,14 +154,7 @@ impl Grid {
 
     /// No plan of the grid has an alarm cost that is lower by more than the first gap; nor, of those that keep the
     /// alarms' row, a report cost that is lower by more than the second.
-    fn test(
-        &self,
-        night: &Night,
-        gaps: &Gaps,
-        handed: &[i128],
-        least: i128,
-        tried: &mut Tried,
-    ) {
+    fn test(&self, night: &Night, gaps: &Gaps, handed: &[i128], least: i128, tried: &mut Tried) {
         let (plan, k) = (&night.plan, self.k);
         let (alarms, reports) = (sum(&plan.cost, handed), sum(&night.reports, handed));
         let mut z = self.lows.clone();

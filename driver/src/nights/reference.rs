@@ -330,7 +330,11 @@ fn section(sheet: &Sheet) -> Vec<i64> {
 
 /// Solve, round, audit. The sheet where it was opened.
 fn audited(plan: &Sheet, doubles: &Plan, run: &Answer) -> (Audit, Option<Sheet>) {
-    let Some(state) = run.state.as_ref().filter(|_| run.outcome == Outcome::Optimal) else {
+    let Some(state) = run
+        .state
+        .as_ref()
+        .filter(|_| run.outcome == Outcome::Optimal)
+    else {
         return (Audit::NotRun, None);
     };
     let (amount, mult) = match proposed(doubles, run, state) {
@@ -345,10 +349,7 @@ fn audited(plan: &Sheet, doubles: &Plan, run: &Answer) -> (Audit, Option<Sheet>)
     sheet.kept.r = vec![0; ROWS];
     sheet.kept.d = vec![0; COLUMNS];
     match open(&mut sheet) {
-        0 => (
-            Audit::Judged(reference::verdict(&sheet)),
-            Some(sheet),
-        ),
+        0 => (Audit::Judged(reference::verdict(&sheet)), Some(sheet)),
         refused => (Audit::NotOpened(refused), None),
     }
 }
@@ -384,10 +385,18 @@ pub fn lengths(night: &Night) -> [(&'static str, usize, usize); 15] {
         ("upper marks", plan.hasup.len(), columns),
         ("right sides", plan.rhs.len(), rows),
         ("comparisons", plan.ops.len(), rows),
-        ("values", lent.values, columns.saturating_add(rows).saturating_add(1)),
+        (
+            "values",
+            lent.values,
+            columns.saturating_add(rows).saturating_add(1),
+        ),
         ("numbers", lent.numbers, sections::NUMBERS),
         ("doubles", lent.doubles, sections::DOUBLES),
-        ("factor_numbers", lent.factor_numbers, sections::FACTOR_NUMBERS),
+        (
+            "factor_numbers",
+            lent.factor_numbers,
+            sections::FACTOR_NUMBERS,
+        ),
         ("factor_coeffs", lent.factor_coeffs, sections::FACTOR_COEFFS),
         ("whole", night.whole, WHOLE),
     ]
@@ -475,7 +484,10 @@ pub fn night(night: &Night, memory: &mut Memory) -> Told {
     if let Some(sheet) = &opened {
         put(&mut memory.whole, SECOND..SECOND + STAGE, &section(sheet));
     }
-    let stands = !matches!(second.audit, Audit::Judged(Verdict::Gap(_) | Verdict::NoFloor));
+    let stands = !matches!(
+        second.audit,
+        Audit::Judged(Verdict::Gap(_) | Verdict::NoFloor)
+    );
     let amounts = match opened {
         Some(sheet) if !stands => sheet.amount,
         _ => first.amount,

@@ -152,8 +152,8 @@ the one whose messages are worth most. (The numbers are made up.)
 
 Left: that night's prices. A millisecond is worth 1, and 1 more for each quarter
 hour that the message has waited. Reports wait for hours, alarms don't.
-Right: the same night with alarms first. They are planned alone; then the reports
-get what is left, in a plan whose alarms are worth no less.
+Right: alarms first. They are planned alone; then the reports get what is left,
+in a plan whose alarms are worth no less.
 
 ",
         units.len()

@@ -10,7 +10,7 @@ use super::args::Request;
 use super::audit::{self, Costs};
 use super::engine::{self, Solved};
 use super::html::Page;
-use super::plan::{Plan, EQ, GE, LE};
+use super::plan::{counted, Plan, EQ, GE, LE};
 use super::report;
 use super::show::{json, number, of_1024, quoted, wrapped, Side, Table};
 use super::units::{called, cut, named_full, none_named, parted, Units, MOST_GROUPS, WIDTH};
@@ -205,7 +205,7 @@ impl<'a> Stages<'a> {
             }
             (_, _, second) => {
                 let why = second.as_ref().map_or(String::new(), Shown::ended);
-                return format!("These amounts are those of the alarms alone ({}, {}), for the second stage gives no plan: {why}", self.told.case.number(), kind(self.told.case));
+                return format!("These amounts are those of the alarms alone ({}, {}), for the second stage gives no plan. {why}", self.told.case.number(), kind(self.told.case));
             }
         };
         format!("None that keeps the alarms has reports worth more{more}.")
@@ -217,7 +217,7 @@ impl<'a> Stages<'a> {
         let found = first.stage.sheet.as_ref().map_or(0, |sheet| sheet.cost);
         match self.told.case {
             Case::NoGap => format!(
-                "The first stage, the alarms alone, shows no gap: {}",
+                "The first stage, the alarms alone, shows no gap. {}",
                 first.ended()
             ),
             Case::RowsFull => format!(
@@ -305,12 +305,16 @@ impl<'a> Stages<'a> {
             Some(0) => "",
             _ => ", beside the gap",
         };
+        let rows = match self.full().is_empty() {
+            true => "No row of several columns is full.".to_string(),
+            false => format!("These rows are full; with 1 more of one the reports could be worth more by at most what it gives{beside}:"),
+        };
+        let own = Stages::gives(sheet, sheet.rows() - 1);
         Some((
-            format!("Why reports are cut: {}. These rows are full:", cut.join(", ")),
+            format!("Why reports are cut: {}. {rows}", cut.join(", ")),
             format!(
-                "With 1 more of a row's right side the reports could be worth more by at most what it gives{beside}. \
-                 With alarms that are worth 1 less they could be worth more by at most {}.",
-                of_1024(Stages::gives(sheet, sheet.rows() - 1))
+                "Were the alarms worth 1 less, the reports could be worth more by {} at most{beside}.",
+                of_1024(own)
             ),
         ))
     }
@@ -391,7 +395,9 @@ impl<'a> Stages<'a> {
         if let Some((cut, last)) = self.reasons() {
             page.head("Why reports are cut");
             page.text(&cut);
-            page.table("Full rows", &self.full_rows());
+            if !self.full().is_empty() {
+                page.table("Full rows", &self.full_rows());
+            }
             page.text(&last);
         }
     }
@@ -495,10 +501,13 @@ impl Shown {
     fn ended(&self) -> String {
         match (self.stage.audit, &self.sheet) {
             (_, Some(sheet)) => audit::verdict(&self.plan, sheet),
-            (Audit::NotWhole(why), _) => format!("{}.", audit::not_proposed(&self.plan, why)),
-            (Audit::NotOpened(refusal), _) => format!("the sheet isn't opened: {refusal}."),
+            (Audit::NotWhole(why), _) => {
+                let what = audit::not_proposed(&self.plan, why);
+                format!("A number doesn't fit the sheet: {what}.")
+            }
+            (Audit::NotOpened(refusal), _) => format!("The sheet isn't opened: {refusal}."),
             _ => format!(
-                "status {}, {}",
+                "Status {}, {}",
                 self.stage.run.status.number(),
                 report::sentence(&self.plan, &engine::solve(&self.plan))
             ),
@@ -506,13 +515,10 @@ impl Shown {
     }
 
     fn told(&self) -> String {
-        match (self.stage.run.status, self.stage.run.steps) {
-            (Status::Optimal, steps) => format!("Optimal after {steps} steps. {}", self.ended()),
-            _ => {
-                let ended = self.ended();
-                let (first, rest) = ended.split_at(1);
-                format!("{}{rest}", first.to_uppercase())
-            }
+        let steps = counted(self.stage.run.steps, "step", "steps");
+        match self.stage.run.status {
+            Status::Optimal => format!("Optimal after {steps}. {}", self.ended()),
+            _ => self.ended(),
         }
     }
 

@@ -103,7 +103,7 @@ fn some_files(first: u64, files: u64, step: u64) -> (u64, u64) {
     (read, solved)
 }
 
-fn check(seed: u64, told: &crate::cli::Outcome, json: bool) {
+pub fn check(seed: u64, told: &crate::cli::Outcome, json: bool) {
     match told.exit {
         0 | 1 | 3 | 4 => assert!(
             told.err.is_empty() && told.out.contains("status"),
@@ -126,7 +126,7 @@ fn check(seed: u64, told: &crate::cli::Outcome, json: bool) {
     }
 }
 
-fn damage(file: &mut Vec<u8>, rng: &mut Rng) {
+pub fn damage(file: &mut Vec<u8>, rng: &mut Rng) {
     let at = rng.below(file.len() + 1);
     match rng.below(16) {
         // A byte, any at all.

@@ -17,6 +17,7 @@ mod pages;
 mod peers;
 mod program;
 mod reading;
+mod stages;
 mod tour;
 mod units;
 

@@ -52,8 +52,16 @@ fn pages() -> Vec<(String, &'static str)> {
             "alarm: 3 of 25 whole, 22 cut",
         ),
         (
+            page(&["night", "p.mps", "--alarms", "alarm"], NIGHT),
+            "None that keeps the alarms has reports worth more",
+        ),
+        (
+            page(&["night", "p.mps", "--alarms", "alarm", "--budget", "1"], NIGHT),
+            "These amounts are those of the alarms alone",
+        ),
+        (
             page(&["night"], b""),
-            "25 of 25 alarms are sent whole, 0 lose milliseconds.",
+            "25 of 25 alarms are sent whole, 0 lose milliseconds. No plan, whole or fractional, has alarms worth more",
         ),
     ]
 }
@@ -141,6 +149,28 @@ fn the_sheet_on_the_page() {
     // A bar for each alarm and each soil report, cut ones in their own colour.
     assert_eq!(night.matches("class=\"back\"").count(), 25 + 40);
     assert!(night.matches("class=\"cut\"").count() >= 22);
+}
+
+/// Both stages with their sheets, and why the reports lose what they lose.
+#[test]
+fn both_stages_on_the_page() {
+    let night = page(&["night", "p.mps", "--alarms", "alarm"], NIGHT);
+    for piece in [
+        "<h2>Stage 1: the alarms alone</h2>\n<p>Optimal after 0 steps. This whole plan, which costs -28505, is the cheapest one",
+        "<h2>Stage 2: the rest, with what the alarms have</h2>\n<p>Optimal after 48 steps.",
+        "<h2>Why reports are cut</h2>\n<p>Why reports are cut: soil gets 57735 of 122940.",
+        "<td>air</td><td class=\"right\">90000</td><td class=\"right\">26285</td><td class=\"right\">4.0</td>",
+        "<p>Were the alarms worth 1 less, the reports could be worth more by 8.0 at most.</p>",
+        "<h2>Stage 1: the alarms alone: its sheet</h2>",
+        "<td>alarms</td><td class=\"right\">-28505</td><td>&lt;=</td><td class=\"right\">-28505</td><td class=\"right\">-8.0</td>",
+    ] {
+        assert!(night.contains(piece), "{piece} in {night}");
+    }
+    assert_eq!(night.matches("class=\"back\"").count(), 25 + 40);
+    // Both sides of the bundled night have their bars.
+    let bundled = page(&["night"], b"");
+    assert_eq!(bundled.matches("class=\"back\"").count(), 2 * (25 + 40));
+    assert!(bundled.contains("<h2>Why reports are cut</h2>"));
 }
 
 #[test]

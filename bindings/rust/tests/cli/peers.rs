@@ -306,11 +306,7 @@ fn lists_of_glpsol() {
     let folder = folder("lists");
     let (mut same, mut lists) = (0, 0);
     let plans = Path::new(env!("CARGO_MANIFEST_DIR")).join("plans");
-    let samples = [
-        "two-tunnels.mps",
-        "night-as-priced.mps",
-        "night-alarms-first.mps",
-    ];
+    let samples = ["two-tunnels.mps", "night-as-priced.mps"];
     let samples = samples.map(|name| fs::read_to_string(plans.join(name)).expect("a plan"));
     for text in samples.into_iter().chain((0..30).map(generated)) {
         fs::write(folder.join("in.mps"), &text).expect("written");

@@ -111,6 +111,15 @@ fn exit_statuses() {
             0,
         ),
         (
+            &["night", "-", "--alarms", "x"],
+            &N2.replace("x0", "x.0")
+                .replace("x1", "soil.1")
+                .replace("UP BND", "UP BND x.0 5\n UP BND"),
+            0,
+        ),
+        (&["night", "-", "--alarms", "x"], N2, 2),
+        (&["solve", "-", "--alarms", "x"], N2, 2),
+        (
             &["audit", "-"],
             &N2.replace("-3 air 1", "-1 air 3")
                 .replace("UP BND x1 2", "UP BND x1 2\n FR BND x0"),
@@ -196,9 +205,9 @@ fn the_night() {
     assert!(text.contains("25 of 25 alarms are sent whole, 0 lose milliseconds."));
     assert!(text.contains("\n  This whole plan, which costs -562070, is the cheapest one: no plan, whole or\n  fractional, is cheaper.\n"));
     assert!(text.contains(
-        "\n  This whole plan, which costs -2334246, is the cheapest one to within 4.0: no\n  plan, whole or fractional, is cheaper by more than 4.0.\n"
+        "\n  No plan, whole or fractional, has alarms worth more.\n  None that keeps the alarms has reports worth more.\n"
     ));
-    assert!(text.contains("dearer than the one on the left\nby 86819."));
+    assert!(text.contains("dearer than the one on the left\nby 86815."));
     assert!(text.lines().all(|line| line.chars().count() <= 80));
     let ascii = out(&start(&["night", "--ascii"], ""));
     assert!(ascii.is_ascii());

@@ -3,9 +3,8 @@
 use crate::{kept, run};
 
 const NIGHT: &[u8] = include_bytes!("../../plans/night-as-priced.mps");
-const ALARMS: &[u8] = include_bytes!("../../plans/night-alarms-first.mps");
 
-/// The bundled plans as a file: the answer is that of the story.
+/// The bundled plan as a file: the answer is that of the story.
 #[test]
 fn the_answer_in_three_lines() {
     let told = run(&["night", "n.mps"], NIGHT);
@@ -32,22 +31,16 @@ fn the_answer_in_three_lines() {
         told.out.lines().filter(|line| line.contains('/')).count(),
         40
     );
-    let first = run(&["night", "n.mps"], ALARMS);
-    assert!(
-        first.out.contains("alarm: 25 of 25 whole, 0 cut;"),
-        "{}",
-        first.out
-    );
 }
 
-/// The bundled night as JSON: an object for each of its plans, as `night FILE` has it but for the file's name.
+/// The bundled night as JSON: an object for each of its sides, as `night FILE` has it but for the file's name.
 #[test]
 fn the_bundled_night_as_json() {
-    let own = |text: &[u8]| {
-        let told = run(&["night", "n.mps", "--json"], text);
+    let own = |more: &[&str]| {
+        let told = run(&[&["night", "n.mps", "--json"], more].concat(), NIGHT);
         told.out.replace("\"file\":\"n.mps\"", "\"file\":\"\"")
     };
-    let wanted = own(NIGHT) + &own(ALARMS);
+    let wanted = own(&[]) + &own(&["--alarms", "alarm"]);
     assert!(wanted.starts_with("{\"version\":2,\"file\":\"\",\"plan\":\"night-as-priced\","));
     assert_eq!(wanted.lines().count(), 2);
     let told = run(&["night", "--json"], b"");
@@ -64,19 +57,16 @@ fn the_bundled_night_as_json() {
 
 #[test]
 fn short_fits_a_terminal() {
-    for (text, groups) in [
-        (NIGHT, "alarm,soil"),
-        (ALARMS, "alarm,soil"),
-        (NIGHT, "soil"),
-        (NIGHT, "soil,none,alarm"),
+    for more in [
+        &["--groups", "alarm,soil"][..],
+        &["--alarms", "alarm"],
+        &["--alarms", "soil"],
+        &["--groups", "soil"],
+        &["--groups", "soil,none,alarm"],
     ] {
         for ascii in [&[][..], &["--ascii"]] {
-            let words = [
-                &["night", "n.mps", "--short", "--groups", groups][..],
-                ascii,
-            ]
-            .concat();
-            let told = run(&words, text);
+            let words = [&["night", "n.mps", "--short"][..], more, ascii].concat();
+            let told = run(&words, NIGHT);
             assert_eq!(told.exit, 0, "{}", told.err);
             assert!(told.out.lines().count() <= 24, "{}", told.out);
             assert!(

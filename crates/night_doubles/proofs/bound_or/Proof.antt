@@ -11,7 +11,8 @@ nearest-i64-to-f64-requires : tie.Need-nearest-i64-to-f64-requires
 nearest-i64-to-f64-requires c κs = search needs
 
 returns : tie.Need-returns
-returns c = c .nearest-i64-to-f64 .ensures ∙ ap asDouble (of-word (c .before .before .fits .z)) ∙ bound-there _ _ _ (c .before .if1 .taken)
+returns c = c .nearest-i64-to-f64 .ensures ∙ ap asDouble (of-word (c .before .before .fits .z))
+    ∙ bound-there _ _ _ (c .before .if1 .taken)
 
 returns-2 : tie.Need-returns-2
 returns-2 c = bound-absent _ _ _ (c .if1 .left)

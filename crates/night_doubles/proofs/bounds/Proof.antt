@@ -1,6 +1,6 @@
 -- `night_doubles::bounds`: the cells passed have theirs. Assumes nothing.
-use mathlib.Core.Path.{_≡_, refl, sym, ap, _∙_}
-use Prim.Native.Nat.{_≤_, _<_, _+_, _*_, _-_}
+use mathlib.Core.Path.{_≡_, ap, _∙_}
+use Prim.Native.Nat.{_≤_, _-_}
 use native.Mathlib.Omega.{arith}
 use lib.ListN.{length}
 use Rattle.sheet_rules.specs.Sum.{_‼_}
@@ -53,13 +53,14 @@ loop-less : tie.Need-loop-less Inv-loop μ-loop
 loop-less c = omega arith
 
 loop-again : tie.Need-loop-again Inv-loop μ-loop
-loop-again c = 
+loop-again c =
     let t : tie.In-loop Inv-loop μ-loop = search in
     let g : tie.After-bound-or-arg Inv-loop μ-loop = search in
     let s = start (t .before) .args in (
       omega arith,
       filled-more (t .before .loop .inv .1) (omega (arith, t, start (t .before) .pre))
-          (c .bound-or .ensures ∙ ap (boundOr (s .absent) (s .marks .now # t .before .loop .j)) (result (s .xs .now ‼ t .before .loop .j) (g .bound-or-arg .given))),
+          (c .bound-or .ensures ∙ ap (boundOr (s .absent) (s .marks .now # t .before .loop .j))
+          (result (s .xs .now ‼ t .before .loop .j) (g .bound-or-arg .given))),
     )
 
 same-length : tie.Need-same-length Inv-loop μ-loop

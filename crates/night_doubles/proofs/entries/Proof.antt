@@ -1,6 +1,6 @@
 -- `night_doubles::entries`: those of the rows passed are counted. Assumes nothing.
-use mathlib.Core.Path.{_≡_, refl, sym, ap, _∙_}
-use Prim.Native.Nat.{_≤_, _<_, _+_, _*_, _-_}
+use mathlib.Core.Path.{_≡_, refl, _∙_}
+use Prim.Native.Nat.{_≤_, _+_, _*_, _-_}
 use native.Mathlib.Omega.{arith}
 use lib.ListN.{length}
 use Rattle.doubles.specs.Loop.{run}
@@ -33,12 +33,19 @@ module _ (c : tie.In-loop Inv-loop μ-loop) where
 
 -- this turn's count
 counted : (c : tie.After-row-entries Inv-loop μ-loop)
-    → c .before .before .before .loop .k + c .row-entries .result ≡ startAt (p (c .before .before)) (c .before .before .before .loop .i + 1)
+    → c .before .before .before .loop .k + c .row-entries .result
+    ≡ startAt (p (c .before .before)) (c .before .before .before .loop .i + 1)
 counted c =
     let t : tie.In-loop Inv-loop μ-loop = c .before .before in
     let a = s t .args in
     let i = t .before .loop .i in
-    omega (arith, t .before .loop .inv .1, start-next (p t) i, c .row-entries .ensures ∙ cut-count (a .coefs .now) (a .rows) (a .columns) i (inside t))
+    omega (
+      arith,
+      t .before .loop .inv .1,
+      start-next (p t) i,
+      c .row-entries .ensures
+          ∙ cut-count (a .coefs .now) (a .rows) (a .columns) i (inside t),
+    )
 
 loop-holds : tie.Need-loop-holds Inv-loop μ-loop
 unfolding startAt run
@@ -67,7 +74,14 @@ row-entries-requires c κs = search needs
 
 add-k : tie.Need-add-k Inv-loop μ-loop
 add-k c = let t : tie.In-loop Inv-loop μ-loop = search in
-    omega (arith, counted c, start-few (p t) (t .before .loop .i + 1), row-in (t .before .loop .i) (s t .args .rows) (s t .args .columns) (t .loop-test .taken), s t .pre)
+    omega (
+      arith,
+      counted c,
+      start-few (p t) (t .before .loop .i + 1),
+      row-in (t .before .loop .i) (s t .args .rows)
+          (s t .args .columns) (t .loop-test .taken),
+      s t .pre,
+    )
 
 add-i : tie.Need-add-i Inv-loop μ-loop
 add-i c = search needs
@@ -80,7 +94,8 @@ loop-again c = (omega arith, counted c)
 
 returns : tie.Need-returns Inv-loop μ-loop
 unfolding entryCount
-returns c = let q : c .before .loop .i ≡ c .before .before .args .rows = omega arith in rw q at (c .before .loop .inv .1)
+returns c = let q : c .before .loop .i ≡ c .before .before .args .rows =
+    omega arith in rw q at (c .before .loop .inv .1)
 
 pub entries-spec : {M : Type 1} → statement M
 entries-spec =

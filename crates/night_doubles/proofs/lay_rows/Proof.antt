@@ -1,6 +1,6 @@
 -- `night_doubles::lay_rows`: the rows passed stand one behind the other. Assumes nothing.
-use mathlib.Core.Path.{_≡_, refl, sym, ap, _∙_}
-use Prim.Native.Nat.{ℕ, _≤_, _<_, _+_, _*_, _-_}
+use mathlib.Core.Path.{_≡_, refl}
+use Prim.Native.Nat.{_≤_, _+_, _*_, _-_}
 use native.Mathlib.Nat.{le-trans}
 use native.Mathlib.Omega.{arith}
 use lib.ListN.{length}
@@ -17,7 +17,8 @@ use Rattle.night_doubles.proofs.lay_rows.Tie as tie
 
 abbrev Inv-loop : tie.InvT-loop
 Inv-loop rows columns coefs starts₀ cols₀ coeffs₀ at₀ i₀ starts cols coeffs at i =
-    (i ≤ rows) × (at ≡ startAt (cellsOf rows columns coefs) i) × Filled (startAt (cellsOf rows columns coefs)) starts₀ i starts
+    (i ≤ rows) × (at ≡ startAt (cellsOf rows columns coefs) i) × Filled (startAt (cellsOf rows columns coefs)) starts₀
+    i starts
     × Laid (entriesTo (cellsOf rows columns coefs) i) at cols coeffs
 
 abbrev μ-loop : tie.MeasureT-loop
@@ -32,7 +33,8 @@ module _ (c : tie.In-loop Inv-loop μ-loop) where
   p = cellsOf (s .args .rows) (s .args .columns) (s .args .coefs .now)
 
   inside : c .before .loop .i * s .args .columns + s .args .columns ≤ length (s .args .coefs .now)
-  inside = le-trans (row-in (c .before .loop .i) (s .args .rows) (s .args .columns) (c .loop-test .taken)) (s .pre .0 .1)
+  inside = le-trans (row-in (c .before .loop .i) (s .args .rows) (s .args .columns) (c .loop-test .taken))
+      (s .pre .0 .1)
 
 loop-holds : tie.Need-loop-holds Inv-loop μ-loop
 unfolding startAt run
@@ -64,11 +66,19 @@ part-lay-row-end c = omega (arith, inside c)
 
 lay-row-requires : tie.Need-lay-row-requires Inv-loop μ-loop
 unfolding entryCount
-lay-row-requires c κs = 
+lay-row-requires c κs =
     let t : tie.In-loop Inv-loop μ-loop = search in
     let a = s t .args in
     let i = t .before .loop .i in
-    omega (arith, t .before .loop .inv .1, cut-count (a .coefs .now) (a .rows) (a .columns) i (inside t), start-next (p t) i, start-upto (p t) (i + 1) (a .rows) (omega (arith, t .loop-test .taken)), s t .pre .0 .2)
+    omega (
+      arith,
+      t .before .loop .inv .1,
+      cut-count (a .coefs .now) (a .rows) (a .columns) i (inside t),
+      start-next
+          (p t) i,
+      start-upto (p t) (i + 1) (a .rows) (omega (arith, t .loop-test .taken)),
+      s t .pre .0 .2,
+    )
 
 add-i : tie.Need-add-i Inv-loop μ-loop
 add-i c = search needs
@@ -77,14 +87,16 @@ loop-less : tie.Need-loop-less Inv-loop μ-loop
 loop-less c = omega arith
 
 loop-again : tie.Need-loop-again Inv-loop μ-loop
-loop-again c = 
+loop-again c =
     let t : tie.In-loop Inv-loop μ-loop = search in
     let a = s t .args in
-    let l = t .before .loop in
-    (omega arith,
-    row-start (a .coefs .now) (a .rows) (a .columns) (l .i) (inside t) _ _ _ _ _ _ (c .lay-row .ensures) (l .inv .1),
-    filled-more (l .inv .2) (omega (arith, t, s t .pre)) (l .inv .1),
-    row-placed (a .coefs .now) (a .rows) (a .columns) (l .i) (inside t) _ _ _ _ _ _ (c .lay-row .ensures) (l .inv .1) (l .inv .3))
+    let l = t .before .loop in (
+      omega arith,
+      row-start (a .coefs .now) (a .rows) (a .columns) (l .i) (inside t) _ _ _ _ _ _ (c .lay-row .ensures) (l .inv .1),
+      filled-more (l .inv .2) (omega (arith, t, s t .pre)) (l .inv .1),
+      row-placed (a .coefs .now) (a .rows) (a .columns) (l .i) (inside t) _ _ _ _ _ _ (c .lay-row .ensures) (l .inv .1)
+          (l .inv .3),
+    )
 
 mul-starts-2 : tie.Need-mul-starts-2 Inv-loop μ-loop
 mul-starts-2 c = omega (arith, c .before .before .pre .0)
@@ -94,7 +106,7 @@ element-write-starts-2 c = omega (arith, c .before .before .pre .0)
 
 returns : tie.Need-returns Inv-loop μ-loop
 unfolding entryCount
-returns c = 
+returns c =
     let s = c .before .before in
     let l = c .before .loop in
     let q : l .i ≡ s .args .rows = omega arith in

@@ -1,6 +1,6 @@
 -- `night_doubles::numbers`: the cells passed have theirs. Assumes nothing.
-use mathlib.Core.Path.{_≡_, refl, sym, ap, _∙_}
-use Prim.Native.Nat.{_≤_, _<_, _+_, _*_, _-_}
+use mathlib.Core.Path.{_≡_, ap, _∙_}
+use Prim.Native.Nat.{_≤_, _-_}
 use native.Mathlib.Omega.{arith}
 use lib.ListN.{length}
 use Rattle.sheet_rules.specs.Sum.{_‼_}
@@ -50,12 +50,13 @@ loop-less : tie.Need-loop-less Inv-loop μ-loop
 loop-less c = omega arith
 
 loop-again : tie.Need-loop-again Inv-loop μ-loop
-loop-again c = 
+loop-again c =
     let t : tie.In-loop Inv-loop μ-loop = search in
     let g : tie.After-nearest-i64-to-f64-arg Inv-loop μ-loop = search in (
       omega arith,
       filled-more (t .before .loop .inv .1) (omega (arith, t, start (t .before) .pre))
-          (c .nearest-i64-to-f64 .ensures ∙ ap asDouble (result (start (t .before) .args .xs .now ‼ t .before .loop .j) (g .nearest-i64-to-f64-arg .given))),
+          (c .nearest-i64-to-f64 .ensures ∙ ap asDouble (result (start (t .before) .args .xs .now ‼ t .before .loop .j)
+          (g .nearest-i64-to-f64-arg .given))),
     )
 
 same-length : tie.Need-same-length Inv-loop μ-loop

@@ -1,5 +1,5 @@
 -- `night_doubles::row_entries`: those of the columns passed are counted. Assumes nothing.
-use mathlib.Core.Path.{_≡_, refl, sym, ap, _∙_}
+use mathlib.Core.Path.{_≡_, refl, ap, _∙_}
 use mathlib.Core.Logic.{⊎-elim}
 use Prim.Native.Nat.{ℕ, _≤_, _-_}
 use lib.IntN.{ℤ}
@@ -23,7 +23,8 @@ abbrev μ-loop : tie.MeasureT-loop
 
 -- this turn's test
 tested : (c : tie.After-is-zero Inv-loop μ-loop)
-    → c .is-zero .result ≡ isZero (c .before .before .before .before .args .row .now ‼ c .before .before .before .loop .j)
+    → c .is-zero .result ≡ isZero (c .before .before .before .before .args .row .now ‼
+    c .before .before .before .loop .j)
 tested c = c .is-zero .ensures ∙ ap isZero (result _ (c .before .is-zero-arg .given))
 
 loop-holds : tie.Need-loop-holds Inv-loop μ-loop
@@ -50,13 +51,31 @@ loop-less : tie.Need-loop-less Inv-loop μ-loop
 loop-less c = omega arith
 
 loop-again : tie.Need-loop-again Inv-loop μ-loop
-loop-again c = 
+loop-again c =
     let t : tie.In-loop Inv-loop μ-loop = search in
     let row : ℕ → ℤ = λ i. t .before .before .args .row .now ‼ i in
     let j = t .before .loop .j in
     ⊎-elim
-    (λ w. (omega arith, omega (arith, w .1, t .before .loop .inv .1, count-one row j (was-true (tested (c .before)) (w .0 .taken)))))
-    (λ w. (omega arith, omega (arith, w .1, t .before .loop .inv .1, count-none row j (was-false (tested (c .before)) (w .0 .left)))))
+    (λ w. (
+      omega arith,
+      omega (
+        arith,
+        w .1,
+        t .before .loop .inv .1,
+        count-one row j
+            (was-true (tested (c .before)) (w .0 .taken)),
+      ),
+    ))
+    (λ w. (
+      omega arith,
+      omega (
+        arith,
+        w .1,
+        t .before .loop .inv .1,
+        count-none row j
+            (was-false (tested (c .before)) (w .0 .left)),
+      ),
+    ))
     (c .if1 .came)
 
 returns : tie.Need-returns Inv-loop μ-loop

@@ -17,12 +17,14 @@ module _ (s : tie.Start) where
   abbrev p : Plan
   p =
       let a = s .args in
-      planOf (a .rows) (a .columns) (a .coefs .now) (a .costs .now) (a .lowers .now) (a .uppers .now) (a .lower-marks .now) (a .upper-marks .now) (a .rhs .now) (a .ops .now) [] []
+      planOf (a .rows) (a .columns) (a .coefs .now) (a .costs .now) (a .lowers .now) (a .uppers .now)
+      (a .lower-marks .now) (a .upper-marks .now) (a .rhs .now) (a .ops .now) [] []
 
   abbrev l : Lent
   l =
       let a = s .args in
-      lentOf (a .columns) (a .rows) (a .starts .now) (a .ops .now) (a .values .now) (a .numbers .now) (a .doubles .now) (zeros maxColumns) (zeros maxRows)
+      lentOf (a .columns) (a .rows) (a .starts .now) (a .ops .now) (a .values .now) (a .numbers .now) (a .doubles .now)
+      (zeros maxColumns) (zeros maxRows)
 
 -- Proposed is the first of the proposals
 abbrev is : ℕ → Type 0
@@ -30,7 +32,8 @@ is k = 0 ≡ k
 
 other-kind : is 1 ⊎ (is 2 ⊎ (is 3 ⊎ is 4)) → ⊥
 other-kind =
-    ⊎-elim (λ h. omega (arith, h)) (⊎-elim (λ h. omega (arith, h)) (⊎-elim (λ h. omega (arith, h)) (λ h. omega (arith, h))))
+    ⊎-elim (λ h. omega (arith, h)) (⊎-elim (λ h. omega (arith, h))
+    (⊎-elim (λ h. omega (arith, h)) (λ h. omega (arith, h))))
 
 slice-aggregate-propose : tie.Need-slice-aggregate-propose
 slice-aggregate-propose c = search needs
@@ -51,12 +54,18 @@ same-length : tie.Need-same-length
 same-length c = search needs
 
 returns : tie.Need-returns
-returns c = let s = c .before .before .before .before .before .before .before .before .before .before .before .before .before .before .before .before .before .before .before in
-    was-proposed (p s) (l s) (s .args .section .now) (c .before .before .before .before .before .before .before .before .before .propose .ensures) (c .before .before .before .before .before .enum-told .given .1) (c .before .judge .ensures)
+returns c =
+    let j = c .before in
+    let e = j .before .before .before .before in
+    let g = e .before .before .before .before in
+    let s : tie.Start = g .before .before .before .before .before .before .before .before .before .before in
+    was-proposed (p s) (l s) (s .args .section .now) (g .propose .ensures) (e .enum-told .given .1) (j .judge .ensures)
 
 returns-2 : tie.Need-returns-2
-returns-2 c = let s = c .before .before .before .before .before .before .before .before .before .before .before .before .before in
-    not-whole (p s) (l s) (s .args .section .now) (c .before .before .before .propose .ensures) (λ q. other-kind (rw q at (c .match .keys2)))
+returns-2 c =
+    let g = c .before .before .before in
+    let s : tie.Start = g .before .before .before .before .before .before .before .before .before .before in
+    not-whole (p s) (l s) (s .args .section .now) (g .propose .ensures) (λ q. other-kind (rw q at (c .match .keys2)))
 
 pub audit-spec : {M : Type 1} → statement M
 audit-spec =

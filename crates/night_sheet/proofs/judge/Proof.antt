@@ -13,7 +13,8 @@ use Rattle.night_sheet.proofs.judge.Tie as tie
 abbrev sheet : tie.Start → Sheet
 sheet s =
     let a = s .args in
-    sheetWith (planOf (a .rows) (a .columns) (a .coefs .now) (a .costs .now) (a .lowers .now) (a .uppers .now) (a .lower-marks .now) (a .upper-marks .now) (a .rhs .now) (a .ops .now) [] [])
+    sheetWith (planOf (a .rows) (a .columns) (a .coefs .now) (a .costs .now) (a .lowers .now) (a .uppers .now)
+    (a .lower-marks .now) (a .upper-marks .now) (a .rhs .now) (a .ops .now) [] [])
     (a .amounts .now) (a .mults .now)
 
 slice-aggregate-open : tie.Need-slice-aggregate-open
@@ -35,7 +36,10 @@ open-requires : tie.Need-open-requires
 open-requires c κs = search needs
 
 returns : tie.Need-returns
-returns c = not-opened (sheet (c .before .before .before .before .before .before .before .before .before .before .before .before .before .before .before .before .before)) (c .before .before .before .before .before .before .before .before .before .before .before .before .before .before .before .before .before .args .section .now) (c .before .before .before .before .before .before .«open» .ensures) (c .if1 .taken)
+returns c =
+    let o = c .before .before .before .before .before .before in
+    let s : tie.Start = o .before .before .before .before .before .before .before .before .before .before .before in
+    not-opened (sheet s) (s .args .section .now) (o .«open» .ensures) (c .if1 .taken)
 
 write-section-requires : tie.Need-write-section-requires
 write-section-requires c κs = search needs
@@ -63,12 +67,13 @@ same-length c = search needs
 
 returns-2 : tie.Need-returns-2
 unfolding sectionOf
-returns-2 c = 
-    let s = c .before .before .before .before .before .before .before .before .before .before .before .before .before .before .before .before .before .before .before .before .before .before .before .before .before .before .before .before .before .before .before .before .before in
-    let o = c .before .before .before .before .before .before .before .before .before .before .before .before .before .before .before .before .before .before .before .before .before .before in
+returns-2 c =
     let w = c .before .before .before .before .before .before .before .before .before in
+    let e = w .before .before .before .before .before .before .before in
+    let o = e .before .before .before .before .before .before in
+    let s : tie.Start = o .before .before .before .before .before .before .before .before .before .before .before in
     ap (audited (Judged (c .verdict .result))) (w .write-section .ensures)
-    ∙ was-judged (sheet s) (s .args .section .now) (o .«open» .ensures) (c .before .before .before .before .before .before .before .before .before .before .before .before .before .before .before .before .if1 .left) (c .verdict .ensures)
+    ∙ was-judged (sheet s) (s .args .section .now) (o .«open» .ensures) (e .if1 .left) (c .verdict .ensures)
 
 pub judge-spec : {M : Type 1} → statement M
 judge-spec =

@@ -30,13 +30,25 @@ same-length : tie.Need-same-length
 same-length c = search needs
 
 returns : tie.Need-returns
-returns c = 
-    let s = c .before .before .before .before .before .before .before .before .before .before .before .before .before .before .before .before .before .before .before .before .before .before .before .before .before .before .before .before in
+returns c =
+    let p7 = c .before in
+    let p6 = p7 .before .before .before .before in
+    let p5 = p6 .before .before .before .before in
+    let p4 = p5 .before .before .before .before in
+    let p3 = p4 .before .before .before .before in
+    let p2 = p3 .before .before .before .before in
+    let p1 = p2 .before .before .before .before in
+    let s : tie.Start = p1 .before .before .before in
     let a = s .args in
-    section-made (a .amounts .now) (a .mults .now) (a .r .now) (a .d .now) (a .c .now) (a .b .now) (a .counts .now) (a .section .now)
-    (omega (arith, c .before .before .before .before .before .before .before .before .before .before .before .before .before .before .before .before .before .before .before .before .before .before .before .before .before .before .before .put-cells-arg .given)) (omega (arith, c .before .before .before .before .before .before .before .before .before .before .before .before .before .before .before .before .before .before .before .before .before .before .before .put-cells-arg3 .given)) (omega (arith, c .before .before .before .before .before .before .before .before .before .before .before .before .before .before .before .before .before .before .before .put-cells-arg5 .given))
-    (omega (arith, c .before .before .before .before .before .before .before .before .before .before .before .before .before .before .before .put-cells-arg7 .given)) (omega (arith, c .before .before .before .before .before .before .before .before .before .before .before .put-cells-arg9 .given)) (omega (arith, c .before .before .before .before .before .before .before .put-cells-arg11 .given))
-    (c .before .before .before .before .before .before .before .before .before .before .before .before .before .before .before .before .before .before .before .before .before .before .before .before .before .put-cells .ensures) (c .before .before .before .before .before .before .before .before .before .before .before .before .before .before .before .before .before .before .before .before .before .put-cells2 .ensures) (c .before .before .before .before .before .before .before .before .before .before .before .before .before .before .before .before .before .put-cells3 .ensures) (c .before .before .before .before .before .before .before .before .before .before .before .before .before .put-cells4 .ensures) (c .before .before .before .before .before .before .before .before .before .put-cells5 .ensures) (c .before .before .before .before .before .put-cells6 .ensures) (c .before .put-cells7 .ensures)
+    section-made (a .amounts .now) (a .mults .now) (a .r .now) (a .d .now) (a .c .now) (a .b .now) (a .counts .now)
+    (a .section .now)
+    (omega (arith, p1 .before .before .put-cells-arg .given)) (omega (arith, p2 .before .before .put-cells-arg3 .given))
+    (omega (arith, p3 .before .before .put-cells-arg5 .given))
+    (omega (arith, p4 .before .before .put-cells-arg7 .given))
+    (omega (arith, p5 .before .before .put-cells-arg9 .given))
+    (omega (arith, p6 .before .before .put-cells-arg11 .given))
+    (p1 .put-cells .ensures) (p2 .put-cells2 .ensures) (p3 .put-cells3 .ensures) (p4 .put-cells4 .ensures)
+    (p5 .put-cells5 .ensures) (p6 .put-cells6 .ensures) (p7 .put-cells7 .ensures)
 
 pub write-section-spec : {M : Type 1} → statement M
 write-section-spec =

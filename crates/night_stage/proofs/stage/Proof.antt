@@ -13,25 +13,32 @@ module _ (s : tie.Start) where
   abbrev p : Plan
   p =
       let a = s .args in
-      planOf (a .rows) (a .columns) (a .coefs .now) (a .costs .now) (a .lowers .now) (a .uppers .now) (a .lower-marks .now) (a .upper-marks .now) (a .rhs .now) (a .ops .now) [] []
+      planOf (a .rows) (a .columns) (a .coefs .now) (a .costs .now) (a .lowers .now) (a .uppers .now)
+      (a .lower-marks .now) (a .upper-marks .now) (a .rhs .now) (a .ops .now) [] []
 
   abbrev m : Arrays
-  m = let a = s .args in arraysOf (a .values .now) (a .numbers .now) (a .doubles .now) (a .factor-numbers .now) (a .factor-coeffs .now)
+  m = let a = s .args in arraysOf (a .values .now) (a .numbers .now) (a .doubles .now) (a .factor-numbers .now)
+      (a .factor-coeffs .now)
 
 entries-requires : tie.Need-entries-requires
 entries-requires c κs = search needs
 
 returns : tie.Need-returns
-returns c = 
-    let s = c .before .before .before .before .before .before .before .before .before .before in
-    let h = too-many (p s) (s .args .budget) (s .args .tolerance) (rw (c .before .entries .ensures) at (c .if1 .taken)) (m s) in
-    not-run (p s) (s .args .budget) (s .args .tolerance) (s .args .section .now) (m s) (m s) BadSize h not-bad
+returns c =
+    let n = c .before in
+    let s : tie.Start = n .before .before .before .before .before .before .before .before .before in
+    let b = s .args .budget in
+    let t = s .args .tolerance in
+    let h = too-many (p s) b t (rw (n .entries .ensures) at (c .if1 .taken)) (m s) in
+    not-run (p s) b t (s .args .section .now) (m s) (m s) BadSize h not-bad
 
 run-requires : tie.Need-run-requires
-run-requires c κs = 
-    let s = c .before .before .before .before .before .before .before .before .before .before .before .before .before .before .before .before in
-    let e = c .before .before .before .before .before .before .before .entries .ensures in
-    (convert-asks (p s) (s .pre .0) (rw e at (c .before .before .before .before .before .before .if1 .left)), e, refl)
+run-requires c κs =
+    let i = c .before .before .before .before .before .before in
+    let n = i .before in
+    let s : tie.Start = n .before .before .before .before .before .before .before .before .before in
+    let e = n .entries .ensures in
+    (convert-asks (p s) (s .pre .0) (rw e at (i .if1 .left)), e, refl)
 
 number-of-requires : tie.Need-number-of-requires
 number-of-requires c κs = search needs
@@ -52,17 +59,26 @@ same-length-5 : tie.Need-same-length-5
 same-length-5 c = search needs
 
 returns-2 : tie.Need-returns-2
-returns-2 c = 
-    let s = c .before .before .before .before .before .before .before .before .before .before .before .before .before .before .before .before .before .before .before .before .before .before .before .before .before .before .before .before .before in
-    not-run (p s) (s .args .budget) (s .args .tolerance) (s .args .section .now) (m s) _ _ (c .before .before .before .before .before .before .before .before .before .before .before .before .run .ensures .0)
-    (λ e. c .if2 .taken (c .before .number-of .ensures ∙ e))
+returns-2 c =
+    let n = c .before in
+    let r = n .before .before .before .before .before .before .before .before .before .before .before in
+    let s : tie.Start = r .before .before .before .before .before .before .before .before .before .before .before
+    .before .before .before .before .before .before in
+    not-run (p s) (s .args .budget) (s .args .tolerance) (s .args .section .now) (m s) _ _ (r .run .ensures .0)
+    (λ e. c .if2 .taken (n .number-of .ensures ∙ e))
 
 slice-aggregate-audit : tie.Need-slice-aggregate-audit
-slice-aggregate-audit c = let s = c .before .before .before .before .before .before .before .before .before .before .before .before .before .before .before .before .before .before .before .before .before .before .before .before .before .before .before .before .before .before in
-    sym (starts-long (p s) (s .args .budget) (s .args .tolerance) (s .pre .0 .rows-few) (c .before .before .before .before .before .before .before .before .before .before .before .before .before .run .ensures .1))
+slice-aggregate-audit c =
+    let r = c .before .before .before .before .before .before .before .before .before .before .before .before .before in
+    let s : tie.Start = r .before .before .before .before .before .before .before .before .before .before .before
+    .before .before .before .before .before .before in
+    sym (starts-long (p s) (s .args .budget) (s .args .tolerance) (s .pre .0 .rows-few) (r .run .ensures .1))
 
 audit-requires : tie.Need-audit-requires
-audit-requires c κs = c .before .before .before .before .before .before .before .before .before .before .before .before .before .before .before .before .before .before .before .before .before .before .before .before .before .before .before .before .before .before .before .before .before .before .pre .1
+audit-requires c κs = let s : tie.Start = c .before .before .before .before .before .before .before .before .before
+    .before .before .before .before .before .before .before .before .before .before .before .before .before .before
+    .before .before .before .before .before .before .before .before .before .before .before in
+    s .pre .1
 
 same-length-6 : tie.Need-same-length-6
 same-length-6 c = search needs
@@ -83,10 +99,15 @@ same-length-11 : tie.Need-same-length-11
 same-length-11 c = search needs
 
 returns-3 : tie.Need-returns-3
-returns-3 c = 
-    let s = c .before .before .before .before .before .before .before .before .before .before .before .before .before .before .before .before .before .before .before .before .before .before .before .before .before .before .before .before .before .before .before .before .before .before .before .before in
-    let r = c .before .before .before .before .before .before .before .before .before .before .before .before .before .before .before .before .before .before .before .run .ensures in
-    was-run (p s) (s .args .budget) (s .args .tolerance) (s .args .section .now) (m s) _ _ (r .0) (sym (c .before .before .before .before .before .before .before .before .number-of .ensures) ∙ c .before .before .before .before .before .before .before .if2 .left) (r .1) (c .before .audit .ensures)
+returns-3 c =
+    let u = c .before in
+    let i = u .before .before .before .before .before .before in
+    let n = i .before in
+    let r = n .before .before .before .before .before .before .before .before .before .before .before in
+    let s : tie.Start = r .before .before .before .before .before .before .before .before .before .before .before
+    .before .before .before .before .before .before in
+    was-run (p s) (s .args .budget) (s .args .tolerance) (s .args .section .now) (m s) _ _ (r .run .ensures .0)
+    (sym (n .number-of .ensures) ∙ i .if2 .left) (r .run .ensures .1) (u .audit .ensures)
 
 pub stage-spec : {M : Type 1} → statement M
 stage-spec =

@@ -73,7 +73,9 @@ fn put_dense(draft: &mut Draft, rng: &mut Rng, of: Of, rows: usize, columns: usi
             }
         }
         // It is kept at the start.
-        let taken = entries.iter().map(|(j, a)| a * draft.bounds[*j].1.unwrap_or(0));
+        let taken = entries
+            .iter()
+            .map(|(j, a)| a * draft.bounds[*j].1.unwrap_or(0));
         let rhs = taken.sum::<i64>().max(0) + between(rng, 10_000, 90_000);
         draft.row(entries, LE, rhs);
     }
@@ -94,32 +96,72 @@ fn dense_second(rng: &mut Rng) -> Draft {
     dense(rng, Of::Second)
 }
 
+/// Columns that each take a stretch of rows, some of which fill every row at their most. By their prices these are the
+/// cheapest, but all want more: the first stage takes many steps, and the second starts where it has ended.
+fn settled(rng: &mut Rng) -> Draft {
+    let mut draft = Draft::new();
+    let rows = rng.between(85, 95);
+    let prices: Vec<i64> = (0..rows).map(|_| between(rng, 1, 20)).collect();
+    let mut lines = vec![(vec![], 0); rows];
+    for j in 0..rng.between(105, 124) {
+        let length = rng.between(1, 26);
+        let from = rng.below(rows - length + 1);
+        let (fills, most) = (rng.one_in(3), between(rng, 10, 60));
+        let price: i64 = prices[from..from + length].iter().sum();
+        let more = between(rng, 0, 1);
+        let (alarm, report) = if fills {
+            (-price - more, -1)
+        } else {
+            (more - price, 1)
+        };
+        draft.column(alarm, report, Some(0), Some(most));
+        for (entries, rhs) in &mut lines[from..from + length] {
+            entries.push((j, 1));
+            *rhs += if fills { most } else { 0 };
+        }
+    }
+    for (entries, rhs) in lines {
+        draft.row(entries, LE, rhs);
+    }
+    draft
+}
+
 /// Columns that enter with a pivot of 1 each, and which no factor takes together: it begins with the large entries, and
-/// what is left for the last is under EPS. Costs fall so that none leaves again.
-fn put_trap(draft: &mut Draft, of: Of, costs: &[i64], large: i64) {
-    let mut rhs = 0;
-    for (k, &cost) in costs.iter().enumerate() {
+/// what is left for the last is under EPS. Of each column its cost, which falls so that none leaves again, and its row's
+/// right side, which rises so that it enters there.
+fn put_trap(draft: &mut Draft, of: Of, large: i64, columns: &[(i64, i64)]) {
+    for (k, &(cost, rhs)) in columns.iter().enumerate() {
         let column = draft.priced(of, -cost, None);
         let mut entries = vec![(column, 1)];
         if k > 0 {
             entries.insert(0, (column - 1, large));
         }
         draft.row(entries, LE, rhs);
-        rhs = if k == 0 { 1 } else { rhs.saturating_mul(2 * large).min(1 << 30) };
     }
 }
 
 /// 25.
 fn singular_first(rng: &mut Rng) -> Draft {
     let mut draft = dense_first(rng);
-    put_trap(&mut draft, Of::First, &[1_000_000_000_000, between(rng, 1, 9)], 10_000_000_000);
+    let last = (between(rng, 1, 9), 20_000_000_000);
+    put_trap(
+        &mut draft,
+        Of::First,
+        10_000_000_000,
+        &[(1_000_000_000_000, 0), last],
+    );
     draft
 }
 
 fn singular_second(rng: &mut Rng) -> Draft {
     let mut draft = dense_second(rng);
-    let costs = [1_000_000_000_000, 200_000_000, 40_000, between(rng, 1, 9)];
-    put_trap(&mut draft, Of::Second, &costs, 4_096);
+    let columns = [
+        (1_000_000_000_000, 0),
+        (200_000_000, 1),
+        (40_000, 8_192),
+        (between(rng, 1, 9), 67_108_864),
+    ];
+    put_trap(&mut draft, Of::Second, 4_096, &columns);
     draft
 }
 
@@ -132,19 +174,32 @@ fn unmended_second(rng: &mut Rng) -> Draft {
     for _ in 0..3 {
         let upper = rng.pick(&[None, Some(65_536)]);
         let column = draft.column(0, 0, Some(0), upper);
-        draft.row(vec![(before, -1), (column, between(rng, 3_600, 4_096))], EQ, 0);
+        draft.row(
+            vec![(before, -1), (column, between(rng, 3_600, 4_096))],
+            EQ,
+            0,
+        );
         before = column;
     }
     draft.row(vec![(before, 1)], LE, 0);
     draft
 }
 
-pub(super) const FAMILIES: [Family; 7] = [
+pub(super) const FAMILIES: [Family; 8] = [
     ("grown first", 25, |rng| of(rng, "grown first", grown_first)),
-    ("grown second", 25, |rng| of(rng, "grown second", grown_second)),
+    ("grown second", 25, |rng| {
+        of(rng, "grown second", grown_second)
+    }),
     ("dense first", 20, |rng| of(rng, "dense first", dense_first)),
-    ("dense second", 20, |rng| of(rng, "dense second", dense_second)),
-    ("singular first", 25, |rng| of(rng, "singular first", singular_first)),
-    ("singular second", 15, |rng| of(rng, "singular second", singular_second)),
+    ("dense second", 20, |rng| {
+        of(rng, "dense second", dense_second)
+    }),
+    ("settled", 30, |rng| of(rng, "settled", settled)),
+    ("singular first", 40, |rng| {
+        of(rng, "singular first", singular_first)
+    }),
+    ("singular second", 15, |rng| {
+        of(rng, "singular second", singular_second)
+    }),
     ("unmended", 30, |rng| of(rng, "unmended", unmended_second)),
 ];

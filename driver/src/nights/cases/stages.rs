@@ -4,7 +4,7 @@ use oracle::limits;
 use oracle::rng::Rng;
 use oracle_sheet::reference::{self, within, GE, LE};
 
-use super::{between, calm, of, plain, uneven, uneven_later, usual, Draft, Family};
+use super::{between, calm, of, plain, stretches, thirds, uneven_later, usual, Draft, Family};
 use crate::nights::reference::{Audit, Memory, Night, Told, FIRST};
 use crate::nights::status;
 
@@ -58,7 +58,13 @@ fn sizes(rng: &mut Rng) -> Night {
             for _ in 0..rng.between(70, 128) {
                 draft.column(-1, -1, Some(0), Some(9));
             }
-            while draft.rows.iter().map(|row| row.entries.len()).sum::<usize>() <= 2_048 {
+            while draft
+                .rows
+                .iter()
+                .map(|row| row.entries.len())
+                .sum::<usize>()
+                <= 2_048
+            {
                 let entries = (0..draft.columns()).map(|j| (j, 1)).collect();
                 draft.row(entries, LE, 100);
             }
@@ -85,7 +91,10 @@ fn numbers(rng: &mut Rng) -> Night {
     idle(&mut draft, 0, 5);
     let mut night = draft.night("numbers", rng);
     let plan = &mut night.plan;
-    let (j, i) = (rng.below(plan.columns as usize), rng.below(plan.rows as usize));
+    let (j, i) = (
+        rng.below(plan.columns as usize),
+        rng.below(plan.rows as usize),
+    );
     match rng.below(7) {
         0 => plan.cost[j] = wild(rng),
         1 => plan.lower[j] = wild(rng),
@@ -94,7 +103,14 @@ fn numbers(rng: &mut Rng) -> Night {
         4 => plan.rhs[i] = wild(rng),
         5 => plan.ops[i] = rng.between(3, 255) as u8,
         _ => {
-            night.tolerance = rng.pick(&[f64::NAN, -0.5, 1.5, f64::INFINITY, -f64::INFINITY, 1.0 + f64::EPSILON]);
+            night.tolerance = rng.pick(&[
+                f64::NAN,
+                -0.5,
+                1.5,
+                f64::INFINITY,
+                -f64::INFINITY,
+                1.0 + f64::EPSILON,
+            ]);
         }
     }
     night
@@ -147,8 +163,12 @@ fn unbounded(rng: &mut Rng) -> Draft {
 
 /// 21, of either stage.
 fn spent(rng: &mut Rng) -> Draft {
-    let mut draft = if rng.one_in(2) { uneven(rng) } else { usual(rng) };
-    draft.budget = rng.between(0, 9);
+    let (mut draft, budget) = match rng.below(3) {
+        0 => (thirds(rng), 3),
+        1 => (stretches(rng), 150),
+        _ => (usual(rng), 9),
+    };
+    draft.budget = rng.between(0, budget);
     draft
 }
 
@@ -214,7 +234,9 @@ fn unopened(rng: &mut Rng) -> Night {
         _ => idle(&mut draft, 0, 5),
     };
     match cause {
-        4 => draft.rows[0].entries.push((column, over(rng, reference::COEF, 1 << 30))),
+        4 => draft.rows[0]
+            .entries
+            .push((column, over(rng, reference::COEF, 1 << 30))),
         5 => draft.alarms[column] = over(rng, reference::COST, 1 << 39),
         6 => {
             let rhs = over(rng, reference::RHS, 1 << 39);
@@ -290,7 +312,12 @@ fn wide(rng: &mut Rng) -> Draft {
     let mut draft = plain(rng);
     for _ in draft.columns()..rng.between(60, 100) {
         let alarm = -between(rng, 0, 4);
-        draft.column(alarm, -between(rng, 0, 4), Some(0), Some(between(rng, 1, 20)));
+        draft.column(
+            alarm,
+            -between(rng, 0, 4),
+            Some(0),
+            Some(between(rng, 1, 20)),
+        );
     }
     draft
 }
@@ -385,17 +412,23 @@ pub(super) const FAMILIES: [Family; 19] = [
     ("dropped", 60, |rng| of(rng, "dropped", dropped)),
     ("start", 45, |rng| of(rng, "start", start)),
     ("unbounded", 35, |rng| of(rng, "unbounded", unbounded)),
-    ("spent", 120, |rng| of(rng, "spent", spent)),
-    ("rejected", 90, |rng| of(rng, "rejected", rejected)),
-    ("rejected later", 90, |rng| of(rng, "rejected later", rejected_later)),
+    ("spent", 180, |rng| of(rng, "spent", spent)),
+    ("rejected", 150, |rng| of(rng, "rejected", rejected)),
+    ("rejected later", 90, |rng| {
+        of(rng, "rejected later", rejected_later)
+    }),
     ("infeasible", 45, |rng| of(rng, "infeasible", infeasible)),
     ("beyond", 150, |rng| of(rng, "beyond", beyond)),
     ("unopened", 130, unopened),
-    ("unopened later", 90, |rng| of(rng, "unopened later", unopened_later)),
-    ("stopped", 260, |rng| of(rng, "stopped", stopped)),
+    ("unopened later", 90, |rng| {
+        of(rng, "unopened later", unopened_later)
+    }),
+    ("stopped", 320, |rng| of(rng, "stopped", stopped)),
     ("edge", 120, |rng| of(rng, "edge", edge)),
     ("start later", 70, |rng| of(rng, "start later", start_later)),
-    ("unbounded later", 40, |rng| of(rng, "unbounded later", unbounded_later)),
+    ("unbounded later", 40, |rng| {
+        of(rng, "unbounded later", unbounded_later)
+    }),
     ("empty", 45, |rng| of(rng, "empty", empty)),
 ];
 
@@ -446,7 +479,10 @@ fn wild_causes(night: &Night) -> Vec<&'static str> {
         ("the tolerance", !(0.0..=1.0).contains(&night.tolerance)),
         ("a comparison", plan.ops.iter().any(|&op| op > 2)),
         ("an alarm cost", over_any(&plan.cost, limit)),
-        ("a bound", over_any(&plan.lower, limit) || over_any(&plan.upper, limit)),
+        (
+            "a bound",
+            over_any(&plan.lower, limit) || over_any(&plan.upper, limit),
+        ),
         ("a coefficient", over_any(&plan.coef, limit)),
         ("a right side", over_any(&plan.rhs, limit)),
     ];
@@ -458,14 +494,24 @@ fn wild_causes(night: &Night) -> Vec<&'static str> {
 fn unopened_causes(night: &Night) -> Vec<&'static str> {
     let plan = &night.plan;
     let bounds = [(&plan.haslow, &plan.lower), (&plan.hasup, &plan.upper)];
-    let pairs = || bounds.iter().flat_map(|(marks, cells)| marks.iter().zip(*cells));
+    let pairs = || {
+        bounds
+            .iter()
+            .flat_map(|(marks, cells)| marks.iter().zip(*cells))
+    };
     let causes = [
         ("a coefficient", over_any(&plan.coef, reference::COEF)),
         ("an alarm cost", over_any(&plan.cost, reference::COST)),
-        ("a bound", pairs().any(|(&mark, &cell)| mark == 1 && !within(cell.into(), reference::BOUND))),
+        (
+            "a bound",
+            pairs().any(|(&mark, &cell)| mark == 1 && !within(cell.into(), reference::BOUND)),
+        ),
         ("a right side", over_any(&plan.rhs, reference::RHS)),
         ("a mark", pairs().any(|(&mark, _)| mark > 1)),
-        ("an absent bound's number", pairs().any(|(&mark, &cell)| mark == 0 && cell != 0)),
+        (
+            "an absent bound's number",
+            pairs().any(|(&mark, &cell)| mark == 0 && cell != 0),
+        ),
     ];
     let causes = causes.into_iter().filter(|(_, is)| *is);
     causes.map(|(name, _)| name).collect()
@@ -513,13 +559,18 @@ pub(super) fn count(night: &Night, told: &Told, memory: &Memory, reach: &mut dyn
     for (name, _) in sizes.into_iter().filter(|(_, is)| *is) {
         reach(name.into());
     }
-    let Some(second) = told.solved.get(1) else { return };
+    let Some(second) = told.solved.get(1) else {
+        return;
+    };
     let alarms = plan.cost.iter().filter(|&&cost| cost != 0).count();
     let found = memory.whole[FIRST + 448];
     let starts = &second.starts;
     let edges = [
         ("95 rows, and it goes on", plan.rows == 95),
-        ("2,048 entries, and it goes on", second.entries == limits::ENTRIES),
+        (
+            "2,048 entries, and it goes on",
+            second.entries == limits::ENTRIES,
+        ),
         (
             "alarm costs of 4,096 in size, and it goes on",
             plan.cost.iter().any(|&cost| cost.unsigned_abs() == 4_096),
@@ -528,10 +579,16 @@ pub(super) fn count(night: &Night, told: &Told, memory: &Memory, reach: &mut dyn
             "a found cost of 2^31 in size, and it goes on",
             found.unsigned_abs() == 1 << 31,
         ),
-        ("second stages with an alarms' row of no entries", alarms == 0),
+        (
+            "second stages with an alarms' row of no entries",
+            alarms == 0,
+        ),
         (
             "nights with a dropped row that hand amounts out",
-            told.kind == 7 && starts[..starts.len() - 1].windows(2).any(|row| row[0] == row[1]),
+            told.kind == 7
+                && starts[..starts.len() - 1]
+                    .windows(2)
+                    .any(|row| row[0] == row[1]),
         ),
     ];
     for (name, _) in edges.into_iter().filter(|(_, is)| *is) {
