@@ -159,13 +159,13 @@ pub fn unfix(
     }
     let mut kept = [0usize; doubles::MAX_ROWS];
     let m = plan::keep_rows(rows, starts, &mut kept);
-    let at = fix_ends::take_up(m, numbers, doubles, factor_numbers, factor_coeffs);
+    let tally = fix_ends::take_up(m, numbers, doubles, factor_numbers, factor_coeffs);
     let ran = fix_run::unfixed(
         &mut numbers[..state::KEPT],
         &mut doubles[..state::OBJECTIVE],
         factor_numbers,
         factor_coeffs,
-        at,
+        tally,
         columns,
         budget,
         lowers,
@@ -177,7 +177,7 @@ pub fn unfix(
         &kept[..m],
         column,
     );
-    let why = ran.why;
+    let stop = ran.why;
     fix_rules::FixAnswer::Told(fix_ends::close(
         columns,
         tolerance,
@@ -189,7 +189,7 @@ pub fn unfix(
         ops,
         rhs,
         &kept[..m],
-        why,
+        stop,
         ran.at,
         values,
         numbers,

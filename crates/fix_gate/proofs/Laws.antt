@@ -3,7 +3,7 @@
 use mathlib.Core.Path.{_≡_, refl, sym, ap, _∙_}
 use mathlib.Core.Bool.{Bool, true, false, not, _&&_}
 use mathlib.Core.List.{List, []}
-use Prim.Native.Nat.{ℕ, _+_, _-_, _<_, _≤_}
+use Prim.Native.Nat.{ℕ, _+_, _<_, _≤_}
 use native.Mathlib.Omega.{arith}
 use lib.Dec.{ltb, eqb}
 use lib.ListN.{length}
@@ -176,14 +176,6 @@ unfolding passes43
 value-part p j value = refl
 
 -- ---- `is_fixed`
-pub place-below : (n cell c : ℕ) → varStateOf n cell ≡ NonBasic c → c < n
-unfolding varStateOf
-place-below n cell c q = go (ltb cell n) refl q
-  where
-    go : (b : Bool) → ltb cell n ≡ b → elim b [ true ↦ NonBasic cell | false ↦ Basic (cell - n) ] ≡ NonBasic c → c < n
-    go true e q = let d : cell ≡ c = cc in omega (arith, d, ltb-true cell n e)
-    go false e q = absurd (let z : _≡_ {A = ℕ} 0 1 = cc in omega arith)
-
 module _ (n : ℕ) (N : List ℕ) (D : List Float) (j : ℕ) (inside : j < vars) where
   abbrev sizes : Problem
   sizes = problem (planOf n 0 0 0 f0 [] [] [] [] [] [] [] []) []

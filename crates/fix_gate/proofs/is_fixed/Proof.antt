@@ -3,7 +3,8 @@ use borrow.Author.Needs.{needs}
 use mathlib.Core.Path.{_≡_, sym, ap, _∙_}
 use native.Mathlib.Omega.{arith}
 use Rattle.rules.specs.declared.NonBasicVarState.{NonBasicVarState}
-use Rattle.fix_gate.proofs.Laws.{place-below, basic-loose, place-marked}
+use Rattle.check_final.proofs.Laws.{place-cell}
+use Rattle.fix_gate.proofs.Laws.{basic-loose, place-marked}
 use Rattle.fix_gate.proofs.is_fixed.Statement.{statement}
 use Rattle.fix_gate.proofs.is_fixed.Tie as tie
 
@@ -39,21 +40,21 @@ add-read-flags c =
     let s : tie.Start = search in
     let v : tie.After-var-state = search in
     let w : tie.After-standing = search in
-    omega (arith, s .pre, place-below _ _ _ (sym (v .var-state .ensures) ∙ w .standing .given .1))
+    omega (arith, s .pre, place-cell _ _ _ (sym (v .var-state .ensures) ∙ w .standing .given .1))
 
 mul-read-flags : tie.Need-mul-read-flags
 mul-read-flags c =
     let s : tie.Start = search in
     let v : tie.After-var-state = search in
     let w : tie.After-standing = search in
-    omega (arith, s .pre, place-below _ _ _ (sym (v .var-state .ensures) ∙ w .standing .given .1))
+    omega (arith, s .pre, place-cell _ _ _ (sym (v .var-state .ensures) ∙ w .standing .given .1))
 
 shared-slice-read-read-flags : tie.Need-shared-slice-read-read-flags
 shared-slice-read-read-flags c =
     let s : tie.Start = search in
     let v : tie.After-var-state = search in
     let w : tie.After-standing = search in
-    omega (arith, s .pre, place-below _ _ _ (sym (v .var-state .ensures) ∙ w .standing .given .1))
+    omega (arith, s .pre, place-cell _ _ _ (sym (v .var-state .ensures) ∙ w .standing .given .1))
 
 read-flags-requires : tie.Need-read-flags-requires
 read-flags-requires c κs = search needs
@@ -67,7 +68,7 @@ returns-2 c D =
     let a = s .args in
     let q = sym (v .var-state .ensures) ∙ w .standing .given .1 in
     ap (λ (x : NonBasicVarState). x .«fixed») (f .read-flags .ensures)
-    ∙ place-marked (a .columns) (a .numbers .now) D (a .column) (omega (arith, s .pre)) _ q (omega (arith, s .pre, place-below _ _ _ q))
+    ∙ place-marked (a .columns) (a .numbers .now) D (a .column) (omega (arith, s .pre)) _ q (omega (arith, s .pre, place-cell _ _ _ q))
 
 pub is-fixed-spec : {M : Type 1} → statement M
 is-fixed-spec =
