@@ -1,12 +1,14 @@
-/* A thin layer over tevalumi.h: two structs with their arrays inside, and a short call for each of the library's.
+/* A thin layer over tevalumi.h: three structs with their arrays inside, and a short call for each of the library's.
  *
  * TevPlan is a plan that is built column by column and row by row. TevWork is what a run leaves and the audit sheet.
- * Both are large (some 40 and 490 KB), so let them be static or on the heap. tevalumi.h says what each number and
- * status means; firmware that must save memory lends its own arrays to the calls there. */
+ * TevNight is what a night of two stages needs beside them. They are large (some 40, 490 and 110 KB), so let them be
+ * static or on the heap. tevalumi.h says what each number and status means; firmware that must save memory lends its
+ * own arrays to the calls there. */
 #ifndef TEV_H
 #define TEV_H
 
 #include <float.h>
+#include <string.h>
 
 #include "tevalumi.h"
 
@@ -41,6 +43,17 @@ enum {
 /* Kinds of verdicts. */
 enum { TEV_NOT_A_PLAN, TEV_NO_FLOOR, TEV_GAP, TEV_NONE_EXISTS };
 
+/* Kinds of a night's answers. */
+enum {
+    TEV_NO_GAP = 1,
+    TEV_ROWS_FULL,
+    TEV_ENTRIES_FULL,
+    TEV_COST_BEYOND,
+    TEV_FOUND_BEYOND,
+    TEV_FIRST_STANDS,
+    TEV_HANDED
+};
+
 typedef struct {
     size_t columns, rows, entries, budget;
     double tolerance;
@@ -52,8 +65,8 @@ typedef struct {
 } TevPlan;
 
 typedef struct {
-    /* What a run leaves: the columns' values, then the kept rows' slacks; its state. */
-    double values[TEV_COLUMNS + TEV_ROWS];
+    /* What a run leaves: the columns' values, then the kept rows' slacks, of a night one more; its state. */
+    double values[TEV_COLUMNS + TEV_ROWS + 1];
     size_t numbers[TEVALUMI_NUMBERS];
     double doubles[TEVALUMI_DOUBLES];
     size_t factor_numbers[TEVALUMI_FACTOR_NUMBERS];
@@ -70,6 +83,13 @@ typedef struct {
     uint8_t waiting[TEV_BLOCK];
     size_t feed[4];
 } TevWork;
+
+typedef struct {
+    /* The costs of the reports; those of the alarms are the plan's. */
+    int64_t report_costs[TEV_COLUMNS];
+    /* Both stages' sheets, and the amounts that are handed out from TEVALUMI_HANDED on. */
+    int64_t whole[TEVALUMI_WHOLE];
+} TevNight;
 
 /* An array inside a struct, as the library wants it. */
 #define TEV_ARRAY(a) (a), sizeof(a) / sizeof((a)[0])
@@ -268,6 +288,24 @@ static inline SheetVerdict tev_audit(const TevPlan *plan, TevWork *work) {
         verdict.status = tev_open(work);
     }
     return verdict.status == 0 ? tev_verdict(work) : verdict;
+}
+
+/* ---- The night: alarms first, then the rest ----
+ * The plan's costs are the alarms', and its numbers are put over the sheet's. The status is the call's, or 11 or 12 as
+ * tev_sheet says them, and then nothing changed. */
+static inline TevalumiNight tev_night(const TevPlan *plan, TevWork *work, TevNight *night) {
+    TevalumiNight none;
+    size_t refused = tev_sheet(plan, work);
+    if (refused != 0) {
+        memset(&none, 0, sizeof none);
+        none.status = refused;
+        return none;
+    }
+    return tevalumi_night(work->rows, work->columns, TEV_ARRAY(work->coefs), TEV_ARRAY(work->costs),
+        TEV_ARRAY(night->report_costs), TEV_ARRAY(work->lowers), TEV_ARRAY(work->uppers), TEV_ARRAY(work->lower_marks),
+        TEV_ARRAY(work->upper_marks), TEV_ARRAY(work->rhs), TEV_ARRAY(work->ops), plan->budget, plan->tolerance,
+        TEV_ARRAY(work->values), TEV_STATE(work), TEV_ARRAY(work->factor_numbers), TEV_ARRAY(work->factor_coeffs),
+        TEV_ARRAY(night->whole));
 }
 
 /* ---- Files and journals ---- */

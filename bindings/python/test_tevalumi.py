@@ -137,10 +137,11 @@ class Sections(unittest.TestCase):
     def test_they_stand_where_the_header_says(self):
         places = {}
         for line in (PLANS.parents[2] / "include" / "tevalumi.h").read_text().splitlines():
-            words = line.replace("(", "").replace(")", "").split()
+            words = line.split(maxsplit=2)
             if words[:1] == ["#define"] and len(words) > 2:
-                places[words[1]] = int(words[2]) if len(words) == 3 else places[words[2]] + int(words[4])
+                places[words[1]] = eval(words[2], {}, places)
         names = "NB_VARS FLAGS KEPT COUNTS NUMBERS PRICES DOUBLES FACTOR_NUMBERS FACTOR_COEFFS"
+        names += " STAGE_MULTS STAGE SECOND HANDED WHOLE"
         for name in names.split():
             self.assertEqual(getattr(tevalumi, f"_{name}"), places[f"TEVALUMI_{name}"], name)
 
@@ -235,6 +236,106 @@ class Sheets(unittest.TestCase):
         error = self.raises(32, Sheet.from_bytes, bytes(file))
         self.assertEqual(str(error), "32: a block's check is wrong (block 1)")
         self.raises(33, Sheet.from_bytes, b"")
+
+
+class Nights(unittest.TestCase):
+    def frost(self, **settings):
+        """8 ms of air; an alarm wants 6, soil 9."""
+        return tevalumi.night([[1, 1]], [-1, 0], [0, -9], ["<="], [8], **{"uppers": [6, 9], **settings})
+
+    def test_alarms_first(self):
+        told = self.frost()
+        self.assertEqual((told.case, told.number, told.amounts), ("handed", 7, [6, 2]))
+        self.assertEqual((told.alarm_cost, told.alarm_gap), (-6, Fraction(0)))
+        self.assertEqual(told.sentence, "alarms first, then the rest: the amounts are those of the second stage")
+        self.assertEqual((told.first.status, told.first.audit, told.first.sheet.amounts), (0, "judged", [6, 0]))
+        sheet = told.second.sheet
+        self.assertEqual((sheet.matrix, sheet.rhs), ([[1, 1], [-1, 0]], [8, -6]))
+        self.assertEqual((sheet.cost, sheet.mults, sheet.verdict().gap), (-18, [-9216, -9216], 0))
+
+    def test_arrays_and_absent_bounds(self):
+        rows = [array.array("q", [1, 1])]
+        costs = array.array("q", [-1, 0]), array.array("q", [0, -9])
+        told = tevalumi.night(rows, *costs, ["<="], [8.0], lowers=[0, -math.inf], uppers=[6, 9])
+        self.assertEqual(told.amounts, [6, 2])
+        self.assertEqual(told.first.sheet.lowers, [0, None])
+
+    def test_the_first_stands(self):
+        told = self.frost(uppers=[6, math.inf])
+        self.assertEqual((told.case, told.amounts, told.alarm_cost), ("the first stands", [6, 0], -6))
+        self.assertEqual((told.second.status, told.second.audit, told.second.sheet), (7, "not run", None))
+        self.assertTrue(told.second.sentence.startswith("7: a row isn't kept at the start"), told.second.sentence)
+
+    def test_each_answer(self):
+        one = {"lowers": [0], "uppers": [1]}
+        rows = [[1]] * 96
+        cases = [
+            (self.frost(budget=0, lowers=[0, 0]), 6),
+            (self.frost(tolerance=2.0), 1),
+            (tevalumi.night(rows, [-1], [0], ["<="] * 96, [9] * 96, **one), 2),
+            (tevalumi.night([[1] * 128] * 16, [-1] * 128, [0] * 128, ["<="] * 16, [128] * 16, None, [1] * 128), 3),
+            (tevalumi.night([[1]], [-4097], [0], ["<="], [9], **one), 4),
+            (tevalumi.night([], [-4096] * 9, [0] * 9, [], [], None, [65536] * 9), 5),
+        ]
+        for told, number in cases:
+            self.assertEqual(told.number, number)
+            self.assertEqual(told.amounts is None, number < 6)
+        self.assertEqual(cases[4][0].sentence, "nothing is handed out: the alarm cost of column 0 is above 4,096 in size")
+        self.assertEqual((cases[5][0].alarm_cost, cases[5][0].first.sheet.cost), (None, -9 * 2**28))
+
+    def test_why_a_first_stage_shows_no_gap(self):
+        first = tevalumi.night([[0], [1]], [-1], [0], ["<=", "<="], [9, 1], [3], [2]).first
+        self.assertEqual((first.status, first.sentence), (4, "4: a lower bound is above its upper bound (column 0)"))
+        # Row 0 is dropped.
+        first = tevalumi.night([[0], [1], [1]], [1], [0], ["=", "<=", ">="], [0, 2, 3]).first
+        self.assertEqual((first.status, first.audit), (26, "not run"))
+        self.assertTrue(first.sentence.endswith(" (row 1)"), first.sentence)
+        first = tevalumi.night([[1]], [-1], [0], ["<="], [70_000]).first
+        self.assertEqual((first.audit, first.sheet), ("not whole", None))
+        self.assertEqual(first.sentence, "the amount 70000.0 of column 0 is over the sheet's limit")
+        first = tevalumi.night([[1]], [2**21], [0], ["<="], [9], None, [9]).first
+        self.assertEqual(first.audit, "not opened")
+        self.assertTrue(first.sentence.startswith("the sheet isn't opened: 12: "), first.sentence)
+        told = tevalumi.night([[2]], [1], [0], ["="], [3], None, [9])
+        self.assertEqual((told.first.audit, told.alarm_gap), ("judged", None))
+        self.assertEqual(told.first.sheet.verdict().kind, "not a plan")
+        self.assertEqual(tevalumi.night([[1]] * 97, [0], [0], ["<="] * 97, [0] * 97).first.status, 1)
+
+    def test_what_is_no_plan_in_whole_numbers(self):
+        for number, call in (
+            (12, lambda: self.frost(uppers=[6, 2.5])),
+            (12, lambda: tevalumi.night([[0.5]], [0], [0], ["<="], [1])),
+            (1, lambda: tevalumi.night([[1, 1]], [0], [0], ["<="], [1])),
+            (1, lambda: tevalumi.night([[1]], [0], [0], ["<="], [])),
+            (1, lambda: tevalumi.night([[1]], [0], [0, 0], ["<="], [1])),
+            (2, lambda: tevalumi.night([[1]], [0], [0], ["<"], [1])),
+        ):
+            with self.assertRaises(Error) as caught:
+                call()
+            self.assertEqual(caught.exception.number, number)
+
+    @unittest.skipUnless(PROGRAM, "no program is named")
+    def test_the_program_tells_the_same_night(self):
+        file = PLANS / "night-as-priced.mps"
+        problem = tevalumi.read(file)
+        told = json.loads(program("night", file, "--alarms", "alarm", "--json"))
+        alarm = [name.startswith("alarm.") for name in problem.column_names]
+        costs = [[cost if own == first else 0 for cost, own in zip(problem.costs, alarm)] for first in (True, False)]
+        matrix = [[0] * len(alarm) for _ in problem.rows]
+        uppers = list(problem.uppers)
+        for entries, row, right in zip(problem.rows, matrix, problem.rhs):
+            for column, coeff in entries:
+                row[column] = coeff
+            if len(entries) == 1:
+                uppers[entries[0][0]] = right
+        here = tevalumi.night(matrix, *costs, problem.ops, problem.rhs, problem.lowers, uppers)
+        self.assertEqual((here.number, here.case), (told["case"], told["name"]))
+        self.assertEqual((here.amounts, here.alarm_cost), (told["amounts"], told["alarm_cost"]))
+        self.assertEqual(here.alarm_gap * 1024, told["alarm_gap_1024"])
+        for stage, name in ((here.first, "first"), (here.second, "second")):
+            self.assertEqual((stage.status, stage.steps), (told[name]["status"], told[name]["steps"]))
+            self.assertEqual(stage.sheet.mults, told[name]["sheet"]["multipliers_1024"])
+            self.assertEqual(stage.sheet.cost, told[name]["sheet"]["cost"])
 
 
 class Files(unittest.TestCase):

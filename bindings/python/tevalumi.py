@@ -26,6 +26,12 @@ The audit sheet says in whole numbers how much better another plan could be:
 >>> sheet.verdict().gap
 Fraction(1, 1)
 
+A night plans alarms first, then the rest; of 8 ms an alarm wants 6 and soil reports want 9:
+
+>>> told = night([[1, 1]], [-1, 0], [0, -1], ["<="], [8], uppers=[6, 9])
+>>> told.case, told.amounts, told.alarm_gap
+('handed', [6, 2], Fraction(0, 1))
+
 What isn't solved is an `Error` with document 01's number, the place and a sentence:
 
 >>> solve([1, 1], [[1, 1]], ["<="], [4], lowers=[0, 3], uppers=[9, 2])
@@ -50,7 +56,21 @@ from fractions import Fraction
 from pathlib import Path
 from typing import Any, Iterable, Iterator, Mapping, NamedTuple, Optional, Sequence, Union
 
-__all__ = ["Error", "FileError", "Place", "Problem", "Sheet", "Solution", "Verdict", "audit", "read", "solve"]
+__all__ = [
+    "Error",
+    "FileError",
+    "Night",
+    "Place",
+    "Problem",
+    "Sheet",
+    "Solution",
+    "Stage",
+    "Verdict",
+    "audit",
+    "night",
+    "read",
+    "solve",
+]
 
 COLUMNS = 128
 ROWS = 96
@@ -175,6 +195,26 @@ class _Proposal(ctypes.Structure):
     _fields_ = [("status", c_size_t), ("kind", c_size_t), ("place", c_size_t), ("answer", _Whole)]
 
 
+class _Stage(ctypes.Structure):
+    _fields_ = [
+        ("run", _Answer),
+        ("audit", c_size_t),
+        ("opening", c_size_t),
+        ("proposal", _Proposal),
+        ("verdict", _Verdict),
+    ]
+
+
+class _Night(ctypes.Structure):
+    _fields_ = [
+        ("status", c_size_t),
+        ("kind", c_size_t),
+        ("column", c_size_t),
+        ("first", _Stage),
+        ("second", _Stage),
+    ]
+
+
 _RESULTS = {
     "solve": _Answer,
     "fix": _Answer,
@@ -185,12 +225,15 @@ _RESULTS = {
     "write_plan": _Written,
     "read_plan": _Read,
     "propose": _Proposal,
+    "night": _Night,
 }
 
 # The state's sections, as tevalumi.h has them.
 _NB_VARS, _FLAGS, _KEPT, _COUNTS, _NUMBERS = 96, 448, 5185, 5281, 5288
 _PRICES, _DOUBLES = 224, 4673
 _FACTOR_NUMBERS, _FACTOR_COEFFS = 18820, 18336
+# And those of a night's whole numbers.
+_STAGE_MULTS, _STAGE, _SECOND, _HANDED, _WHOLE = 128, 454, 454, 908, 13324
 
 
 @functools.lru_cache(maxsize=None)
@@ -777,6 +820,164 @@ def audit(
     Fraction(0, 1)
     """
     return Problem.of(costs, matrix, ops, rhs, lowers, uppers, **settings).audit()
+
+
+# ---- The night: alarms first, then the rest ----
+
+_CASES = {
+    1: ("no gap", "nothing is handed out: the audit of the alarms shows no gap"),
+    2: ("rows full", f"nothing is handed out: the plan has {ROWS} rows already, and the alarms need one"),
+    3: ("entries full", "nothing is handed out: the row for the alarms would pass 2,048 entries"),
+    4: ("cost beyond", "nothing is handed out: the alarm cost of column {} is above 4,096 in size"),
+    5: ("found beyond", "nothing is handed out: the found alarm cost is above 2^31 in size"),
+    6: ("the first stands", "the amounts are those of the alarms alone: the second stage gives no plan"),
+    7: ("handed", "alarms first, then the rest: the amounts are those of the second stage"),
+}
+
+
+@dataclass(frozen=True)
+class Stage:
+    """One stage of a night: how its run ended (document 01's number) and what came of its audit.
+
+    `audit` is "not run", "not whole", "not opened" or "judged"; `sheet` is there where it was opened, with amounts,
+    multipliers, cost and verdict.
+    """
+
+    status: int
+    steps: int
+    excess: float
+    audit: str
+    sentence: str
+    sheet: Optional[Sheet]
+
+
+@dataclass(frozen=True)
+class Night:
+    """What a night gives. `case` is in a word or two what is handed out or why nothing is, `number` the header's.
+
+    The amounts that are handed out never cost more alarms than the first stage's, and these cost at most `alarm_gap`
+    more than the least possible, by any amounts, whole or fractional: that is proved.
+    """
+
+    case: str
+    number: int
+    sentence: str
+    first: Stage
+    second: Optional[Stage]
+    amounts: Optional[list[int]]
+    alarm_cost: Optional[int]
+    alarm_gap: Optional[Fraction]
+
+
+def night(
+    matrix: Iterable[Iterable[int]],
+    alarm_costs: Iterable[int],
+    report_costs: Iterable[int],
+    ops: Iterable[str],
+    rhs: Iterable[int],
+    lowers: Optional[Iterable[Optional[int]]] = None,
+    uppers: Optional[Iterable[Optional[int]]] = None,
+    budget: int = BUDGET,
+    tolerance: float = TOLERANCE,
+) -> Night:
+    """Alarms first, then the rest, over a plan in whole numbers with two costs for each column.
+
+    It is solved with the alarm costs alone, rounded and audited. Then the row "alarm cost at most what was found" is
+    added, and it is solved with the report costs. A bound of None or an infinity is absent; without bounds a column is
+    0 or more. A column that makes the reports cheaper needs an upper bound, else the second stage isn't begun. Raises
+    `Error` 12 where a number isn't whole.
+
+    >>> told = night([[1, 1]], [-1, 0], [0, -1], ["<="], [8], uppers=[6, None])
+    >>> told.case, told.amounts, told.second.status
+    ('the first stands', [6, 0], 7)
+    """
+    plan = _Whole(matrix, alarm_costs, report_costs, ops, rhs, lowers, uppers)
+    values = _doubles([0.0] * (COLUMNS + ROWS + 1))
+    numbers, doubles = (c_size_t * _NUMBERS)(), (c_double * _DOUBLES)()
+    factor = (c_size_t * _FACTOR_NUMBERS)(), (c_double * _FACTOR_COEFFS)()
+    whole = (c_int64 * _WHOLE)()
+    settings = (_size(budget), float(tolerance))
+    told: _Night = _call("night", *plan.lent(), *settings, values, numbers, doubles, *factor, whole)
+    _refused(told.status)
+    case, sentence = _CASES[told.kind]
+    first = plan.stage(told.first, plan.alarm_costs, whole[:_STAGE])
+    second = amounts = cost = None
+    if told.kind >= 6:
+        amounts = whole[_HANDED : _HANDED + len(plan.alarm_costs)]
+        cost = sum(map(int.__mul__, plan.alarm_costs, amounts))
+        second = plan.with_row(first.sheet).stage(told.second, plan.report_costs, whole[_SECOND : _SECOND + _STAGE])
+    gap = first.sheet.verdict().gap if first.sheet else None
+    return Night(case, told.kind, sentence.format(told.column), first, second, amounts, cost, gap)
+
+
+class _Whole:
+    """A night's plan in whole numbers."""
+
+    def __init__(self, matrix: Any, alarm_costs: Any, report_costs: Any, ops: Any, rhs: Any, lowers: Any, uppers: Any):
+        self.matrix = [[_whole(number) for number in _list(row)] for row in _list(matrix)]
+        self.alarm_costs = [_whole(cost) for cost in _list(alarm_costs)]
+        self.report_costs = [_whole(cost) for cost in _list(report_costs)]
+        self.ops, self.rhs = _list(ops), [_whole(right) for right in _list(rhs)]
+        columns = len(self.alarm_costs)
+        self.lowers = self.bounds([0] * columns if lowers is None else _list(lowers), -math.inf)
+        self.uppers = self.bounds([None] * columns if uppers is None else _list(uppers), math.inf)
+        sides = (self.report_costs, self.lowers, self.uppers, *self.matrix)
+        if any(len(side) != columns for side in sides) or not len(self.matrix) == len(self.ops) == len(self.rhs):
+            raise Error(1)
+
+    @staticmethod
+    def bounds(bounds: list[Any], none: float) -> list[Optional[int]]:
+        return [None if bound is None or bound == none else _whole(bound) for bound in bounds]
+
+    def lent(self) -> list[Any]:
+        """Its sizes and arrays in the order of the call."""
+        sides = (self.lowers, self.uppers)
+        return [
+            len(self.rhs),
+            len(self.alarm_costs),
+            _wholes(number for row in self.matrix for number in row),
+            _wholes(self.alarm_costs),
+            _wholes(self.report_costs),
+            *(_wholes(bound or 0 for bound in side) for side in sides),
+            *(_marks([int(bound is not None) for bound in side]) for side in sides),
+            _wholes(self.rhs),
+            _marks([_op(op) for op in self.ops]),
+        ]
+
+    def with_row(self, first: Optional[Sheet]) -> _Whole:
+        """The second stage's plan: the row "alarm cost at most what was found" is its last."""
+        found = first.cost if first else 0
+        matrix, ops, rhs = [*self.matrix, self.alarm_costs], [*self.ops, "<="], [*self.rhs, found]
+        return _Whole(matrix, self.alarm_costs, self.report_costs, ops, rhs, self.lowers, self.uppers)
+
+    def stage(self, told: _Stage, costs: list[int], cells: list[int]) -> Stage:
+        sheet = None
+        if told.audit == 3:
+            amounts, mults = cells[: len(costs)], cells[_STAGE_MULTS : _STAGE_MULTS + len(self.rhs)]
+            sheet = Sheet(self.matrix, costs, self.ops, self.rhs, amounts, mults, self.lowers, self.uppers)
+            sentence = sheet.verdict().sentence
+        elif told.audit == 2:
+            sentence = f"the sheet isn't opened: {Error(told.opening)}"
+        elif told.audit == 1:
+            what, place = ("amount", "column") if told.proposal.kind == 2 else ("multiplier in 1/1024", "row")
+            beyond = f"{told.proposal.answer.beyond!r} of {place} {told.proposal.place}"
+            sentence = f"the {what} {beyond} is over the sheet's limit"
+        else:
+            sentence = str(Error(told.run.status, self.place(told.run)))
+        audit = ["not run", "not whole", "not opened", "judged"][told.audit]
+        return Stage(told.run.status, told.run.steps, told.run.excess, audit, sentence, sheet)
+
+    def place(self, run: _Answer) -> Optional[Place]:
+        """Where a run's status arose. A row without entries is dropped by a run."""
+        columns = len(self.alarm_costs)
+        kept = [i for i, row in enumerate(self.matrix) if any(row)]
+        if run.place in (2, 3):
+            return Place("column" if run.place == 2 else "row", run.at)
+        if run.place == 4 and run.at < columns:
+            return Place("column", run.at)
+        if run.place in (4, 5):
+            return Place("row", kept[run.at - columns if run.place == 4 else run.at])
+        return None
 
 
 # ---- Files ----

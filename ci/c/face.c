@@ -1,5 +1,5 @@
 /* The library's face as a C program sees it: night case N2's plan with its state, a column of it held still and let go,
-   triangles, and night case N5's sheet with its edits and its file; N2's run as whole numbers. */
+   triangles, and night case N5's sheet with its edits and its file; N2's run as whole numbers; a night of two stages. */
 #include <math.h>
 #include <stdio.h>
 #include <string.h>
@@ -408,10 +408,69 @@ static void wholes(void) {
     check(amounts[2] == MARK && mults[1] == MARK, "and the cells past them");
 }
 
+/* 8 ms of air; an alarm wants 6, soil 9. Every array has a cell more than needed, and whole is marked. */
+static int64_t cells[TEVALUMI_WHOLE + 1];
+static size_t night_numbers[TEVALUMI_NUMBERS + 1];
+static double night_doubles[TEVALUMI_DOUBLES + 1], night_values[5];
+
+static TevalumiNight two_stages(const int64_t *alarm_costs, size_t budget, size_t values_len, size_t whole_len) {
+    const int64_t coefs[] = {1, 1, 9}, report_costs[] = {0, -9, 9}, lowers[] = {0, 0, 9}, uppers[] = {6, 9, 9}, rhs[] = {8, 9};
+    const uint8_t marks[] = {1, 1, 9}, ops[] = {0, 9};
+    return tevalumi_night(1, 2, ARRAY(coefs), alarm_costs, 2, ARRAY(report_costs), ARRAY(lowers), ARRAY(uppers), ARRAY(marks), ARRAY(marks), ARRAY(rhs),
+        ARRAY(ops), budget, 1e-6, night_values, values_len, ARRAY(night_numbers), ARRAY(night_doubles), ARRAY(factor_numbers), ARRAY(factor_coeffs), cells,
+        whole_len);
+}
+
+static int marked_cells(size_t from, size_t to) {
+    while (from < to && cells[from] == MARK) {
+        from++;
+    }
+    return from >= to;
+}
+
+static void mark_cells(void) {
+    for (size_t i = 0; i < LEN(cells); i++) {
+        cells[i] = MARK;
+    }
+}
+
+static void night(void) {
+    const int64_t alarm_costs[] = {-1, 0}, beyond[] = {-1, 4097};
+    const int64_t *first = cells + TEVALUMI_FIRST, *second = cells + TEVALUMI_SECOND, *handed = cells + TEVALUMI_HANDED, *coefs = cells + TEVALUMI_COEFS;
+    mark_cells();
+    TevalumiNight n = two_stages(alarm_costs, 10, 4, TEVALUMI_WHOLE - 1);
+    check(n.status == 1 && n.kind == 0 && marked_cells(0, LEN(cells)), "1: whole a cell short, and nothing changed");
+    n = two_stages(alarm_costs, 10, 3, TEVALUMI_WHOLE);
+    check(n.status == 1 && marked_cells(0, LEN(cells)), "1: values without a cell for the new row");
+
+    n = two_stages(beyond, 10, 4, TEVALUMI_WHOLE);
+    check(n.status == 0 && n.kind == 4 && n.column == 1, "an alarm cost above 4,096");
+    check(n.first.audit == 3 && is(n.first.verdict, 0, 2, 0) && n.second.run.status == 0 && n.second.audit == 0, "its first stage alone");
+    check(first[0] == 6 && first[1] == 0 && marked_cells(TEVALUMI_SECOND, LEN(cells)), "and no amounts");
+
+    mark_cells();
+    n = two_stages(alarm_costs, 0, 4, TEVALUMI_WHOLE);
+    check(n.status == 0 && n.kind == 6 && n.second.run.status == 21 && n.second.audit == 0, "the first stands");
+    check(handed[0] == 6 && handed[1] == 0 && marked_cells(TEVALUMI_SECOND, TEVALUMI_HANDED), "its amounts");
+
+    mark_cells();
+    n = two_stages(alarm_costs, 10, LEN(night_values), LEN(cells));
+    check(n.status == 0 && n.kind == 7 && n.column == 0, "a night is handed out");
+    check(n.first.run.status == 0 && n.first.run.objective == -6 && n.first.audit == 3 && is(n.first.verdict, 0, 2, 0), "its first stage");
+    check(n.second.run.status == 0 && n.second.run.objective == -18 && n.second.audit == 3 && is(n.second.verdict, 0, 2, 0), "its second stage");
+    check(first[0] == 6 && first[1] == 0 && first[TEVALUMI_STAGE_MULTS] == 0 && first[TEVALUMI_STAGE_C] == -6, "the first sheet");
+    check(second[0] == 6 && second[1] == 2 && second[TEVALUMI_STAGE_MULTS] == -9216 && second[TEVALUMI_STAGE_MULTS + 1] == -9216, "the second's numbers");
+    check(second[TEVALUMI_STAGE_R] == 8 && second[TEVALUMI_STAGE_R + 1] == -6 && second[TEVALUMI_STAGE_C] == -18 && second[TEVALUMI_STAGE_B] == -18432, "R, C, B");
+    check(handed[0] == 6 && handed[1] == 2 && handed[2] == 0 && handed[127] == 0, "the amounts");
+    check(coefs[0] == 1 && coefs[1] == 1 && coefs[2] == -1 && coefs[3] == 0 && marked_cells(TEVALUMI_COEFS + 4, LEN(cells)), "the coefficients, and the cells past them");
+    check(night_numbers[TEVALUMI_COUNTS] == 2 && night_doubles[TEVALUMI_OBJECTIVE] == -18, "the state of the second run");
+}
+
 int main(void) {
     plan();
     fixes();
     wholes();
+    night();
     triangle();
     factors();
     sheet();

@@ -121,6 +121,32 @@ static void *edit(void *answer) {
     return NULL;
 }
 
+/* A night whose plan has every column and a row less than there may be: both stages, with steps and sheets. */
+static void *night(void *answer) {
+    static int64_t coefs[(ROWS - 1) * COLUMNS], alarm_costs[COLUMNS], report_costs[COLUMNS], lowers[COLUMNS], uppers[COLUMNS], rhs[ROWS - 1],
+        whole[TEVALUMI_WHOLE];
+    static uint8_t marks[COLUMNS], ops[ROWS - 1];
+    static double values[COLUMNS + ROWS], doubles[TEVALUMI_DOUBLES], factor_coeffs[TEVALUMI_FACTOR_COEFFS];
+    static size_t numbers[TEVALUMI_NUMBERS], factor_numbers[TEVALUMI_FACTOR_NUMBERS];
+    for (size_t j = 0; j < COLUMNS; j++) {
+        alarm_costs[j] = j % 2 == 0 ? -1 : 0;
+        report_costs[j] = j % 2 == 0 ? 0 : -1;
+        uppers[j] = 9;
+        marks[j] = 1;
+    }
+    for (size_t i = 0; i < ROWS - 1; i++) {
+        for (size_t j = 0; j < 20; j++) {
+            coefs[i * COLUMNS + i + j] = 1;
+        }
+        rhs[i] = 99;
+    }
+    TevalumiNight n = tevalumi_night(ROWS - 1, COLUMNS, ARRAY(coefs), ARRAY(alarm_costs), ARRAY(report_costs), ARRAY(lowers), ARRAY(uppers), ARRAY(marks),
+        ARRAY(marks), ARRAY(rhs), ARRAY(ops), 10000, 1e-6, ARRAY(values), ARRAY(numbers), ARRAY(doubles), ARRAY(factor_numbers), ARRAY(factor_coeffs),
+        ARRAY(whole));
+    *(int *)answer = n.status == 0 && n.kind == 7 && n.second.run.steps > 0;
+    return NULL;
+}
+
 /* The bytes that a thread touched of its painted stack. */
 static size_t touched(void *(*body)(void *), int *answer) {
     unsigned char *stack = aligned_alloc(4096, STACK);
@@ -161,6 +187,7 @@ int main(void) {
     measure("tevalumi_solve with a factor", factor, 512 << 10);
     measure("tevalumi_fix with a factor", fix, 512 << 10);
     measure("tevalumi_unfix with a factor", unfix, 512 << 10);
+    measure("tevalumi_night", night, 768 << 10);
     measure("tevalumi_lower_sparse", triangle, 24 << 10);
     measure("tevalumi_open and tevalumi_edit", edit, 8 << 10);
     printf("%d passed, %d failed\n", passed, failed);

@@ -21,6 +21,7 @@ static void check(int holds, const char *what) {
 static TevPlan plan;
 static TevWork work;
 static TevWork other;
+static TevNight night;
 
 /* Costs -3, -1; bounds 0 to none, 0 to 2; x0 + x1 <= 4. */
 static void n2(void) {
@@ -170,6 +171,48 @@ static void sheets(void) {
     check(p.status == 0 && p.kind == 2 && p.place == 1 && p.answer.beyond == 1e6, "an amount beyond the sheet's limit");
 }
 
+/* 8 ms of air: an alarm wants 6 of them, soil as many as its upper bound says. */
+static void frost(double most) {
+    tev_begin(&plan);
+    memset(&night, 0, sizeof night);
+    size_t alarm = tev_column(&plan, -1, 0, 6), soil = tev_column(&plan, 0, 0, most);
+    tev_row(&plan, TEV_LE, 8), tev_entry(&plan, alarm, 1), tev_entry(&plan, soil, 1);
+    night.report_costs[soil] = -9;
+}
+
+static void nights(void) {
+    const int64_t *first = night.whole + TEVALUMI_FIRST, *second = night.whole + TEVALUMI_SECOND;
+    const int64_t *handed = night.whole + TEVALUMI_HANDED;
+    frost(9);
+    TevalumiNight told = tev_night(&plan, &work, &night);
+    check(told.status == 0 && told.kind == TEV_HANDED, "a night is handed out");
+    check(handed[0] == 6 && handed[1] == 2, "its amounts");
+    check(told.first.audit == 3 && is(told.first.verdict, 0, TEV_GAP, 0) && first[TEVALUMI_STAGE_C] == -6, "its alarms");
+    check(told.second.audit == 3 && is(told.second.verdict, 0, TEV_GAP, 0), "its reports");
+    check(second[TEVALUMI_STAGE_C] == -18 && second[TEVALUMI_STAGE_MULTS + 1] == -9216, "what the alarms' row costs them");
+    frost(INFINITY);
+    told = tev_night(&plan, &work, &night);
+    check(told.kind == TEV_FIRST_STANDS && told.second.run.status == 7 && handed[0] == 6 && handed[1] == 0, "alarms alone");
+    frost(9);
+    plan.costs[0] = -4097;
+    told = tev_night(&plan, &work, &night);
+    check(told.kind == TEV_COST_BEYOND && told.column == 0 && handed[0] == 0, "an alarm cost beyond");
+    frost(9);
+    plan.budget = 0;
+    plan.rhs[0] = 5;
+    told = tev_night(&plan, &work, &night);
+    check(told.kind == TEV_NO_GAP && told.first.run.status == 21 && told.first.audit == 0, "no gap");
+    frost(9);
+    for (size_t i = 1; i < TEV_ROWS; i++) {
+        tev_row(&plan, TEV_LE, 9);
+        tev_entry(&plan, 0, 1);
+    }
+    check(tev_night(&plan, &work, &night).kind == TEV_ROWS_FULL, "rows full");
+    frost(2.5);
+    told = tev_night(&plan, &work, &night);
+    check(told.status == 12 && told.kind == 0 && told.first.run.status == 0, "12: a bound that isn't whole");
+}
+
 static void files(void) {
     static uint8_t file[TEV_FILE];
     n2();
@@ -231,6 +274,7 @@ int main(void) {
     fixes();
     limits();
     sheets();
+    nights();
     files();
     journals();
     triangles();

@@ -34,10 +34,20 @@ use crate::ComparisonOp;
 pub struct Night {
     alarm_costs: Vec<i64>,
     report_costs: Vec<i64>,
-    bounds: Vec<(Option<i64>, Option<i64>)>,
-    rows: Vec<(Vec<(usize, i64)>, ComparisonOp, i64)>,
+    bounds: Vec<Bounds>,
+    rows: Vec<Row>,
     budget: usize,
     tolerance: f64,
+}
+
+/// The lower and the upper bound, where there is one.
+type Bounds = (Option<i64>, Option<i64>);
+
+#[derive(Clone, Debug, PartialEq)]
+struct Row {
+    terms: Vec<(usize, i64)>,
+    op: ComparisonOp,
+    rhs: i64,
 }
 
 /// What is handed out, or why nothing is: 02's cases in their order.
@@ -209,7 +219,7 @@ impl Night {
     ) -> usize {
         let terms: Vec<(usize, i64)> = terms.into_iter().collect();
         assert!(terms.iter().all(|&(column, _)| column < self.bounds.len()));
-        self.rows.push((terms, op, rhs));
+        self.rows.push(Row { terms, op, rhs });
         self.rows.len() - 1
     }
 
@@ -227,14 +237,14 @@ impl Night {
     pub fn run(&self) -> Told {
         let (rows, columns) = (self.rows.len(), self.bounds.len());
         let mut coefs = vec![0i64; rows * columns];
-        for (i, (terms, _, _)) in self.rows.iter().enumerate() {
-            for &(j, coef) in terms {
+        for (i, row) in self.rows.iter().enumerate() {
+            for &(j, coef) in &row.terms {
                 let cell = &mut coefs[i * columns + j];
                 // Past an i64 it is past every limit too.
                 *cell = cell.saturating_add(coef);
             }
         }
-        let side = |of: fn(&(Option<i64>, Option<i64>)) -> Option<i64>| -> (Vec<i64>, Vec<u8>) {
+        let side = |of: fn(&Bounds) -> Option<i64>| -> (Vec<i64>, Vec<u8>) {
             let bounds = self.bounds.iter().map(of);
             bounds
                 .map(|b| (b.unwrap_or(0), u8::from(b.is_some())))
@@ -242,8 +252,8 @@ impl Night {
         };
         let (lowers, lower_marks) = side(|bounds| bounds.0);
         let (uppers, upper_marks) = side(|bounds| bounds.1);
-        let rhs: Vec<i64> = self.rows.iter().map(|row| row.2).collect();
-        let ops: Vec<u8> = self.rows.iter().map(|row| row.1.code()).collect();
+        let rhs: Vec<i64> = self.rows.iter().map(|row| row.rhs).collect();
+        let ops: Vec<u8> = self.rows.iter().map(|row| row.op.code()).collect();
         let mut work = Box::new(Workspace::new());
         let mut values = vec![0.0; limits::COLUMNS + limits::ROWS + 1];
         let mut lent = vec![0i64; whole::ALL];

@@ -282,7 +282,7 @@ impl<'a> Stages<'a> {
         };
         format!(
             "\n{}{rows}\n{}",
-            wrapped(&cut, WIDTH, ""),
+            wrapped(&format!("{WHY}: {cut}"), WIDTH, ""),
             wrapped(&last, WIDTH, "")
         )
     }
@@ -311,7 +311,7 @@ impl<'a> Stages<'a> {
         };
         let own = Stages::gives(sheet, sheet.rows() - 1);
         Some((
-            format!("Why reports are cut: {}. {rows}", cut.join(", ")),
+            format!("{}. {rows}", cut.join(", ")),
             format!(
                 "Were the alarms worth 1 less, the reports could be worth more by {} at most{beside}.",
                 of_1024(own)
@@ -375,7 +375,7 @@ impl<'a> Stages<'a> {
             if let Some((shown, sheet)) =
                 shown.and_then(|shown| Some((shown, shown.sheet.as_ref()?)))
             {
-                page.head(&format!("{title}: its sheet"));
+                page.head(&format!("{title}, its sheet"));
                 audit::put_tables(&mut page, &shown.plan, sheet);
             }
         }
@@ -393,7 +393,7 @@ impl<'a> Stages<'a> {
             }
         }
         if let Some((cut, last)) = self.reasons() {
-            page.head("Why reports are cut");
+            page.head(WHY);
             page.text(&cut);
             if !self.full().is_empty() {
                 page.table("Full rows", &self.full_rows());
@@ -480,6 +480,8 @@ const STAGES: [&str; 2] = [
     "Stage 1: the alarms alone",
     "Stage 2: the rest, with what the alarms have",
 ];
+
+const WHY: &str = "Why reports are cut";
 
 impl Shown {
     fn new(of: &Plan, figures: Figures, stage: Stage) -> Shown {

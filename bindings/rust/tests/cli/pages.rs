@@ -158,10 +158,10 @@ fn both_stages_on_the_page() {
     for piece in [
         "<h2>Stage 1: the alarms alone</h2>\n<p>Optimal after 0 steps. This whole plan, which costs -28505, is the cheapest one",
         "<h2>Stage 2: the rest, with what the alarms have</h2>\n<p>Optimal after 48 steps.",
-        "<h2>Why reports are cut</h2>\n<p>Why reports are cut: soil gets 57735 of 122940.",
+        "<h2>Why reports are cut</h2>\n<p>soil gets 57735 of 122940.",
         "<td>air</td><td class=\"right\">90000</td><td class=\"right\">26285</td><td class=\"right\">4.0</td>",
         "<p>Were the alarms worth 1 less, the reports could be worth more by 8.0 at most.</p>",
-        "<h2>Stage 1: the alarms alone: its sheet</h2>",
+        "<h2>Stage 1: the alarms alone, its sheet</h2>",
         "<td>alarms</td><td class=\"right\">-28505</td><td>&lt;=</td><td class=\"right\">-28505</td><td class=\"right\">-8.0</td>",
     ] {
         assert!(night.contains(piece), "{piece} in {night}");
