@@ -14,7 +14,7 @@ use Rattle.doubles.specs.Limits.{maxRows, maxBudget}
 use Rattle.doubles.specs.Lists.{_#_}
 use Rattle.doubles.proofs.Bools.{never}
 use Rattle.doubles.proofs.Loops.{both-true}
-use Rattle.rules.specs.Plan.{Plan, Problem, Memory, Workspace, State, problemOf, keptRows, nOf, mOf, varStateOf, flagsOf}
+use Rattle.rules.specs.Plan.{Plan, Problem, Memory, Workspace, State, problemOf, keptRows, mOf, varStateOf, flagsOf}
 use Rattle.rules.specs.Parts.{problem, factoredOf, stateWith}
 use Rattle.rules.specs.Step.{Ended, ended}
 use Rattle.rules.specs.Solve.{Solved, memoryAfter, close}
@@ -36,20 +36,19 @@ use Rattle.start_gate.proofs.Gate.{Accepted, accepted}
 use Rattle.run.specs.Ran.{ranBy}
 use Rattle.run.specs.Lent.{Running}
 use Rattle.run.specs.declared.Ran.{Ran}
-use Rattle.fix_rules.specs.Kept.{keptState, hasFactor, factorFine, passes41}
+use Rattle.fix_rules.specs.Kept.{keptState, hasFactor, factorFine}
 use Rattle.fix_rules.specs.Fix.{isFixed, fixed, unfixed}
 use Rattle.fix_rules.specs.Calls.{Called, called, passes43, passes44, factoringsAfter, withFactorings, closeCall, fixPlan, unfixPlan}
 use Rattle.fix_rules.specs.declared.FixAnswer.{FixAnswer}
 use Rattle.fix_rules.specs.declared.FixAnswer.the-variants.{Told, BadValue, NotFixed}
-use Rattle.fix_rules.proofs.Kept.{Parts, parts, kept-fits}
+use Rattle.fix_rules.proofs.Kept.{parts}
 use Rattle.fix_rules.proofs.Honest.{Honest, kept-honest}
 use Rattle.fix_rules.proofs.Never41.{fixed-honest, unfixed-honest}
 use Rattle.fix_gate.specs.Gate.{fixRefusal, unfixRefusal}
-use Rattle.fix_gate.specs.declared.Refusal.{Refusal}
 use Rattle.fix_gate.specs.declared.Refusal.the-variants.{By, Nothing}
 use Rattle.fix_gate.proofs.Laws.{Known, known, plan-fits, kept-asks, goesBy, fix-by, unfix-by, all-passed}
 use Rattle.fix_ends.specs.Ends.{TakesUp, HandedCall, handedCall, calledBy}
-use Rattle.fix_run.proofs.Parts.{calledFor, fixed-part, unfixed-part}
+use Rattle.fix_run.proofs.Parts.{calledFor}
 
 -- a call's end from a solve's
 abbrev call-of : Solved → Memory → Ended → Called

@@ -1,6 +1,6 @@
 -- The state that is taken up, and the memory after the factorings are added. No contract cites this file. Assumes nothing.
-use mathlib.Core.Path.{_≡_, refl, sym, ap, _∙_, subst}
-use mathlib.Core.Bool.{Bool, true, not, _||_}
+use mathlib.Core.Path.{_≡_, sym, ap, _∙_, subst}
+use mathlib.Core.Bool.{true, not, _||_}
 use mathlib.Core.List.{List}
 use Prim.Native.Nat.{ℕ, _+_, _<_}
 use native.Mathlib.Omega.{arith}
@@ -11,7 +11,7 @@ use Rattle.doubles.specs.Limits.{maxRows, maxColumns, vars, etaColumns, etaEntr
 use Rattle.doubles.specs.Lists.{_!_, _#_}
 use Rattle.rules.specs.Plan.{Problem, Memory, Factored, mOf}
 use Rattle.rules.specs.Parts.{factoredOf, stateWith}
-use Rattle.rules.specs.Step.{Ended, ended}
+use Rattle.rules.specs.Step.{Ended}
 use Rattle.rules.specs.Solve.{close}
 use Rattle.rules.specs.declared.Answer.{Answer}
 use Rattle.state.specs.Packed.{section, packed, stateIn, basicVarsAt, nbVarsAt, varStatesAt, flagCellsAt, etaLeavingAt, etaStartsAt, etaRowsAt, keptAt, countsAt, objectiveAt}
@@ -19,9 +19,9 @@ use Rattle.state.specs.Memory.{numbersEnd, memoryIn, Past, pastOf, Handed, hand
 use Rattle.state.proofs.Sections.{Changed, written, section-at}
 use Rattle.state.proofs.Memory.{rest}
 use Rattle.fix_rules.specs.Kept.{factorFine, keptBy, keptFactor, keptState}
-use Rattle.fix_rules.specs.Calls.{factoringsAfter, withFactorings, closeCall, Called, called}
+use Rattle.fix_rules.specs.Calls.{factoringsAfter, withFactorings, closeCall, called}
 use Rattle.fix_rules.specs.declared.FixAnswer.the-variants.{Told}
-use Rattle.fix_ends.specs.Ends.{TakesUp, HandedCall, handedCall, toldBy}
+use Rattle.fix_ends.specs.Ends.{TakesUp, handedCall, toldBy}
 
 -- ---- `take_up`
 module _ (N : List ℕ) (D : List Float) where

@@ -1,11 +1,8 @@
 // The two ends of a call that fixes or unfixes a column: the kept state is taken up, and its run is closed.
 ghost use mathlib.Core.Path.{_≡_};
-ghost use mathlib.Core.Bool.{true, not, _||_};
 ghost use mathlib.Core.List.{List};
-ghost use Prim.Native.Nat.{ℕ, _≤_};
-ghost use lib.ListN.{length};
+ghost use Prim.Native.Nat.{ℕ};
 ghost use lib.Ieee.{Float};
-ghost use Rattle.doubles.specs.Limits.{maxRows};
 ghost use Rattle.rules.specs.Plan.{Problem, mOf};
 ghost use Rattle.rules.specs.Step.{ended};
 ghost use Rattle.state.specs.Packed.{stateIn};

@@ -5,7 +5,7 @@ use mathlib.Core.Bool.{Bool, true, false, not, _&&_}
 use mathlib.Core.List.{List, []}
 use Prim.Native.Nat.{ℕ, _+_, _<_, _≤_}
 use native.Mathlib.Omega.{arith}
-use lib.Dec.{ltb, eqb}
+use lib.Dec.{eqb}
 use lib.ListN.{length}
 use lib.Ieee.{Float, lt}
 use borrow.Author.Tests.{ltb-true}
@@ -13,7 +13,7 @@ use Rattle.doubles.specs.Num.{f0, finite}
 use Rattle.doubles.specs.Limits.{maxColumns, maxRows, vars}
 use Rattle.doubles.specs.Lists.{_!_, _#_}
 use Rattle.lu_factor_rules.specs.Packed.{factorNumbers, factorCoeffs}
-use Rattle.rules.specs.Plan.{Plan, Memory, Problem, problemOf, keptRows, nOf, varStateOf, flagsOf}
+use Rattle.rules.specs.Plan.{Plan, Memory, Problem, problemOf, keptRows, varStateOf, flagsOf}
 use Rattle.rules.specs.Parts.{planOf, problem}
 use Rattle.rules.specs.Refusals.{sizesFit, planLong, memoryLong, startsRise, passes1, passes2, firstBadRow, firstBadIn, firstCrossed, firstFalse}
 use Rattle.rules.specs.Solve.{orElse, orRefused}

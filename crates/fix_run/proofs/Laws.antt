@@ -7,14 +7,14 @@ use native.Mathlib.Omega.{arith}
 use lib.Dec.{eqb}
 use lib.ListN.{length}
 use lib.Ieee.{Float, eq}
-use Rattle.doubles.specs.Limits.{maxBudget, maxColumns, vars}
+use Rattle.doubles.specs.Limits.{maxColumns, vars}
 use Rattle.doubles.specs.Lists.{_!_, _#_}
-use Rattle.rules.specs.Plan.{Problem, Workspace, State, nOf, mOf, column, varStateOf, varMin, varMax}
-use Rattle.rules.specs.Parts.{planOf, problem, rowed, factoredOf, stateWith}
+use Rattle.rules.specs.Plan.{Problem, Workspace, State, nOf, column, varStateOf, varMin, varMax}
+use Rattle.rules.specs.Parts.{problem, rowed, factoredOf, stateWith}
 use Rattle.rules.specs.Basis.{colCoeffs}
 use Rattle.rules.specs.Pivot.{flagsAt}
 use Rattle.rules.specs.DualRatio.{leavingRises, testBy}
-use Rattle.rules.specs.Step.{Outcome, moved, stopped, dualStepBy, Ended, ended, runOf, bothRuns}
+use Rattle.rules.specs.Step.{moved, stopped, dualStepBy, Ended, ended, runOf, bothRuns}
 use Rattle.rules.specs.Invariant.{Fits}
 use Rattle.rules.specs.declared.PivotInfo.{PivotInfo}
 use Rattle.rules.specs.declared.VarState.{VarState}
@@ -28,15 +28,13 @@ use Rattle.state.proofs.Sections.{section-at}
 use Rattle.cells.proofs.Parts.{boundsOf}
 use Rattle.step_store.specs.Lent.{Flips}
 use Rattle.step_store.proofs.Parts.{fits-flips}
-use Rattle.step_refactor.specs.Left.{Left, on, off, after, leftBy, stepped}
+use Rattle.step_refactor.specs.Left.{Left, on, off, after}
 use Rattle.step_refactor.specs.Lent.{Ready}
-use Rattle.step_refactor.specs.declared.Went.{Went}
-use Rattle.step_refactor.specs.declared.Went.the-variants.{On, Stops}
 use Rattle.step.proofs.Laws.{steppedOf, moves-on, stops-at}
 use Rattle.step_dual.proofs.Laws.{dual-step-part}
 use Rattle.check_final.proofs.Laws.{row-cell}
 use Rattle.run.specs.Lent.{Running}
-use Rattle.run.proofs.Laws.{part, whole}
+use Rattle.run.proofs.Laws.{whole}
 use Rattle.run.proofs.Primal.{run-part}
 use Rattle.run.proofs.Turn.{both-part}
 use Rattle.run_launch.specs.Launched.{goneOn}
@@ -45,7 +43,7 @@ use Rattle.fix_rules.proofs.Marks.{marked-fits, unmarked-fits}
 use Rattle.fix_rules.proofs.Shifted.{shifted-by-fits}
 use Rattle.fix_move.specs.Lent.{Moves}
 use Rattle.fix_move.specs.Shift.{shiftLeft}
-use Rattle.fix_run.specs.Lent.{calledOf, StandsIn}
+use Rattle.fix_run.specs.Lent.{StandsIn}
 use Rattle.fix_run.proofs.Leaves.{leaves-fits, leaves-to-place}
 
 -- ---- a non-basic fix: what the move told

@@ -1,5 +1,5 @@
 -- A column that leaves by a dual step of any test stands at a place afterwards, and the state fits. Assumes nothing.
-use mathlib.Core.Path.{_≡_, refl, sym, ap, _∙_, subst}
+use mathlib.Core.Path.{_≡_, sym, ap, _∙_}
 use mathlib.Core.Bool.{Bool, true}
 use mathlib.Core.List.{List}
 use mathlib.Core.Logic.{⊎-elim}
@@ -14,7 +14,7 @@ use Rattle.rules.specs.Plan.{Problem, State, nOf, mOf, varCell}
 use Rattle.rules.specs.DualChoices.{DualGivesBy, exchanges}
 use Rattle.rules.specs.Pivot.{exchanged, refactored}
 use Rattle.rules.specs.Step.{dualStepBy, moved}
-use Rattle.rules.specs.Conditions.{Exchanges, ExchangesBoth, StoresTo, stepColumn, dualRow, dualInfo}
+use Rattle.rules.specs.Conditions.{Exchanges, ExchangesBoth, StoresTo, dualRow}
 use Rattle.rules.specs.Invariant.{ProblemFits, Fits}
 use Rattle.rules.specs.declared.NonBasicVarState.{NonBasicVarState}
 use Rattle.rules.specs.declared.Entering.{Entering}

@@ -11,15 +11,14 @@ use Rattle.doubles.specs.Limits.{maxRows, maxColumns}
 use Rattle.doubles.specs.Lists.{_!_, _#_}
 use Rattle.sparse.specs.Scattered.{Sv}
 use Rattle.rules.specs.Plan.{Problem, Workspace, State, flagsCell, held}
-use Rattle.rules.specs.Parts.{factoredOf, stateWith}
+use Rattle.rules.specs.Parts.{stateWith}
 use Rattle.rules.specs.Pivot.{stored, movedVal, flagsAt}
 use Rattle.state.specs.Packed.{section, packed, stateIn, Sized, nbVarsAt, flagCellsAt, basicVarValsAt, nbVarValsAt, pricesAt}
 use Rattle.state.specs.declared.Tally.{Tally}
 use Rattle.state.proofs.Sections.{section-at, lent, written}
 use Rattle.state.proofs.Moves.{as-lent, in-flags, in-basicVarVals, in-nbVarVals}
 use Rattle.step_numbers.specs.Lent.{numbersOf}
-use Rattle.step_store.specs.Lent.{Flips}
-use Rattle.fix_rules.specs.Fix.{marked, unmarked, fixDiff, fixObjective, shiftedBy}
+use Rattle.fix_rules.specs.Fix.{marked, unmarked, shiftedBy}
 
 -- the state with another workspace
 abbrev with-ws : State → Workspace → State

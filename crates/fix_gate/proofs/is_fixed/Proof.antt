@@ -1,6 +1,6 @@
 -- `fix_gate::is_fixed` meets its contract: where the column stands, and its mark. Assumes nothing.
 use borrow.Author.Needs.{needs}
-use mathlib.Core.Path.{_≡_, sym, ap, _∙_}
+use mathlib.Core.Path.{sym, ap, _∙_}
 use native.Mathlib.Omega.{arith}
 use Rattle.rules.specs.declared.NonBasicVarState.{NonBasicVarState}
 use Rattle.check_final.proofs.Laws.{place-cell}

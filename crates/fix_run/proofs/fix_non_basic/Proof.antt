@@ -7,7 +7,7 @@ use lib.Ieee.{Float}
 use Rattle.rules.specs.Plan.{Problem, State}
 use Rattle.rules.specs.Parts.{rowed}
 use Rattle.state.specs.Packed.{stateIn}
-use Rattle.step_refactor.specs.Left.{Left, leftBy}
+use Rattle.step_refactor.specs.Left.{leftBy}
 use Rattle.step_refactor.specs.declared.Went.{Went}
 use Rattle.fix_move.specs.Shift.{shiftLeft}
 use Rattle.fix_run.specs.Lent.{calledOf}

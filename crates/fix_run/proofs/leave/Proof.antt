@@ -1,6 +1,6 @@
 -- `fix_run::leave` meets its contract: the dual step with this row. Assumes nothing.
 use borrow.Author.Needs.{needs}
-use mathlib.Core.Path.{_≡_, sym, ap}
+use mathlib.Core.Path.{sym, ap}
 use native.Mathlib.Omega.{arith}
 use lib.Ieee.{eq, nan}
 use Rattle.doubles.specs.Limits.{maxRows}

@@ -1,6 +1,6 @@
 -- `fix_run::unfixed` meets its contract: the mark is taken off, then the run. Assumes nothing.
 use borrow.Author.Needs.{needs}
-use mathlib.Core.Path.{_≡_, ap, _∙_}
+use mathlib.Core.Path.{ap, _∙_}
 use native.Mathlib.Omega.{arith}
 use Rattle.rules.specs.Plan.{Problem, State}
 use Rattle.state.specs.Packed.{stateIn}

@@ -1,6 +1,5 @@
 -- `fix_store::unmark` meets its contract: one cell is written. Assumes nothing.
 use borrow.Author.Needs.{needs}
-use mathlib.Core.List.{[]}
 use mathlib.Core.Path.{sym, subst}
 use Rattle.rules.specs.Parts.{bounded}
 use Rattle.step_store.specs.Lent.{Bounded}
