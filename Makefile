@@ -90,14 +90,15 @@ replay-data: oracle
 	$(BIN)/replay plans crates/replay_plans
 	$(BIN)/sheet_replay crates/replay_sheets
 
-# build/driver: the same text in, the proved library's answers out. build/files, build/journals, build/wholes: plans'
-# files, journals and whole numbers through the library, beside references.
+# build/driver: the same text in, the proved library's answers out. build/files, build/journals, build/wholes,
+# build/nights: plans' files, journals, whole numbers and nights through the library, beside references.
 driver: oracle target/staticlib/libtevalumi.a
 	ci/linked cargo build --release --offline --manifest-path driver/Cargo.toml
 	ci/linked program driver
 	ci/linked program files
 	ci/linked program journals
 	ci/linked program wholes
+	ci/linked program nights
 
 # docs/CHECKS.md: time and memory of each crate's check, lines of code and proof.
 checks:

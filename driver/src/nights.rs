@@ -1,11 +1,10 @@
-//! Nights (02, Ask 14) through the library, beside the reference over the oracles: the answer field by field, every lent
-//! cell, and what a night promises.
+//! Nights (02, Ask 14) through the library, beside the reference over the oracles: the answer field by field, every
+//! lent cell, and what a night promises.
 
 mod cases;
 mod promises;
-mod reference;
+pub mod reference;
 
-use oracle::answer::Outcome;
 use oracle::rng::Rng;
 use oracle_sheet::file_cases::Tried;
 use oracle_sheet::reference::Verdict;
@@ -166,7 +165,7 @@ fn compare(
         return Some("the plan changed".into());
     }
     if let Some(field) = differing(&answer, &numbers(told)) {
-        return Some(format!("{field} of {answer:?}"));
+        return Some(field);
     }
     if !whole.stayed(&whole_before, night.whole) {
         return Some("a cell beside the whole numbers changed".into());
@@ -180,7 +179,7 @@ fn compare(
     }
     let left = memory_differs(night, &lent, &lent_before, memory);
     left.or_else(|| solves_differ(told, &lent, lent_before))
-        .map(|array| format!("{array} of {told:?}"))
+        .map(|array| format!("{array} of a night of kind {}", told.kind))
 }
 
 /// The first of the solver's arrays that isn't as the oracle has it, to the bit.
@@ -254,7 +253,8 @@ fn solves_differ(
         same(lent.factor_numbers.get(), own.factor_numbers.get()),
         same(lent.factor_coeffs.get(), own.factor_coeffs.get()),
     ];
-    same.contains(&false).then_some("two solves")
+    same.contains(&false)
+        .then_some("an array beside two solves")
 }
 
 // ---- the answer as the header has it
@@ -370,29 +370,37 @@ fn stage_fields(stage: &library::Stage) -> [Field; 18] {
     ]
 }
 
-fn fields(night: &library::Night) -> Vec<Field> {
-    let mut fields = vec![
-        ("status", night.status.bits()),
-        ("kind", night.kind.bits()),
-        ("column", night.column.bits()),
-    ];
-    fields.extend(stage_fields(&night.first));
-    fields.extend(stage_fields(&night.second));
-    fields
-}
-
 /// The first field that differs, to the bit.
-fn differing(ours: &library::Night, theirs: &library::Night) -> Option<&'static str> {
-    let both = fields(ours).into_iter().zip(fields(theirs));
-    both.into_iter()
-        .find(|(ours, theirs)| ours.1 != theirs.1)
-        .map(|(ours, _)| ours.0)
+fn differing(ours: &library::Night, theirs: &library::Night) -> Option<String> {
+    let fields = |night: &library::Night| {
+        [
+            ("status", night.status.bits()),
+            ("kind", night.kind.bits()),
+            ("column", night.column.bits()),
+        ]
+    };
+    let mut parts = [
+        ("night", fields(ours).to_vec(), fields(theirs).to_vec()),
+        (
+            "first stage",
+            stage_fields(&ours.first).to_vec(),
+            stage_fields(&theirs.first).to_vec(),
+        ),
+        (
+            "second stage",
+            stage_fields(&ours.second).to_vec(),
+            stage_fields(&theirs.second).to_vec(),
+        ),
+    ]
+    .into_iter();
+    parts.find_map(|(part, ours, theirs)| {
+        let mut both = ours.into_iter().zip(theirs);
+        let ((name, is), (_, wanted)) = both.find(|(ours, theirs)| ours != theirs)?;
+        Some(format!("the {part}'s {name} is {is:#x}, not {wanted:#x}"))
+    })
 }
 
-/// A run's status, and for how the oracle came to it.
+/// A run's status.
 fn status(stage: &Stage) -> u8 {
-    match stage.run.outcome {
-        Outcome::Panicked => unreachable!("no correction is switched off"),
-        outcome => outcome.number(),
-    }
+    stage.run.outcome.number()
 }

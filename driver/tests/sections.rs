@@ -1,21 +1,26 @@
-//! The places of the state's sections, said three times: by the proved code, by the header and by the Rust crate.
+//! The places of the state's sections, said three times: by the proved code, by the header and by the Rust crate. And
+//! those of a night's whole numbers, by the proved code, by the header and by the reference.
 
 use std::collections::BTreeMap;
 use std::ops::Range;
 
+use driver::nights::reference;
 use driver::sections::*;
 
 type Numbers = BTreeMap<String, usize>;
 
-/// A sum of numbers and names.
+/// A number or a name.
+fn number(text: &str, known: &Numbers) -> usize {
+    let text = text.trim().trim_matches(['(', ')']);
+    let named = known.get(text.trim_start_matches("doubles::"));
+    named.copied().unwrap_or_else(|| text.parse().expect(text))
+}
+
+/// A sum of products of them.
 fn sum(text: &str, known: &Numbers) -> usize {
-    text.split('+')
-        .map(|term| {
-            let term = term.trim().trim_matches(['(', ')']);
-            let named = known.get(term.trim_start_matches("doubles::"));
-            named.copied().unwrap_or_else(|| term.parse().expect(term))
-        })
-        .sum()
+    let product =
+        |term: &str| -> usize { term.split('*').map(|text| number(text, known)).product() };
+    text.split('+').map(product).sum()
 }
 
 /// The whole-number constants of a crate's source.
@@ -120,7 +125,7 @@ fn three_lists_are_one() {
     );
     assert_eq!(
         header.len(),
-        SECTIONS.len() + ARRAYS.len(),
+        SECTIONS.len() + ARRAYS.len() + NIGHT.len(),
         "a section that isn't listed here"
     );
     for (name, cells) in SECTIONS {
@@ -140,6 +145,47 @@ fn three_lists_are_one() {
         limits::FACTOR_COEFFS,
     ];
     assert_eq!(oracle, ARRAYS.map(|(_, cells)| cells as u64));
+}
+
+/// Of a night's whole numbers: the header's name, the place, and the proved code's name where it has one. A part of a
+/// stage's section has the name of the end before it there.
+const NIGHT: [(&str, usize, Option<&str>); 13] = [
+    ("STAGE_AMOUNTS", 0, None),
+    ("STAGE_MULTS", reference::MULTS, Some("AMOUNTS_END")),
+    ("STAGE_R", reference::MULTS + 96, Some("MULTS_END")),
+    ("STAGE_D", reference::MULTS + 96 + 96, Some("R_END")),
+    ("STAGE_C", reference::COST, Some("D_END")),
+    ("STAGE_B", reference::FLOOR, Some("C_END")),
+    ("STAGE_COUNTS", reference::FLOOR + 1, Some("B_END")),
+    ("STAGE", reference::STAGE, Some("SECTION")),
+    ("FIRST", reference::FIRST, None),
+    ("SECOND", reference::SECOND, Some("SECOND")),
+    ("HANDED", reference::HANDED, Some("HANDED")),
+    ("COEFS", reference::COEFS, Some("COEFS")),
+    ("WHOLE", reference::WHOLE, Some("WHOLE")),
+];
+
+#[test]
+fn a_night_has_one_list() {
+    let limits = constants(
+        include_str!("../../crates/doubles/src/lib.rt"),
+        Numbers::new(),
+    );
+    let source = include_str!("../../crates/night_rules/src/lib.rt");
+    let proved = constants(source, limits.clone());
+    let header = defined(include_str!("../../include/tevalumi.h"));
+    for (name, place, proved_name) in NIGHT {
+        assert_eq!(header[name], place, "{name}");
+        if let Some(proved_name) = proved_name {
+            assert_eq!(proved[proved_name], place, "{name}");
+        }
+    }
+    let named = NIGHT.iter().filter(|(_, _, proved)| proved.is_some());
+    assert_eq!(
+        proved.len() - limits.len(),
+        named.count(),
+        "a section that isn't listed here"
+    );
 }
 
 /// Every cell of an array stands in just one section.

@@ -398,7 +398,9 @@ pub fn wanted() -> Vec<(String, u64)> {
     want("found beyond", 40);
     want("the first stands", 300);
     want("handed", 2_500);
-    // 3 and 22 aren't given to a night, nor 1, 4 and 5 to its second stage.
+    // Not given: 3, since entries are laid by rising columns, and 6 and 22 to nobody; to a second stage 1, 4 and 5,
+    // which the first has passed. Nor 11 and 13 at opening, since 1 and 4 come before; nor the verdict that none
+    // exists, since where all costs are 0 so are prices and multipliers.
     for (number, least) in [
         (1, 80),
         (2, 100),

@@ -4,11 +4,7 @@
 use oracle_sheet::file_cases::Tried;
 use oracle_sheet::reference::Sheet;
 
-use super::reference::{Night, FIRST, HANDED, SECOND};
-
-/// Where a stage's section has its multipliers and its floor B.
-const MULTS: usize = 128;
-const FLOOR: usize = 449;
+use super::reference::{Night, FIRST, FLOOR, HANDED, MULTS, SECOND};
 
 /// So many points of a grid are looked at, at most.
 const POINTS: i128 = 20_000;

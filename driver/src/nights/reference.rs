@@ -24,7 +24,10 @@ pub const HANDED: usize = SECOND + STAGE;
 pub const COEFS: usize = HANDED + COLUMNS;
 pub const WHOLE: usize = COEFS + ROWS * COLUMNS;
 /// A stage's section: amounts, multipliers, R, D, C, B and the counts.
-pub const STAGE: usize = 2 * COLUMNS + 2 * ROWS + 6;
+pub const MULTS: usize = COLUMNS;
+pub const COST: usize = 2 * (COLUMNS + ROWS);
+pub const FLOOR: usize = COST + 1;
+pub const STAGE: usize = FLOOR + 5;
 
 /// A night as lent.
 #[derive(Clone, Debug)]

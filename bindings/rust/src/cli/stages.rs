@@ -69,17 +69,19 @@ impl<'a> Stages<'a> {
             let rest = costed(&figures, |j| !alarms[j]);
             Shown::new(plan, with_row(rest, &alone.costs, found), stage)
         });
-        let units = told.amounts.as_ref().map(|amounts| {
-            let shown = shown_groups(plan, request);
-            Units::new(plan, shown, |j| amounts[j] as f64).map_err(Wrong::Names)
-        });
+        let got = |j: usize| {
+            told.amounts
+                .as_ref()
+                .map_or(0.0, |amounts| amounts[j] as f64)
+        };
+        let units = Units::new(plan, shown_groups(plan, request), got).map_err(Wrong::Names)?;
         Ok(Stages {
             plan,
             groups,
             alarms,
             first: Shown::new(plan, alone, told.first.clone()),
             second,
-            units: units.transpose()?,
+            units: told.amounts.is_some().then_some(units),
             told,
         })
     }
@@ -215,6 +217,10 @@ impl<'a> Stages<'a> {
     fn stop(&self) -> String {
         let first = &self.first;
         let found = first.stage.sheet.as_ref().map_or(0, |sheet| sheet.cost);
+        let found = match self.plan.maximise {
+            true => format!("are worth {}", -found),
+            false => format!("cost {found}"),
+        };
         match self.told.case {
             Case::NoGap => format!(
                 "The first stage, the alarms alone, shows no gap. {}",
@@ -233,11 +239,11 @@ impl<'a> Stages<'a> {
             Case::CostBeyond(j) => format!(
                 "The alarm cost of column {} is {}, over {} in size, so that it can't stand in the alarms' row.",
                 self.plan.column_name(j),
-                number(first.plan.costs[j]),
+                number(self.plan.signed(first.plan.costs[j])),
                 limits::SHEET_COEFFICIENT
             ),
             Case::FoundBeyond => format!(
-                "The alarms cost {found}, over {} in size, so that it can't be their row's right side.",
+                "The alarms {found}, over {} in size, so that it can't be their row's right side.",
                 limits::SHEET_RIGHT
             ),
             other => format!("{other}."),

@@ -242,6 +242,23 @@ fn nothing_is_handed_out() {
         assert!(json.contains(&format!(",\"sentence\":\"{says}\"")), "{json}");
         assert!(json.contains(",\"amounts\":null,\"first\":{\"status\":"), "{json}");
     }
+    // A maximised plan is told in its own numbers.
+    for (text, says) in [
+        (made(2, "4097", 1, false, "1"), "heat.0 is 4097, over 4096"),
+        (
+            made(9, "4096", 1, false, "65536"),
+            "alarms are worth 2415919104, over",
+        ),
+    ] {
+        let (exit, out, _) = told(&text, &["--max"]);
+        assert!(exit == 4 && out.contains(says), "{out}");
+    }
+    let (exit, _, err) = told(OWN, &["--groups", "none", "--budget", "0"]);
+    assert_eq!(exit, 2);
+    assert!(
+        err.contains("expected columns named none.UNIT, found none"),
+        "{err}"
+    );
     let (exit, out, err) = told(&OWN.replace("cost -3", "cost -3.5"), &[]);
     assert_eq!((exit, out.as_str()), (2, ""));
     assert_eq!(err, "tevalumi: n.mps: plan own isn't in whole numbers within the sheet's limits: the cost of column heat.n is -3.5\n");

@@ -5,7 +5,6 @@ use Rattle.night_face.specs.Numbers.{nightNumbers}
 use Rattle.night_face.proofs.night_answer.Statement.{statement}
 use Rattle.night_face.proofs.night_answer.Tie as tie
 
-
 enum-told : tie.Need-enum-told
 enum-told c = search needs
 

@@ -4,7 +4,6 @@ use Rattle.whole_face.specs.Numbers.{proposalNumbers}
 use Rattle.night_face.proofs.no_proposal.Statement.{statement}
 use Rattle.night_face.proofs.no_proposal.Tie as tie
 
-
 proposal-answer-requires : tie.Need-proposal-answer-requires
 proposal-answer-requires c κs = search needs
 

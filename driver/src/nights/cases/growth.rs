@@ -1,5 +1,5 @@
-//! Nights at the edge of the solver: numbers that grow past the largest double, bases that can't be factored, a row that
-//! nothing mends. Each is put beside an ordinary night.
+//! Nights at the edge of the solver: numbers that grow past the largest double, bases that can't be factored, a row
+//! that nothing mends.
 
 use oracle::rng::Rng;
 use oracle_sheet::reference::{EQ, LE};
@@ -127,8 +127,8 @@ fn settled(rng: &mut Rng) -> Draft {
 }
 
 /// Columns that enter with a pivot of 1 each, and which no factor takes together: it begins with the large entries, and
-/// what is left for the last is under EPS. Of each column its cost, which falls so that none leaves again, and its row's
-/// right side, which rises so that it enters there.
+/// what is left for the last is under EPS. Of each column its cost, which falls so that none leaves again, and its
+/// row's right side, which rises so that it enters there.
 fn put_trap(draft: &mut Draft, of: Of, large: i64, columns: &[(i64, i64)]) {
     for (k, &(cost, rhs)) in columns.iter().enumerate() {
         let column = draft.priced(of, -cost, None);

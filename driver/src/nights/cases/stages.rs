@@ -5,8 +5,14 @@ use oracle::rng::Rng;
 use oracle_sheet::reference::{self, within, GE, LE};
 
 use super::{between, calm, of, plain, stretches, thirds, uneven_later, usual, Draft, Family};
-use crate::nights::reference::{Audit, Memory, Night, Told, FIRST};
+use crate::nights::reference::{Audit, Memory, Night, Told, COST, FIRST};
 use crate::nights::status;
+
+const ROWS: usize = limits::ROWS as usize;
+const ENTRIES: usize = limits::ENTRIES as usize;
+/// The largest alarm cost of a night that goes on, and the largest amount.
+const ALARM: i64 = reference::COEF as i64;
+const MOST: i64 = reference::AMOUNT as i64;
 
 /// In size over the solver's limit.
 fn wild(rng: &mut Rng) -> i64 {
@@ -52,7 +58,7 @@ fn sizes(rng: &mut Rng) -> Night {
     let cause = rng.below(4);
     let mut draft = plain(rng);
     match cause {
-        0 => draft.budget = rng.pick(&[10_001, 20_000, usize::MAX]),
+        0 => draft.budget = rng.pick(&[limits::BUDGET as usize + 1, 20_000, usize::MAX]),
         1 => {
             draft = Draft::new();
             for _ in 0..rng.between(70, 128) {
@@ -63,7 +69,7 @@ fn sizes(rng: &mut Rng) -> Night {
                 .iter()
                 .map(|row| row.entries.len())
                 .sum::<usize>()
-                <= 2_048
+                <= ENTRIES
             {
                 let entries = (0..draft.columns()).map(|j| (j, 1)).collect();
                 draft.row(entries, LE, 100);
@@ -78,8 +84,8 @@ fn sizes(rng: &mut Rng) -> Night {
         _ => rng.between(0, 300) as u64,
     };
     match cause {
-        2 => night.plan.rows = size.max(97),
-        3 => night.plan.columns = size.max(129),
+        2 => night.plan.rows = size.max(limits::ROWS + 1),
+        3 => night.plan.columns = size.max(limits::COLUMNS + 1),
         _ => {}
     }
     night
@@ -213,7 +219,7 @@ fn beyond(rng: &mut Rng) -> Draft {
     let mut draft = calm(rng);
     if rng.one_in(2) {
         let column = costing(rng, &mut draft, -1, None);
-        draft.row(vec![(column, 1)], LE, between(rng, 65_537, 900_000));
+        draft.row(vec![(column, 1)], LE, between(rng, MOST + 1, 900_000));
     } else {
         let cost = -between(rng, 1_025, 4_000);
         let column = costing(rng, &mut draft, cost, None);
@@ -222,7 +228,7 @@ fn beyond(rng: &mut Rng) -> Draft {
     draft
 }
 
-/// 12 at opening: a number over the sheet's limit and within the solver's, an unknown mark, a number of an absent bound.
+/// 12 at opening: a number over the sheet's limit and within the solver's, an unknown mark, an absent bound's number.
 fn unopened(rng: &mut Rng) -> Night {
     let mut draft = plain(rng);
     let cause = rng.below(8);
@@ -302,8 +308,8 @@ fn put_cost(draft: &mut Draft, rng: &mut Rng, size: i64) {
 fn put_found(draft: &mut Draft, rng: &mut Rng, times: usize) {
     let fixed = rng.one_in(2);
     for _ in 0..times {
-        let (alarm, lower) = if fixed { (4_096, 65_536) } else { (-4_096, 0) };
-        draft.column(alarm, -1, Some(lower), Some(65_536));
+        let (alarm, lower) = if fixed { (ALARM, MOST) } else { (-ALARM, 0) };
+        draft.column(alarm, -1, Some(lower), Some(MOST));
     }
 }
 
@@ -338,11 +344,11 @@ fn stopped(rng: &mut Rng) -> Draft {
         }
     }
     if later(rng, 3) {
-        let entries = rng.between(2_049, 2_100);
+        let entries = rng.between(ENTRIES + 1, ENTRIES + 52);
         put_entries(&mut draft, entries);
     }
     if later(rng, 2) {
-        put_rows(&mut draft, rng, 96);
+        put_rows(&mut draft, rng, ROWS);
     }
     draft
 }
@@ -351,14 +357,14 @@ fn stopped(rng: &mut Rng) -> Draft {
 fn edge(rng: &mut Rng) -> Draft {
     let mut draft = if rng.one_in(2) { plain(rng) } else { wide(rng) };
     match rng.below(4) {
-        0 => put_rows(&mut draft, rng, 95),
+        0 => put_rows(&mut draft, rng, ROWS - 1),
         1 => {
             draft = wide(rng);
-            put_entries(&mut draft, 2_048);
+            put_entries(&mut draft, ENTRIES);
         }
         2 => {
             for _ in 0..rng.between(1, 3) {
-                put_cost(&mut draft, rng, 4_096);
+                put_cost(&mut draft, rng, ALARM);
             }
         }
         _ => {
@@ -563,21 +569,21 @@ pub(super) fn count(night: &Night, told: &Told, memory: &Memory, reach: &mut dyn
         return;
     };
     let alarms = plan.cost.iter().filter(|&&cost| cost != 0).count();
-    let found = memory.whole[FIRST + 448];
+    let found = memory.whole[FIRST + COST];
     let starts = &second.starts;
     let edges = [
-        ("95 rows, and it goes on", plan.rows == 95),
+        ("95 rows, and it goes on", plan.rows + 1 == limits::ROWS),
         (
             "2,048 entries, and it goes on",
             second.entries == limits::ENTRIES,
         ),
         (
             "alarm costs of 4,096 in size, and it goes on",
-            plan.cost.iter().any(|&cost| cost.unsigned_abs() == 4_096),
+            plan.cost.iter().any(|&cost| cost.abs() == ALARM),
         ),
         (
             "a found cost of 2^31 in size, and it goes on",
-            found.unsigned_abs() == 1 << 31,
+            i128::from(found).abs() == reference::RHS,
         ),
         (
             "second stages with an alarms' row of no entries",
