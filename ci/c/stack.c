@@ -185,13 +185,9 @@ static void measure(const char *name, void *(*body)(void *), size_t limit) {
 int main(void) {
     measure("tevalumi_solve", solve, 512 << 10);
     measure("tevalumi_solve with a factor", factor, 512 << 10);
-<<<<<<< HEAD
     measure("tevalumi_fix with a factor", fix, 512 << 10);
     measure("tevalumi_unfix with a factor", unfix, 512 << 10);
-    measure("tevalumi_night", night, 768 << 10);
-=======
     measure("tevalumi_night", night, 512 << 10);
->>>>>>> a14
     measure("tevalumi_lower_sparse", triangle, 24 << 10);
     measure("tevalumi_open and tevalumi_edit", edit, 8 << 10);
     printf("%d passed, %d failed\n", passed, failed);
