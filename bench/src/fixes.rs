@@ -5,6 +5,7 @@ use std::hint::black_box;
 use std::time::Instant;
 
 use oracle::plan::Plan;
+use tevalumi::raw::Status;
 
 use crate::ratios::{compare, Named};
 use crate::sides::{self, bits, Library, Seen};
@@ -73,8 +74,10 @@ pub struct Fix<'a> {
 
 /// Why there is nothing to time.
 pub enum Left {
-    /// No such column, or one of the two ways doesn't end in 0: refused with 7, the fresh solve above all.
-    Out,
+    /// The fresh solve is refused with 7.
+    Refused,
+    /// The plan has no such column, or the fix or the fresh solve doesn't end in 0.
+    Unsolved,
     /// The sides don't answer alike.
     Differs(String),
 }
@@ -84,9 +87,9 @@ impl<'a> Fix<'a> {
     pub fn new(plan: &'a Plan, choice: Choice) -> Result<Fix<'a>, Left> {
         let mut library = Library::new(plan);
         if !library.solve(plan).optimal() {
-            return Err(Left::Out);
+            return Err(Left::Unsolved);
         }
-        let (column, value) = choice.of(plan, &library).ok_or(Left::Out)?;
+        let (column, value) = choice.of(plan, &library).ok_or(Left::Unsolved)?;
         let seen = library.fix(plan, column, value);
         let oracle = sides::oracle_fix(&mut sides::oracle_solved(plan), column, value);
         alike("fix", &library, seen, &oracle)?;
@@ -94,8 +97,11 @@ impl<'a> Fix<'a> {
         (bound.lower[column], bound.upper[column]) = (value, value);
         let fresh_seen = library.solve(&bound);
         alike("fresh solve", &library, fresh_seen, &sides::oracle(&bound))?;
+        if fresh_seen.number == Status::SlackOutside.number() {
+            return Err(Left::Refused);
+        }
         if !seen.optimal() || !fresh_seen.optimal() {
-            return Err(Left::Out);
+            return Err(Left::Unsolved);
         }
         let size = seen.objective.abs().max(1.0);
         if (seen.objective - fresh_seen.objective).abs() > 1e-9 * size {
@@ -194,24 +200,66 @@ fn alike(what: &str, library: &Library, seen: Seen, oracle: &(Seen, Vec<f64>)) -
 
 const FIXES: Named = Named("fix", "fixes");
 
-pub fn summary(choice: Choice, fixes: &[Fix], left_out: usize, rounds: usize) {
-    println!("\n{}:", choice.sentence());
-    let steps = |of: fn(&Fix) -> usize| fixes.iter().map(of).sum::<usize>();
-    println!(
-        "{} plans, {left_out} others left out, where one of the two ways doesn't end in 0; {} steps, {} anew; the objectives agree to 1e-9 of their size; fixes and fresh solves are the oracle's, bit by bit",
-        fixes.len(),
+/// A column of each of the gateway's plans, held still.
+pub struct Held<'a> {
+    choice: Choice,
+    pub fixes: Vec<Fix<'a>>,
+    refused: usize,
+    unsolved: usize,
+    pub failed: usize,
+}
+
+impl<'a> Held<'a> {
+    pub fn new(choice: Choice, plans: &'a [Plan]) -> Held<'a> {
+        let mut held = Held {
+            choice,
+            fixes: vec![],
+            refused: 0,
+            unsolved: 0,
+            failed: 0,
+        };
+        for plan in plans {
+            match Fix::new(plan, choice) {
+                Ok(fix) => held.fixes.push(fix),
+                Err(Left::Refused) => held.refused += 1,
+                Err(Left::Unsolved) => held.unsolved += 1,
+                Err(Left::Differs(differs)) => {
+                    println!("{}: {differs}", plan.id);
+                    held.failed += 1;
+                }
+            }
+        }
+        held
+    }
+
+    pub fn time(&mut self, rounds: usize) {
+        for fix in &mut self.fixes {
+            fix.time(rounds);
+            println!("{}", fix.line());
+        }
+    }
+
+    pub fn summary(&self, rounds: usize) {
+        println!("\n{}:", self.choice.sentence());
+        let steps = |of: fn(&Fix) -> usize| self.fixes.iter().map(of).sum::<usize>();
+        println!(
+        "{} plans, and left out {} whose fresh solve is refused with 7 and {} where one of the two doesn't end in 0; {} steps, {} anew; the objectives agree to 1e-9 of their size; fixes and fresh solves are the oracle's, bit by bit",
+        self.fixes.len(),
+        self.refused,
+        self.unsolved,
         steps(|fix| fix.seen.steps),
         steps(|fix| fix.fresh_seen.steps),
     );
-    println!("{rounds} rounds; a sample is repeated calls of about 0.1 ms, each timed by itself; medians of the rounds\n");
-    let of = |number: &dyn Fn(&Fix) -> f64| fixes.iter().map(number).collect::<Vec<f64>>();
-    let [fix, fresh, oracle] = [0, 1, 2].map(|side| of(&|fix| median(&fix.samples[side])));
-    compare(FIXES, "fix", "anew", &fix, &fresh);
-    compare(FIXES, "fix", "oracle's fix", &fix, &oracle);
-    println!("noise: each side against its own second samples, from the same rounds");
-    let names = ["fix", "anew", "oracle's fix"];
-    for (side, (name, first)) in names.into_iter().zip([fix, fresh, oracle]).enumerate() {
-        let again = of(&|fix| median(&fix.again[side]));
-        compare(FIXES, name, &format!("{name} again"), &first, &again);
+        println!("{rounds} rounds; a sample is repeated calls of about 0.1 ms, each timed by itself; medians of the rounds\n");
+        let of = |number: &dyn Fn(&Fix) -> f64| self.fixes.iter().map(number).collect::<Vec<f64>>();
+        let [fix, fresh, oracle] = [0, 1, 2].map(|side| of(&|fix| median(&fix.samples[side])));
+        compare(FIXES, "fix", "anew", &fix, &fresh);
+        compare(FIXES, "fix", "oracle's fix", &fix, &oracle);
+        println!("noise: each side against its own second samples, from the same rounds");
+        let names = ["fix", "anew", "oracle's fix"];
+        for (side, (name, first)) in names.into_iter().zip([fix, fresh, oracle]).enumerate() {
+            let again = of(&|fix| median(&fix.again[side]));
+            compare(FIXES, name, &format!("{name} again"), &first, &again);
+        }
     }
 }

@@ -20,7 +20,7 @@ mod times;
 
 use std::process::ExitCode;
 
-use fixes::{Choice, Fix, Left};
+use fixes::{Choice, Held};
 use oracle::plan::Plan;
 use ratios::{compare, Named};
 use sides::{bits, Library, Seen};
@@ -68,7 +68,7 @@ fn run(mode: Mode) -> Result<ExitCode, String> {
             }
         }
     }
-    let mut held = Choice::ALL.map(|choice| Held::new(choice, &plans));
+    let mut held = Choice::ALL.map(|choice| Held::new(choice, &plans[..plans::COUNT]));
     failed += held.iter().map(|held| held.failed).sum::<usize>();
     let rounds = match mode {
         Mode::Time(rounds) if failed == 0 => rounds,
@@ -104,46 +104,9 @@ fn run(mode: Mode) -> Result<ExitCode, String> {
         held.time(rounds);
     }
     for held in &held {
-        fixes::summary(held.choice, &held.fixes, held.left_out, rounds);
+        held.summary(rounds);
     }
     Ok(ExitCode::SUCCESS)
-}
-
-/// A column of each of the gateway's plans, held still.
-struct Held<'a> {
-    choice: Choice,
-    fixes: Vec<Fix<'a>>,
-    left_out: usize,
-    failed: usize,
-}
-
-impl<'a> Held<'a> {
-    fn new(choice: Choice, plans: &'a [Plan]) -> Held<'a> {
-        let (mut fixes, mut left_out, mut failed) = (vec![], 0, 0);
-        for plan in plans.iter().take(plans::COUNT) {
-            match Fix::new(plan, choice) {
-                Ok(fix) => fixes.push(fix),
-                Err(Left::Out) => left_out += 1,
-                Err(Left::Differs(differs)) => {
-                    println!("{}: {differs}", plan.id);
-                    failed += 1;
-                }
-            }
-        }
-        Held {
-            choice,
-            fixes,
-            left_out,
-            failed,
-        }
-    }
-
-    fn time(&mut self, rounds: usize) {
-        for fix in &mut self.fixes {
-            fix.time(rounds);
-            println!("{}", fix.line());
-        }
-    }
 }
 
 /// One plan, its prepared memory, and the samples for one solve, in nanoseconds.
