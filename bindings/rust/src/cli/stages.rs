@@ -53,7 +53,7 @@ impl<'a> Stages<'a> {
             let names = none_named(std::slice::from_ref(group), "--alarms");
             return Err(Wrong::Names(names));
         }
-        // 1 to 4 say that there are no rows and bounds to look at, whatever the costs; the call would say so too.
+        // 1 to 4 say that there are no rows and bounds to look at, whatever the costs: the first stage is refused.
         if matches!(solved.answer.status.number(), 1..=4) {
             return Ok(Stages::refused(plan, solved, groups));
         }
@@ -415,12 +415,11 @@ impl<'a> Stages<'a> {
             let names: Vec<String> = names.iter().map(|name| quoted(name)).collect();
             names.join(",")
         };
-        let or_null = |number: Option<i64>| number.map_or("null".to_string(), |n| n.to_string());
-        let amounts = self.told.amounts.as_ref().map(|amounts| {
-            let amounts: Vec<String> = amounts.iter().map(i64::to_string).collect();
-            format!("[{}]", amounts.join(","))
-        });
-        let units = self.units.as_ref();
+        let second = self.second.as_ref().map(Shown::as_json);
+        let units = self
+            .units
+            .as_ref()
+            .map(|units| format!(",{}", units.as_json()));
         [
             format!(
                 "{{\"version\":{},\"file\":{},\"plan\":{},\"sense\":\"{}\",\"notes\":[{}]",
@@ -435,30 +434,31 @@ impl<'a> Stages<'a> {
                 names(&plan.notes),
             ),
             format!(",\"alarms\":[{}]", names(self.groups)),
-            format!(
-                ",\"case\":{},\"name\":\"{}\",\"sentence\":{}",
-                self.told.case.number(),
-                kind(self.told.case),
-                quoted(&self.answer().join(" "))
-            ),
-            format!(
-                ",\"alarm_cost\":{},\"alarm_gap_1024\":{}",
-                or_null(self.told.alarm_cost),
-                or_null(self.told.alarm_gap())
-            ),
-            format!(",\"amounts\":{}", amounts.unwrap_or("null".to_string())),
+            self.json_answer(),
             format!(",\"first\":{}", self.first.as_json()),
-            format!(
-                ",\"second\":{}",
-                self.second
-                    .as_ref()
-                    .map_or("null".to_string(), Shown::as_json)
-            ),
+            format!(",\"second\":{}", or_null(second)),
             self.json_full(),
-            units.map_or(String::new(), |units| format!(",{}", units.as_json())),
+            units.unwrap_or_default(),
             "}\n".to_string(),
         ]
         .concat()
+    }
+
+    fn json_answer(&self) -> String {
+        let told = &self.told;
+        let amounts = told.amounts.as_ref().map(|amounts| {
+            let amounts: Vec<String> = amounts.iter().map(i64::to_string).collect();
+            format!("[{}]", amounts.join(","))
+        });
+        format!(
+            ",\"case\":{},\"name\":\"{}\",\"sentence\":{},\"alarm_cost\":{},\"alarm_gap_1024\":{},\"amounts\":{}",
+            told.case.number(),
+            kind(told.case),
+            quoted(&self.answer().join(" ")),
+            or_null(told.alarm_cost),
+            or_null(told.alarm_gap()),
+            or_null(amounts)
+        )
     }
 
     fn json_full(&self) -> String {
@@ -562,6 +562,11 @@ impl Shown {
         }
         out + "}"
     }
+}
+
+/// A piece of JSON that may be missing.
+fn or_null(piece: Option<impl ToString>) -> String {
+    piece.map_or("null".to_string(), |piece| piece.to_string())
 }
 
 /// 02's cases in a word or two.
