@@ -1,5 +1,5 @@
-// 02, Ask 9: the two calls over a plan and the memory that the last call over it left. Any bytes in, the answer and every
-// lent cell out.
+// 02, Ask 9: the two calls over a plan and the memory that the last call over it left. Any bytes in, the answer and
+// every lent cell out.
 ghost use mathlib.Core.Path.{_≡_};
 ghost use Rattle.rules.specs.Parts.{planOf};
 ghost use Rattle.state.specs.Memory.{memoryIn, pastOf};

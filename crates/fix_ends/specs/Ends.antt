@@ -1,5 +1,5 @@
--- What a call asks of the kept memory that it takes up, and its answer with every lent cell, as state:Memory has them of a
--- solve. Assumes nothing.
+-- What a call asks of the kept memory that it takes up, and its answer with every lent cell, as state:Memory has them
+-- of a solve. Assumes nothing.
 use mathlib.Core.Path.{_≡_}
 use mathlib.Core.Bool.{true, not, _||_}
 use mathlib.Core.List.{List}

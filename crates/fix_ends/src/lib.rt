@@ -13,8 +13,8 @@ ghost use Rattle.fix_rules.specs.Kept.{keptState};
 ghost use Rattle.fix_rules.specs.Calls.{closeCall};
 ghost use Rattle.fix_ends.specs.Ends.{TakesUp, handedCall, toldBy};
 
-// docs/RULES-02.md: "Steps are counted from 0 in each call"; "The transposes aren't looked at: a call makes them anew from L
-// and U". m rows are kept.
+// docs/RULES-02.md: "Steps are counted from 0 in each call"; "The transposes aren't looked at: a call makes them anew
+// from L and U". m rows are kept.
 pub fn take_up(
     m: usize,
     numbers: &[usize],

@@ -1,5 +1,5 @@
--- 02: "Refuse, lowest first and changing nothing": 1 to 5 as solve gives them, 41, 42, then 43 of a fix or 44 of an unfix.
--- Assumes nothing.
+-- 02: "Refuse, lowest first and changing nothing": 1 to 5 as solve gives them, 41, 42, then 43 of a fix or 44 of an
+-- unfix. Assumes nothing.
 use mathlib.Core.Bool.{Bool, true, false}
 use Prim.Native.Nat.{ℕ}
 use lib.Ieee.{Float}

@@ -89,8 +89,8 @@ fn call_refusal(
 // 43: "the value isn't finite, or is below the column's lower bound, or above its upper one".
 fn value_inside(lowers: &[f64], uppers: &[f64], column: usize, value: f64) -> bool
     requires { ⌜ (column < length (now lowers)) × (column < length (now uppers)) ⌝ }
-    ensures { λ r. ⌜ r ≡ passes43 (planOf 0 0 0 0 f0 [] (now (lowers .entry)) (now (uppers .entry)) [] [] [] [] []) column
-        value ⌝ }
+    ensures { λ r. ⌜ r ≡ passes43 (planOf 0 0 0 0 f0 [] (now (lowers .entry)) (now (uppers .entry)) [] [] [] [] [])
+        column value ⌝ }
 {
     if !doubles::is_finite(value) {
         return false;

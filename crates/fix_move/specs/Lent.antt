@@ -6,8 +6,8 @@ use Rattle.state.specs.declared.Tally.{Tally}
 use Rattle.step_refactor.specs.Lent.{ReadyBy}
 
 -- problem and state fit; bounds and comparisons aren't lent
-pub record Moves (n : ℕ) (kept S R : List ℕ) (X : List Float) (N : List ℕ) (D : List Float) (F : List ℕ) (G : List Float) (t : Tally)
-    : Type 0 where
+pub record Moves (n : ℕ) (kept S R : List ℕ) (X : List Float) (N : List ℕ) (D : List Float) (F : List ℕ)
+    (G : List Float) (t : Tally) : Type 0 where
   pub lowers : List Float
   pub uppers : List Float
   pub ops : List ℕ

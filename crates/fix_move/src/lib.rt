@@ -47,7 +47,8 @@ fn shift_finite(
     doubles::is_finite(objective)
 }
 
-// The column of the variable at place `col` is moved to the value, and marked there. "This is no step and asks no budget".
+// The column of the variable at place `col` is moved to the value, and marked there. "This is no step and asks no
+// budget".
 pub fn shift(
     numbers: &mut [usize],
     doubles: &mut [f64],

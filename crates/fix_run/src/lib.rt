@@ -1,5 +1,5 @@
-// From the state that a run left to the end of a call's own run: the column's own part, then the steps. From minilp 0.2.2,
-// src/solver.rs, fix_var and unfix_var, Apache-2.0, changed: 02's budget, and primal steps after the dual ones.
+// From the state that a run left to the end of a call's own run: the column's own part, then the steps. From minilp
+// 0.2.2, src/solver.rs, fix_var and unfix_var, Apache-2.0, changed: 02's budget, and primal steps after the dual ones.
 use run::Ran;
 use step_refactor::Went;
 ghost use mathlib.Core.Path.{_≡_};
@@ -154,8 +154,8 @@ fn leave(
     )
 }
 
-// "Basic, in row r. The budget: 21 where it is 0". The dual step, then "the mark, at the entering place, where the column now
-// stands", then dual steps and primal ones.
+// "Basic, in row r. The budget: 21 where it is 0". The dual step, then "the mark, at the entering place, where the
+// column now stands", then dual steps and primal ones.
 fn fix_basic(
     numbers: &mut [usize],
     doubles: &mut [f64],

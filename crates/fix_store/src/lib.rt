@@ -57,8 +57,8 @@ pub fn new_objective(objective: f64, price: f64, diff: f64) -> f64
     objective + diff * price
 }
 
-// A non-basic fix: "each listed row's basic value loses diff * its entry", "Then the value is stored, and the mark". The
-// column of the variable at place `col` is solved. No step is counted.
+// A non-basic fix: "each listed row's basic value loses diff * its entry", "Then the value is stored, and the mark".
+// The column of the variable at place `col` is solved. No step is counted.
 pub fn store_shift(
     numbers: &mut [usize],
     doubles: &mut [f64],

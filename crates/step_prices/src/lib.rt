@@ -29,8 +29,8 @@ fn eligible(up: bool, f: rules::NonBasicVarState, a: f64) -> bool
     ((doubles::EPS <= a) & may_move(!up, f)) | ((a <= -doubles::EPS) & may_move(up, f))
 }
 
-// docs/RULES-02.md, Ask 9: "nothing has to move, and no bound is in the way: every place with a coefficient of at least
-// EPS or at most -EPS, and no fixed mark, is eligible".
+// docs/RULES-02.md, Ask 9: "there is no move, so no bound is in the way: every column with a coefficient of size at
+// least EPS and no fixed mark is eligible".
 fn eligible_still(f: rules::NonBasicVarState, a: f64) -> bool
     ensures { λ r. ⌜ r ≡ eligibleStill f a ⌝ }
 {
