@@ -18,6 +18,11 @@ from pathlib import Path
 import tevalumi
 from tevalumi import Error, FileError, Place, Problem, Sheet
 
+try:
+    import numpy
+except ImportError:
+    numpy = None
+
 PLANS = Path(__file__).resolve().parents[1] / "rust" / "plans"
 PROGRAM = os.environ.get("TEVALUMI_PROGRAM")
 
@@ -488,6 +493,35 @@ class Files(unittest.TestCase):
         shown |= {1 / 3: "0.3333333333333333", 1.5e300: "1.5e300"}
         for number, text in shown.items():
             self.assertEqual(tevalumi._shown(number), text)
+
+
+@unittest.skipUnless(numpy, "numpy isn't there")
+class Numpy(unittest.TestCase):
+    """Arrays and numbers of numpy wherever lists and numbers may stand, with the same answers."""
+
+    def test_a_plan_and_a_fix(self):
+        of = numpy.array
+        solution = tevalumi.solve(of([-3, -1]), of([[1, 1]]), ["<="], of([4.0]), uppers=of([numpy.inf, 2]))
+        self.assertEqual((solution.objective, solution.values), (-12.0, [4.0, 0.0]))
+        held = solution.fix(numpy.int64(0), numpy.float64(3))
+        self.assertEqual((held.objective, held.values), (-10.0, [3.0, 1.0]))
+        self.assertEqual(held.unfix(numpy.int32(0)).values, solution.values)
+
+    def test_a_sheet_and_its_edits(self):
+        of = numpy.array
+        sheet = Sheet(of([[1, 1]]), of([-3, -1]), ["<="], of([4]), of([4, 0]), of([-3072]), [0, 0], [None, 2])
+        self.assertEqual(sheet.verdict().gap, 0)
+        sheet.set_amount(numpy.int64(0), numpy.int16(3))
+        self.assertEqual((sheet.amounts, sheet.verdict().gap), ([3, 0], 3))
+
+    def test_an_audit_and_a_night(self):
+        of = numpy.array
+        wholes = of([[1, 1]], dtype=numpy.int16)
+        sheet = tevalumi.audit(of([-3, -1], dtype=numpy.int32), wholes, ["<="], of([4]), uppers=of([numpy.inf, 2]))
+        self.assertEqual((sheet.amounts, sheet.verdict().gap), ([4, 0], 0))
+        bounds = {"lowers": of([0, 0]), "uppers": of([6, 9])}
+        told = tevalumi.night(wholes, of([-1, 0]), of([0, -1]), ["<="], of([8]), **bounds)
+        self.assertEqual((told.amounts, told.alarm_cost), ([6, 2], -6))
 
 
 if __name__ == "__main__":

@@ -48,6 +48,7 @@ import copy
 import ctypes
 import functools
 import math
+import operator
 import os
 import sys
 from ctypes import c_double, c_int64, c_size_t, c_uint8
@@ -275,6 +276,7 @@ def _doubles(numbers: Iterable[Any]) -> ctypes.Array:
 
 def _size(number: int) -> int:
     """A number below 0 or too large to go over becomes one that is too large for every use."""
+    number = operator.index(number)
     return number if 0 <= number < 2**63 else 2**63
 
 
