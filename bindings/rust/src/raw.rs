@@ -398,6 +398,33 @@ pub struct WorkspaceMut<'a> {
     pub factor_coeffs: &'a mut [f64],
 }
 
+/// One of the library's calls over a plan, the memory of a run and the values, with what it takes behind them.
+macro_rules! over {
+    ($call:ident, $plan:expr, $work:expr, $values:expr $(, $more:expr)*) => {
+        Answer::from_numbers(ffi::$call(
+            $plan.columns,
+            $plan.rows,
+            $plan.entries,
+            $plan.budget,
+            $plan.tolerance,
+            $plan.costs,
+            $plan.lowers,
+            $plan.uppers,
+            $plan.starts,
+            $plan.cols,
+            $plan.coeffs,
+            $plan.ops,
+            $plan.rhs,
+            $values,
+            $work.numbers,
+            $work.doubles,
+            $work.factor_numbers,
+            $work.factor_coeffs,
+            $($more,)*
+        ))
+    };
+}
+
 /// Solves a plan in a [`Workspace`]. `values` needs `columns + rows` cells; on
 /// [`Status::Optimal`] the columns' values are written there, then the kept rows' slacks.
 pub fn solve_into(plan: &PlanRef<'_>, work: &mut Workspace, values: &mut [f64]) -> Answer {
@@ -406,26 +433,7 @@ pub fn solve_into(plan: &PlanRef<'_>, work: &mut Workspace, values: &mut [f64]) 
 
 /// As [`solve_into`], with memory of the caller's own.
 pub fn solve_lent(plan: &PlanRef<'_>, work: &mut WorkspaceMut<'_>, values: &mut [f64]) -> Answer {
-    Answer::from_numbers(ffi::tevalumi_solve(
-        plan.columns,
-        plan.rows,
-        plan.entries,
-        plan.budget,
-        plan.tolerance,
-        plan.costs,
-        plan.lowers,
-        plan.uppers,
-        plan.starts,
-        plan.cols,
-        plan.coeffs,
-        plan.ops,
-        plan.rhs,
-        values,
-        work.numbers,
-        work.doubles,
-        work.factor_numbers,
-        work.factor_coeffs,
-    ))
+    over!(tevalumi_solve, plan, work, values)
 }
 
 /// Holds a column of a solved plan still at a value, and goes on from the state in the workspace: in a
@@ -483,28 +491,7 @@ pub fn fix_lent(
     column: usize,
     value: f64,
 ) -> Answer {
-    Answer::from_numbers(ffi::tevalumi_fix(
-        plan.columns,
-        plan.rows,
-        plan.entries,
-        plan.budget,
-        plan.tolerance,
-        plan.costs,
-        plan.lowers,
-        plan.uppers,
-        plan.starts,
-        plan.cols,
-        plan.coeffs,
-        plan.ops,
-        plan.rhs,
-        values,
-        work.numbers,
-        work.doubles,
-        work.factor_numbers,
-        work.factor_coeffs,
-        column,
-        value,
-    ))
+    over!(tevalumi_fix, plan, work, values, column, value)
 }
 
 /// Lets a column go that [`fix_into`] holds, and goes on from the state in the workspace.
@@ -524,27 +511,7 @@ pub fn unfix_lent(
     values: &mut [f64],
     column: usize,
 ) -> Answer {
-    Answer::from_numbers(ffi::tevalumi_unfix(
-        plan.columns,
-        plan.rows,
-        plan.entries,
-        plan.budget,
-        plan.tolerance,
-        plan.costs,
-        plan.lowers,
-        plan.uppers,
-        plan.starts,
-        plan.cols,
-        plan.coeffs,
-        plan.ops,
-        plan.rhs,
-        values,
-        work.numbers,
-        work.doubles,
-        work.factor_numbers,
-        work.factor_coeffs,
-        column,
-    ))
+    over!(tevalumi_unfix, plan, work, values, column)
 }
 
 /// Why a sheet's call was refused: document 01's numbers. A refused call changes nothing.
