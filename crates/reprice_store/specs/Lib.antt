@@ -1,0 +1,2 @@
+-- What the own part of a repricing leaves.
+pub mod Left
