@@ -12,7 +12,7 @@ ghost use Rattle.doubles.specs.Lists.{_!_, over};
 ghost use Rattle.basis_columns.specs.Columns.{ByColumns};
 ghost use Rattle.state.specs.Packed.{stateIn};
 ghost use Rattle.reprice_rules.specs.Reprice.{pricedFinite, pricedIf, repriced as repricedOf};
-ghost use Rattle.reprice_store.specs.Left.{pricedOf, leftBy, Pricing};
+ghost use Rattle.reprice_store.specs.Left.{pricedOf, leftBy, afterOwn, ownLeft, Pricing};
 
 // The numbers of the state to go on from that stand in no array, or why there is none.
 pub enum Own {
@@ -317,11 +317,13 @@ pub fn repriced(
 ) -> Own
     requires { ⌜ Pricing n (now costs) (now starts) (now cols) (now coeffs) (now kept) (now numbers) (now doubles)
         (now «factor_numbers») (now «factor_coeffs») at ⌝ }
-    ensures { λ r. ⌜ leftBy r (now (numbers .exit)) (now (doubles .exit)) (now («factor_numbers» .exit))
-        (now («factor_coeffs» .exit)) ≡ repricedOf
+    ensures { λ r. ⌜ ownLeft r (now (numbers .exit)) (now (doubles .exit)) (now («factor_numbers» .exit))
+        (now («factor_coeffs» .exit)) ≡ afterOwn
+        (stateIn (now (numbers .entry)) (now (doubles .entry)) (now («factor_numbers» .entry))
+        (now («factor_coeffs» .entry)) at) (repricedOf
         (pricedOf n (now (costs .entry)) (now (starts .entry)) (now (cols .entry)) (now (coeffs .entry))
         (now (kept .entry))) (stateIn (now (numbers .entry)) (now (doubles .entry)) (now («factor_numbers» .entry))
-        (now («factor_coeffs» .entry)) at) ⌝ }
+        (now («factor_coeffs» .entry)) at)) ⌝ }
 {
     let mut cstarts = [0usize; doubles::MAX_COLUMNS + 1];
     let mut crows = [0usize; doubles::MAX_ENTRIES];
