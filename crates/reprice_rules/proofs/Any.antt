@@ -24,6 +24,7 @@ use Rattle.state_maps.specs.Maps.{mapsFine}
 use Rattle.fix_rules.specs.Kept.{passes41}
 use Rattle.fix_rules.proofs.Honest.{and}
 use Rattle.fix_rules.proofs.Never41.{solved-passes}
+use Rattle.fix_rules.proofs.Meaning.{told}
 use Rattle.doubles.proofs.Loops.{both-true}
 use Rattle.reprice_rules.specs.declared.AnyAnswer.the-variants.{Direct, Halted, Repriced}
 use Rattle.reprice_rules.specs.Calls.{repricePlan}
@@ -32,7 +33,7 @@ use Rattle.reprice_rules.specs.Meaning.{Accepted, AnyWays, by-solve, by-
 use Rattle.reprice_rules.proofs.Costless.{Five, seven-passes, costless-number}
 use Rattle.reprice_rules.proofs.Lent.{solved-passes-1}
 use Rattle.reprice_rules.proofs.Refusals.{reprice-let-in}
-use Rattle.reprice_rules.proofs.Ran.{told, never-7, never-26, steps-within, reprice-writes, reprice-none}
+use Rattle.reprice_rules.proofs.Ran.{never-7, never-26, steps-within, reprice-writes, reprice-none}
 
 module _ (p : Plan) (m : Memory) where
   abbrev first : Solved

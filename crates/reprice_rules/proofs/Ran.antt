@@ -1,7 +1,7 @@
 -- What the call tells and leaves where it isn't refused, and the numbers that it never gives. Assumes nothing.
 use mathlib.Core.Path.{_≡_, refl, sym, ap, _∙_, subst}
 use mathlib.Core.List.{List}
-use mathlib.Core.Logic.{_⊎_, ⊎-elim}
+use mathlib.Core.Logic.{⊎-elim}
 use Prim.Native.Nat.{ℕ, _+_, _≤_}
 use native.Mathlib.Omega.{arith}
 use lib.ListN.{length, take, drop}
@@ -37,6 +37,7 @@ use Rattle.fix_rules.specs.Meaning.{GoesOn, callNumber, CallRan, CallPasses, He
 use Rattle.fix_rules.proofs.Unkept.{unkept-exactly}
 use Rattle.fix_rules.proofs.Honest.{kept-honest}
 use Rattle.fix_rules.proofs.Held.{steps-held}
+use Rattle.fix_rules.proofs.Meaning.{told, checked-passed}
 use Rattle.reprice_rules.specs.Reprice.{pricedBy, repriced, repriceEnd, ownFactorings}
 use Rattle.reprice_rules.specs.Calls.{closeRepriced, repricePlan}
 use Rattle.reprice_rules.specs.Meaning.{as-solve, not-kept, Accepted, Settles, as-it-is, anew, Priced, OwnStop, not-finite, singular, RepriceEnds, not-made, made}
@@ -44,32 +45,7 @@ use Rattle.reprice_rules.proofs.Refusals.{closed-number, RepriceCase, r
 use Rattle.reprice_rules.proofs.Own.{reprice-ends}
 use Rattle.reprice_rules.proofs.Sound.{priced-sound}
 
--- ---- what an end tells
-checked-told : (s : State) (x : Checked)
-    → (asRow (checkedAnswer s x) .steps ≡ s .steps) × (asRow (checkedAnswer s x) .objective ≡ s .objective)
-unfolding checkedAnswer asRow
-checked-told s (Passed x) = (refl, refl)
-checked-told s (Value v x) = (refl, refl)
-checked-told s (Row r x) = (refl, refl)
-
-pub told : (P : Problem) (w : Stop) (s : State)
-    → (asRow (answerOf P (ended w s)) .steps ≡ s .steps) × (asRow (answerOf P (ended w s)) .objective ≡ s .objective)
-unfolding answerOf asRow
-told P Finished s = checked-told s (finalCheck P (valuesOf P (s .ws)))
-told P Spent s = (refl, refl)
-told P Unbounded s = (refl, refl)
-told P NotFinite s = (refl, refl)
-told P Singular s = (refl, refl)
-told P (Infeasible r) s = (refl, refl)
-
-checked-passed : (s : State) (x : Checked) → numberOf (checkedAnswer s x) ≡ 0
-    → x ≡ Passed (asRow (checkedAnswer s x) .excess)
-unfolding checkedAnswer asRow
-checked-passed s (Passed x) q = refl
-checked-passed s (Value v x) q = absurd (omega arith)
-checked-passed s (Row r x) q = absurd (omega arith)
-
--- 0 comes by the final check alone
+-- ---- 0 comes by the final check alone
 passed : (P : Problem) (w : Stop) (s : State) → numberOf (answerOf P (ended w s)) ≡ 0
     → finalCheck P (valuesOf P (s .ws)) ≡ Passed (asRow (answerOf P (ended w s)) .excess)
 unfolding answerOf asRow
