@@ -601,7 +601,7 @@ impl AnyAnswer {
 /// budget.
 ///
 /// On [`Way::Repriced`] the values are written whatever the answer is: where it isn't 0 they are those of
-/// the run with costs 0, which keep every row and bound.
+/// the run with costs 0, which keep every row and bound within the tolerance.
 ///
 /// ```
 /// use tevalumi::raw::{solve_any_into, solve_into, PlanRef, Status, Way, Workspace};
