@@ -1,156 +1,11 @@
 // docs/RULES-02.md, "Beyond: reprice", parts 1 to 5 over the lent state: the basis is factored in local arrays where
 // eta columns are stored, every number is tested, and only then is anything stored. From minilp 0.2.2, src/solver.rs
 // (recalc_obj_coeffs and BasisSolver::reset), Apache-2.0, changed: when it is called, and 23 and 25.
+use reprice_prices::Own;
 ghost use mathlib.Core.Path.{_≡_};
-ghost use mathlib.Core.List.{List};
-ghost use Prim.Native.Nat.{ℕ, _≤_};
-ghost use lib.ListN.{length};
-ghost use lib.Ieee.{Float};
-ghost use Rattle.doubles.specs.Limits.{maxColumns};
-ghost use Rattle.doubles.specs.Loop.{table};
-ghost use Rattle.doubles.specs.Lists.{_!_, over};
-ghost use Rattle.basis_columns.specs.Columns.{ByColumns};
 ghost use Rattle.state.specs.Packed.{stateIn};
-ghost use Rattle.reprice_rules.specs.Reprice.{pricedFinite, pricedIf, repriced as repricedOf};
+ghost use Rattle.reprice_rules.specs.Reprice.{repriced as repricedOf};
 ghost use Rattle.reprice_store.specs.Left.{pricedOf, leftBy, afterOwn, ownLeft, Pricing};
-
-// The numbers of the state to go on from that stand in no array, or why there is none.
-pub enum Own {
-    Goes(state::Tally),
-    Halts(rules::Stop),
-}
-
-fn store_prices(n: usize, fresh: &[f64; doubles::MAX_COLUMNS], prices: &mut [f64])
-    requires { ⌜ (n ≤ maxColumns) × (n ≤ length (now prices)) ⌝ }
-    ensures { λ _. ⌜ now (prices .exit) ≡ over (table n (λ c. now (fresh .entry) ! c)) (now (prices .entry)) ⌝ }
-{
-    for c in 0..n {
-        prices[c] = fresh[c];
-    }
-}
-
-// 3 to 5, with the multipliers y: tested, then stored.
-fn priced(
-    numbers: &[usize],
-    doubles: &mut [f64],
-    at: state::Tally,
-    n: usize,
-    costs: &[f64],
-    kept: &[usize],
-    cstarts: &[usize],
-    crows: &[usize],
-    ccoeffs: &[f64],
-    y: &[f64; doubles::MAX_ROWS],
-) -> Own
-    ensures { λ r. ⌜ ((starts cols : List ℕ) (coeffs : List Float) → let P =
-        pricedOf n (now (costs .entry)) starts cols coeffs (now (kept .entry)) in ByColumns P (now (cstarts .entry))
-        (now (crows .entry)) (now (ccoeffs .entry)) → (F : List ℕ) (G : List Float) → let s =
-        stateIn (now (numbers .entry)) (now (doubles .entry)) F G at in leftBy r (now (numbers .entry))
-        (now (doubles .exit)) F G ≡ pricedIf (pricedFinite P s (now (y .entry))) P s (now (y .entry))) ⌝ }
-{
-    let mut fresh = [0.0; doubles::MAX_COLUMNS];
-    reprice_numbers::prices(
-        costs,
-        n,
-        cstarts,
-        crows,
-        ccoeffs,
-        &numbers[state::NB_VARS..state::NB_VARS_END],
-        y,
-        &mut fresh,
-    );
-    let objective = reprice_numbers::objective(
-        costs,
-        n,
-        kept,
-        &numbers[state::BASIC_VARS..state::BASIC_VARS_END],
-        &doubles[state::BASIC_VAR_VALS..state::BASIC_VAR_VALS_END],
-        &numbers[state::NB_VARS..state::NB_VARS_END],
-        &doubles[state::NB_VAR_VALS..state::NB_VAR_VALS_END],
-    );
-    if !lu_gate::all_finite(y, kept.len()) {
-        return Own::Halts(rules::Stop::NotFinite);
-    }
-    if !lu_gate::all_finite(&fresh, n) {
-        return Own::Halts(rules::Stop::NotFinite);
-    }
-    if !doubles::is_finite(objective) {
-        return Own::Halts(rules::Stop::NotFinite);
-    }
-    store_prices(n, &fresh, &mut doubles[state::PRICES..state::PRICES_END]);
-    Own::Goes(state::Tally {
-        eta_count: at.eta_count,
-        objective,
-        steps: at.steps,
-        factored: at.factored,
-        factorings: at.factorings,
-    })
-}
-
-// No eta column: "the factor, or that there is none, stays".
-fn as_it_is(
-    numbers: &[usize],
-    doubles: &mut [f64],
-    factor_numbers: &[usize],
-    factor_coeffs: &[f64],
-    at: state::Tally,
-    n: usize,
-    costs: &[f64],
-    kept: &[usize],
-    cstarts: &[usize],
-    crows: &[usize],
-    ccoeffs: &[f64],
-) -> Own {
-    let m = kept.len();
-    let mut y = [0.0; doubles::MAX_ROWS];
-    reprice_numbers::basic_costs(
-        costs,
-        n,
-        &numbers[state::BASIC_VARS..state::BASIC_VARS_END],
-        m,
-        &mut y,
-    );
-    if !at.factored {
-        return priced(
-            numbers,
-            doubles,
-            at,
-            n,
-            costs,
-            kept,
-            cstarts,
-            crows,
-            ccoeffs,
-            &y,
-        );
-    }
-    let mut mults = [0.0; doubles::MAX_ROWS];
-    reprice_numbers::solve_multipliers(
-        m,
-        &factor_numbers[lu_factor_rules::NUMBER..lu_factor_rules::NUMBER_END],
-        &factor_numbers[lu_factor_rules::UT_STARTS..lu_factor_rules::UT_STARTS_END],
-        &factor_numbers[lu_factor_rules::UT_ROWS..lu_factor_rules::UT_ROWS_END],
-        &factor_coeffs[lu_factor_rules::UT_COEFFS..lu_factor_rules::UT_COEFFS_END],
-        &factor_numbers[lu_factor_rules::LT_STARTS..lu_factor_rules::LT_STARTS_END],
-        &factor_numbers[lu_factor_rules::LT_ROWS..lu_factor_rules::LT_ROWS_END],
-        &factor_coeffs[lu_factor_rules::LT_COEFFS..lu_factor_rules::LT_COEFFS_END],
-        &factor_coeffs[lu_factor_rules::DIAG..lu_factor_rules::DIAG_END],
-        &mut y,
-        &mut mults,
-    );
-    priced(
-        numbers,
-        doubles,
-        at,
-        n,
-        costs,
-        kept,
-        cstarts,
-        crows,
-        ccoeffs,
-        &mults,
-    )
-}
 
 // "Where eta columns are stored, the basis is factored in their place". The factor and its transposes stay in local
 // arrays until every number is tested.
@@ -258,7 +113,7 @@ fn anew(
         &mut y,
         &mut mults,
     );
-    let priced = priced(
+    let priced = reprice_prices::priced(
         numbers,
         doubles,
         at,
@@ -339,7 +194,7 @@ pub fn repriced(
         &mut ccoeffs,
     );
     if at.eta_count == 0 {
-        return as_it_is(
+        return reprice_prices::as_it_is(
             numbers,
             doubles,
             factor_numbers,
