@@ -19,7 +19,7 @@ ghost use Rattle.state.specs.Packed.{stateIn};
 ghost use Rattle.reprice_rules.specs.Reprice.{basicCosts, multipliersBy, pricedFinite, pricedIf, priced as pricedAnew};
 ghost use Rattle.reprice_numbers.specs.Lent.{costed, valued};
 ghost use Rattle.reprice_prices.specs.Lent.{pricedOf, Prices};
-ghost use Rattle.reprice_prices.specs.Left.{left, leftBy};
+ghost use Rattle.reprice_prices.specs.Left.{afterOwn, ownLeft};
 
 // The numbers of the state to go on from that stand in no array, or why there is none.
 pub enum Own {
@@ -76,8 +76,8 @@ pub fn priced(
         (rowed n starts cols coeffs (now (kept .entry))) (now (cstarts .entry)) (now (crows .entry))
         (now (ccoeffs .entry)) → (F : List ℕ) (G : List Float) → let P =
         pricedOf n (now (costs .entry)) starts cols coeffs (now (kept .entry)) in let s =
-        stateIn (now (numbers .entry)) (now (doubles .entry)) F G at in leftBy at r (now (numbers .entry))
-        (now (doubles .exit)) F G ≡ left s (pricedIf (pricedFinite P s (now (y .entry))) P s (now (y .entry)))) ⌝ }
+        stateIn (now (numbers .entry)) (now (doubles .entry)) F G at in ownLeft r (now (numbers .entry))
+        (now (doubles .exit)) F G ≡ afterOwn s (pricedIf (pricedFinite P s (now (y .entry))) P s (now (y .entry)))) ⌝ }
 {
     let mut fresh = [0.0; doubles::MAX_COLUMNS];
     reprice_numbers::prices(
@@ -172,8 +172,8 @@ pub fn as_it_is(
     ensures { λ r. ⌜ ((starts cols : List ℕ) (coeffs : List Float) → ByColumns
         (rowed n starts cols coeffs (now (kept .entry))) (now (cstarts .entry)) (now (crows .entry))
         (now (ccoeffs .entry)) → let s = stateIn (now (numbers .entry)) (now (doubles .entry))
-        (now («factor_numbers» .entry)) (now («factor_coeffs» .entry)) at in leftBy at r (now (numbers .entry))
-        (now (doubles .exit)) (now («factor_numbers» .entry)) (now («factor_coeffs» .entry)) ≡ left s
+        (now («factor_numbers» .entry)) (now («factor_coeffs» .entry)) at in ownLeft r (now (numbers .entry))
+        (now (doubles .exit)) (now («factor_numbers» .entry)) (now («factor_coeffs» .entry)) ≡ afterOwn s
         (pricedAnew (pricedOf n (now (costs .entry)) starts cols coeffs (now (kept .entry))) s)) ⌝ }
 {
     let factored = at.factored;

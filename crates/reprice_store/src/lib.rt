@@ -5,7 +5,9 @@ use reprice_prices::Own;
 ghost use mathlib.Core.Path.{_≡_};
 ghost use Rattle.state.specs.Packed.{stateIn};
 ghost use Rattle.reprice_rules.specs.Reprice.{repriced as repricedOf};
-ghost use Rattle.reprice_store.specs.Left.{pricedOf, leftBy, afterOwn, ownLeft, Pricing};
+ghost use Rattle.reprice_prices.specs.Lent.{pricedOf};
+ghost use Rattle.reprice_prices.specs.Left.{afterOwn, ownLeft};
+ghost use Rattle.reprice_store.specs.Left.{Pricing};
 
 // "Where eta columns are stored, the basis is factored in their place". The factor and its transposes stay in local
 // arrays until every number is tested.
