@@ -205,7 +205,7 @@ impl Status {
             Status::CrossedBounds => "a lower bound is above its upper bound",
             Status::FalseEmptyRow => "a row without entries is false",
             Status::StartNotFinite => "a number of the start isn't finite",
-            Status::SlackOutside => "a row isn't kept at the start, and a column has no bound on the side that its cost prefers: this solver begins where every row is kept, or where every column has one",
+            Status::SlackOutside => "a row isn't kept at the start, and a column has no bound on the side that its cost prefers: a plain solve begins where every row is kept, or where every column has one",
             Status::Unbounded => "unbounded: no bound and no row's coefficient of at least 1e-8 in size stops a column that makes the plan cheaper",
             Status::Spent => "the step budget is spent",
             Status::NoRoom => "the eta store is full",

@@ -409,7 +409,7 @@ pub fn sentence(plan: &Plan, solved: &Solved) -> String {
             compared(plan, 0.0, i)
         ),
         (Status::SlackOutside, _) => format!(
-            "refused: {}, and {}: with --plain a run begins where every row is kept, or where every column has such a bound. There may be a plan all the same.",
+            "refused: {}, and {}: a plain solve begins where every row is kept, or where every column has such a bound. There may be a plan all the same.",
             broken_at_start(plan).unwrap_or_else(|| "a row isn't kept at the start".to_string()),
             unbounded_start(plan)
         ),
