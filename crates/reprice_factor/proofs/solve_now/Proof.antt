@@ -1,50 +1,47 @@
+-- `reprice_factor::solve_now` meets its contract: two transposes, and the solves with them. Assumes nothing.
 use borrow.Author.Needs.{needs}
+use mathlib.Core.Path.{refl, sym, _∙_}
+use Rattle.reprice_factor.proofs.Laws.{filled-by, solid-by, solved-same}
 use Rattle.reprice_factor.proofs.solve_now.Statement.{statement}
 use Rattle.reprice_factor.proofs.solve_now.Tie as tie
-use Rattle.reprice_factor.proofs.solve_now.Reads as reads
-use Rattle.reprice_factor.proofs.solve_now.Lts as lts
-use Rattle.lu_transpose.proofs.transpose.Reads as transpose-reads
-use Rattle.reprice_numbers.proofs.solve_multipliers.Reads as solve-multipliers-reads
 
--- src/lib.rt:91:5
 transpose-requires : tie.Need-transpose-requires
 transpose-requires c κs = search needs
 
--- src/lib.rt:95:5
 transpose-requires-2 : tie.Need-transpose-requires-2
 transpose-requires-2 c κs = search needs
 
--- src/lib.rt:99:9
 slice-aggregate-solve-multipliers : tie.Need-slice-aggregate-solve-multipliers
-slice-aggregate-solve-multipliers c = ?
+slice-aggregate-solve-multipliers c = let a : tie.After-transpose = search in sym (filled-by _ _ (a .transpose .ensures) .starts-long)
 
--- src/lib.rt:100:9
 slice-aggregate-solve-multipliers-2 : tie.Need-slice-aggregate-solve-multipliers-2
-slice-aggregate-solve-multipliers-2 c = ?
+slice-aggregate-solve-multipliers-2 c = let a : tie.After-transpose = search in sym (filled-by _ _ (a .transpose .ensures) .rows-long)
 
--- src/lib.rt:101:9
 slice-aggregate-solve-multipliers-3 : tie.Need-slice-aggregate-solve-multipliers-3
-slice-aggregate-solve-multipliers-3 c = ?
+slice-aggregate-solve-multipliers-3 c = let a : tie.After-transpose = search in sym (filled-by _ _ (a .transpose .ensures) .vals-long)
 
--- src/lib.rt:102:9
 slice-aggregate-solve-multipliers-4 : tie.Need-slice-aggregate-solve-multipliers-4
-slice-aggregate-solve-multipliers-4 c = ?
+slice-aggregate-solve-multipliers-4 c = let b : tie.After-transpose2 = search in sym (filled-by _ _ (b .transpose2 .ensures) .starts-long)
 
--- src/lib.rt:103:9
 slice-aggregate-solve-multipliers-5 : tie.Need-slice-aggregate-solve-multipliers-5
-slice-aggregate-solve-multipliers-5 c = ?
+slice-aggregate-solve-multipliers-5 c = let b : tie.After-transpose2 = search in sym (filled-by _ _ (b .transpose2 .ensures) .rows-long)
 
--- src/lib.rt:104:9
 slice-aggregate-solve-multipliers-6 : tie.Need-slice-aggregate-solve-multipliers-6
-slice-aggregate-solve-multipliers-6 c = ?
+slice-aggregate-solve-multipliers-6 c = let b : tie.After-transpose2 = search in sym (filled-by _ _ (b .transpose2 .ensures) .vals-long)
 
--- src/lib.rt:96:5
 solve-multipliers-requires : tie.Need-solve-multipliers-requires
-solve-multipliers-requires c κs = ?
+solve-multipliers-requires c κs =
+    let s : tie.Start = search in
+    let a : tie.After-transpose = search in
+    let b : tie.After-transpose2 = c .before .before .before .before .before .before .before .before .before .before in
+    let x = s .pre .1 in
+    ((x .lower-read .small, s .pre .0 .0, s .pre .0 .1), solid-by _ _ _ (a .transpose .ensures) (b .transpose2 .ensures) x)
 
--- src/lib.rt:67:1
 returns : tie.Need-returns
-returns c = ?
+returns c =
+    let a : tie.After-transpose = search in
+    let b : tie.After-transpose2 = c .before .before .before .before .before .before .before .before .before .before .before in
+    c .solve-multipliers .ensures ∙ solved-same _ _ refl (a .transpose .ensures) (b .transpose2 .ensures) refl
 
 pub solve-now-spec : {M : Type 1} → statement M
 solve-now-spec =
