@@ -1,2 +1,2 @@
--- What the own part of a repricing leaves.
-pub mod Left
+-- What the own part of a repricing asks.
+pub mod Lent

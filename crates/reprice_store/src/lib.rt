@@ -3,14 +3,122 @@
 // (recalc_obj_coeffs and BasisSolver::reset), Apache-2.0, changed: when it is called, and 23 and 25.
 use reprice_prices::Own;
 ghost use mathlib.Core.Path.{_≡_};
-ghost use Rattle.state.specs.Packed.{stateIn};
-ghost use Rattle.reprice_rules.specs.Reprice.{repriced as repricedOf};
+ghost use mathlib.Core.List.{List};
+ghost use Prim.Native.Nat.{ℕ};
+ghost use lib.ListN.{length};
+ghost use lib.Ieee.{Float};
+ghost use Rattle.lu_factor_rules.specs.Factor.{factored, factorize};
+ghost use Rattle.lu_factor_rules.specs.Counted.{factorAt};
+ghost use Rattle.rules.specs.Parts.{rowed};
+ghost use Rattle.basis_columns.specs.Columns.{ByColumns};
+ghost use Rattle.basis_factor.specs.Basis.{columnsOf};
+ghost use Rattle.state.specs.Packed.{packed, stateIn};
+ghost use Rattle.reprice_rules.specs.Reprice.{priced as pricedAnew, factoredNow, repriced as repricedOf};
 ghost use Rattle.reprice_prices.specs.Lent.{pricedOf};
 ghost use Rattle.reprice_prices.specs.Left.{afterOwn, ownLeft};
-ghost use Rattle.reprice_store.specs.Left.{Pricing};
+ghost use Rattle.reprice_store.specs.Lent.{Pricing, PricingBy, anewOf};
 
-// "Where eta columns are stored, the basis is factored in their place". The factor and its transposes stay in local
-// arrays until every number is tested.
+// 2 to 5 with the factor of the basis, which isn't stored yet. Where every number is finite it is, in place of the eta
+// columns: "no eta columns, no entries, first start 0".
+fn with_factor(
+    numbers: &mut [usize],
+    doubles: &mut [f64],
+    factor_numbers: &mut [usize],
+    factor_coeffs: &mut [f64],
+    at: state::Tally,
+    n: usize,
+    costs: &[f64],
+    kept: &[usize],
+    cstarts: &[usize],
+    crows: &[usize],
+    ccoeffs: &[f64],
+    order: &[usize; doubles::MAX_ROWS],
+    number: &[usize; doubles::MAX_ROWS],
+    lstarts: &[usize; doubles::MAX_ROWS + 1],
+    ustarts: &[usize; doubles::MAX_ROWS + 1],
+    diag: &[f64; doubles::MAX_ROWS],
+    lrows: &[usize; doubles::MAX_TRI_ENTRIES],
+    lvals: &[f64; doubles::MAX_TRI_ENTRIES],
+    urows: &[usize; doubles::MAX_TRI_ENTRIES],
+    uvals: &[f64; doubles::MAX_TRI_ENTRIES],
+) -> Own
+    requires { ⌜ PricingBy n (now costs) (now kept) (now cstarts) (now crows) (now ccoeffs) (now numbers) (now doubles)
+        (now «factor_numbers») (now «factor_coeffs») at ⌝ }
+    requires { ⌜ factored (factorAt (length (now kept)) (now order) (now number) (now lstarts) (now ustarts) (now diag)
+        (now lrows) (now lvals) (now urows) (now uvals)) ≡ factorize (length (now kept))
+        (columnsOf (now cstarts) (now crows) (now ccoeffs) n (packed (now numbers) (now doubles) .basicVars)) ⌝ }
+    ensures { λ r. ⌜ ((starts cols : List ℕ) (coeffs : List Float) → ByColumns
+        (rowed n starts cols coeffs (now (kept .entry))) (now (cstarts .entry)) (now (crows .entry))
+        (now (ccoeffs .entry)) → let s = stateIn (now (numbers .entry)) (now (doubles .entry))
+        (now («factor_numbers» .entry)) (now («factor_coeffs» .entry)) at in ownLeft r (now (numbers .exit))
+        (now (doubles .exit)) (now («factor_numbers» .exit)) (now («factor_coeffs» .exit)) ≡ afterOwn s
+        (pricedAnew (pricedOf n (now (costs .entry)) starts cols coeffs (now (kept .entry))) (factoredNow s
+        (factorAt (length (now (kept .entry))) (now (order .entry)) (now (number .entry)) (now (lstarts .entry))
+        (now (ustarts .entry)) (now (diag .entry)) (now (lrows .entry)) (now (lvals .entry)) (now (urows .entry))
+        (now (uvals .entry)))))) ⌝ }
+{
+    let m = kept.len();
+    let mut y = [0.0; doubles::MAX_ROWS];
+    reprice_factor::multipliers_now(
+        m,
+        n,
+        costs,
+        &numbers[state::BASIC_VARS..state::BASIC_VARS_END],
+        number,
+        lstarts,
+        ustarts,
+        diag,
+        lrows,
+        lvals,
+        urows,
+        uvals,
+        &mut y,
+    );
+    let own = reprice_prices::priced(
+        numbers,
+        doubles,
+        at,
+        n,
+        costs,
+        kept,
+        cstarts,
+        crows,
+        ccoeffs,
+        &y,
+    );
+    match own {
+        Own::Halts(why) => {
+            return Own::Halts(why);
+        }
+        Own::Goes(t) => {
+            numbers[state::ETA_STARTS] = 0;
+            lu_packed::store(
+                m,
+                order,
+                number,
+                lstarts,
+                ustarts,
+                diag,
+                lrows,
+                lvals,
+                urows,
+                uvals,
+                factor_numbers,
+                factor_coeffs,
+            );
+            return Own::Goes(state::Tally {
+                eta_count: 0,
+                objective: t.objective,
+                steps: t.steps,
+                factored: true,
+                factorings: t.factorings,
+            });
+        }
+    }
+}
+
+// "Where eta columns are stored, the basis is factored in their place". The factor stays in local arrays until every
+// number is tested.
 fn anew(
     numbers: &mut [usize],
     doubles: &mut [f64],
@@ -23,17 +131,16 @@ fn anew(
     cstarts: &[usize],
     crows: &[usize],
     ccoeffs: &[f64],
-) -> Own {
-    let m = kept.len();
-    let mut basis = [0usize; doubles::MAX_ROWS];
-    // the basis as it stands: row 0 takes its own variable (m is above 0, since an eta column has a leaving row)
-    let own = numbers[state::BASIC_VARS];
-    basis_factor::new_basis(
-        &numbers[state::BASIC_VARS..state::BASIC_VARS_END],
-        0,
-        own,
-        &mut basis,
-    );
+) -> Own
+    requires { ⌜ PricingBy n (now costs) (now kept) (now cstarts) (now crows) (now ccoeffs) (now numbers) (now doubles)
+        (now «factor_numbers») (now «factor_coeffs») at ⌝ }
+    ensures { λ r. ⌜ ((starts cols : List ℕ) (coeffs : List Float) → ByColumns
+        (rowed n starts cols coeffs (now (kept .entry))) (now (cstarts .entry)) (now (crows .entry))
+        (now (ccoeffs .entry)) → let s = stateIn (now (numbers .entry)) (now (doubles .entry))
+        (now («factor_numbers» .entry)) (now («factor_coeffs» .entry)) at in ownLeft r (now (numbers .exit))
+        (now (doubles .exit)) (now («factor_numbers» .exit)) (now («factor_coeffs» .exit)) ≡ afterOwn s
+        (anewOf (pricedOf n (now (costs .entry)) starts cols coeffs (now (kept .entry))) s)) ⌝ }
+{
     let mut order = [0usize; doubles::MAX_ROWS];
     let mut number = [doubles::MAX_ROWS; doubles::MAX_ROWS];
     let mut lstarts = [0usize; doubles::MAX_ROWS + 1];
@@ -43,13 +150,13 @@ fn anew(
     let mut lvals = [0.0; doubles::MAX_TRI_ENTRIES];
     let mut urows = [0usize; doubles::MAX_TRI_ENTRIES];
     let mut uvals = [0.0; doubles::MAX_TRI_ENTRIES];
-    let factored = basis_factor::factorize(
-        m,
+    let factored = reprice_factor::factor_now(
+        kept.len(),
+        n,
+        &numbers[state::BASIC_VARS..state::BASIC_VARS_END],
         cstarts,
         crows,
         ccoeffs,
-        n,
-        &basis,
         &mut order,
         &mut number,
         &mut lstarts,
@@ -67,74 +174,19 @@ fn anew(
         lu_factor_rules::Ended::Singular => {
             return Own::Halts(rules::Stop::Singular);
         }
-        lu_factor_rules::Ended::Done(_) => {}
-    }
-    let mut ltstarts = [0usize; doubles::MAX_ROWS + 1];
-    let mut ltrows = [0usize; doubles::MAX_TRI_ENTRIES];
-    let mut ltvals = [0.0; doubles::MAX_TRI_ENTRIES];
-    lu_transpose::transpose(
-        m,
-        &lstarts,
-        &lrows,
-        &lvals,
-        &mut ltstarts,
-        &mut ltrows,
-        &mut ltvals,
-    );
-    let mut utstarts = [0usize; doubles::MAX_ROWS + 1];
-    let mut utrows = [0usize; doubles::MAX_TRI_ENTRIES];
-    let mut utvals = [0.0; doubles::MAX_TRI_ENTRIES];
-    lu_transpose::transpose(
-        m,
-        &ustarts,
-        &urows,
-        &uvals,
-        &mut utstarts,
-        &mut utrows,
-        &mut utvals,
-    );
-    let mut y = [0.0; doubles::MAX_ROWS];
-    reprice_numbers::basic_costs(
-        costs,
-        n,
-        &numbers[state::BASIC_VARS..state::BASIC_VARS_END],
-        m,
-        &mut y,
-    );
-    let mut mults = [0.0; doubles::MAX_ROWS];
-    reprice_numbers::solve_multipliers(
-        m,
-        &number,
-        &utstarts,
-        &utrows,
-        &utvals,
-        &ltstarts,
-        &ltrows,
-        &ltvals,
-        &diag,
-        &mut y,
-        &mut mults,
-    );
-    let priced = reprice_prices::priced(
-        numbers,
-        doubles,
-        at,
-        n,
-        costs,
-        kept,
-        cstarts,
-        crows,
-        ccoeffs,
-        &mults,
-    );
-    match priced {
-        Own::Halts(why) => {
-            return Own::Halts(why);
-        }
-        Own::Goes(t) => {
-            numbers[state::ETA_STARTS] = 0;
-            lu_packed::store(
-                m,
+        lu_factor_rules::Ended::Done(_) => {
+            return with_factor(
+                numbers,
+                doubles,
+                factor_numbers,
+                factor_coeffs,
+                at,
+                n,
+                costs,
+                kept,
+                cstarts,
+                crows,
+                ccoeffs,
                 &order,
                 &number,
                 &lstarts,
@@ -144,16 +196,7 @@ fn anew(
                 &lvals,
                 &urows,
                 &uvals,
-                factor_numbers,
-                factor_coeffs,
             );
-            return Own::Goes(state::Tally {
-                eta_count: 0,
-                objective: t.objective,
-                steps: t.steps,
-                factored: true,
-                factorings: t.factorings,
-            });
         }
     }
 }
