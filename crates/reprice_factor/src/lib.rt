@@ -85,23 +85,23 @@ fn solve_now(
         (matrix (now (ustarts .entry)) (now (urows .entry)) (now (uvals .entry))) (now (diag .entry))
         (now (y .entry)) ⌝ }
 {
-    let mut utstarts = [0usize; doubles::MAX_ROWS + 1];
-    let mut utrows = [0usize; doubles::MAX_TRI_ENTRIES];
-    let mut utvals = [0.0; doubles::MAX_TRI_ENTRIES];
-    lu_transpose::transpose(m, ustarts, urows, uvals, &mut utstarts, &mut utrows, &mut utvals);
-    let mut ltstarts = [0usize; doubles::MAX_ROWS + 1];
-    let mut ltrows = [0usize; doubles::MAX_TRI_ENTRIES];
-    let mut ltvals = [0.0; doubles::MAX_TRI_ENTRIES];
-    lu_transpose::transpose(m, lstarts, lrows, lvals, &mut ltstarts, &mut ltrows, &mut ltvals);
+    let mut us = [0usize; doubles::MAX_ROWS + 1];
+    let mut ur = [0usize; doubles::MAX_TRI_ENTRIES];
+    let mut uv = [0.0; doubles::MAX_TRI_ENTRIES];
+    lu_transpose::transpose(m, ustarts, urows, uvals, &mut us, &mut ur, &mut uv);
+    let mut ls = [0usize; doubles::MAX_ROWS + 1];
+    let mut lr = [0usize; doubles::MAX_TRI_ENTRIES];
+    let mut lv = [0.0; doubles::MAX_TRI_ENTRIES];
+    lu_transpose::transpose(m, lstarts, lrows, lvals, &mut ls, &mut lr, &mut lv);
     reprice_numbers::solve_multipliers(
         m,
         number,
-        &utstarts,
-        &utrows,
-        &utvals,
-        &ltstarts,
-        &ltrows,
-        &ltvals,
+        &us,
+        &ur,
+        &uv,
+        &ls,
+        &lr,
+        &lv,
         diag,
         y,
         out,
