@@ -118,20 +118,21 @@ fn multipliers(
     costs: &[f64],
     kept: &[usize],
     basic_vars: &[usize],
-    factored: bool,
+    at: state::Tally,
     factor_numbers: &[usize],
     factor_coeffs: &[f64],
     out: &mut [f64; doubles::MAX_ROWS],
 )
     requires { ⌜ (n ≤ length (now costs)) × (length (now kept) ≤ maxRows) × (length (now kept) ≤ length
         (now «basic_vars»)) × (now out ≡ replicate maxRows f0) ⌝ }
-    requires { ⌜ FactorFits (length (now kept)) (factoredOf factored 0 (now «factor_numbers») (now «factor_coeffs»)) ⌝ }
-    ensures { λ _. ⌜ now (out .exit) ≡ multipliersBy factored (length (now (kept .entry)))
+    requires { ⌜ FactorFits (length (now kept)) (factoredOf (at .factored) (at .factorings)
+        (now «factor_numbers») (now «factor_coeffs»)) ⌝ }
+    ensures { λ _. ⌜ now (out .exit) ≡ multipliersBy (at .factored) (length (now (kept .entry)))
         (now («factor_numbers» .entry)) (now («factor_coeffs» .entry))
         (basicCosts (costed n (now (costs .entry)) (now (kept .entry))) (valued (now («basic_vars» .entry)) [] [] [])) ⌝ }
 {
     let m = kept.len();
-    if !factored {
+    if !at.factored {
         reprice_numbers::basic_costs(costs, n, basic_vars, m, out);
         return;
     }
@@ -176,14 +177,13 @@ pub fn as_it_is(
         (now (doubles .exit)) (now («factor_numbers» .entry)) (now («factor_coeffs» .entry)) ≡ afterOwn s
         (pricedAnew (pricedOf n (now (costs .entry)) starts cols coeffs (now (kept .entry))) s)) ⌝ }
 {
-    let factored = at.factored;
     let mut y = [0.0; doubles::MAX_ROWS];
     multipliers(
         n,
         costs,
         kept,
         &numbers[state::BASIC_VARS..state::BASIC_VARS_END],
-        factored,
+        at,
         factor_numbers,
         factor_coeffs,
         &mut y,
