@@ -34,8 +34,9 @@ use Rattle.reprice_prices.specs.Lent.{pricedOf, Prices}
 use Rattle.reprice_prices.specs.Left.{afterOwn}
 
 -- ---- for callers: from a problem and a state that fit
-pub fits-prices : (P : Problem) → ProblemFits P → {N : List ℕ} {D : List Float} {F : List ℕ} {G : List Float} {t : Tally}
-    → Sized N D → Fits P (stateIn N D F G t) → {S R : List ℕ} {X : List Float} → ByColumns (matrixOf P) S R X → nOf P < length S
+pub fits-prices : (P : Problem) → ProblemFits P
+    → {N : List ℕ} {D : List Float} {F : List ℕ} {G : List Float} {t : Tally} → Sized N D → Fits P (stateIn N D F G t)
+    → {S R : List ℕ} {X : List Float} → ByColumns (matrixOf P) S R X → nOf P < length S
     → Prices (nOf P) (P .plan .costs) (P .kept) S R X N D
 fits-prices P f z s m long =
     record {
@@ -59,7 +60,8 @@ scratch-long n k f h = let r = length-replicate k f0 in over-long n f (replicate
 
 -- the pivot numbers with the transposes, as a dense solve asks: each half of a factor that fits
 pub dense-solid : (m : ℕ) (F : Factored) → FactorFits m F → F .there ≡ true
-    → Solid m (numberIn (F .numbers)) (upperTIn (F .numbers) (F .coeffs)) (lowerTIn (F .numbers) (F .coeffs)) (diagIn (F .coeffs))
+    → Solid m (numberIn (F .numbers)) (upperTIn (F .numbers) (F .coeffs)) (lowerTIn (F .numbers) (F .coeffs))
+    (diagIn (F .coeffs))
 dense-solid m F f e =
     let a = f .solid e in
     let b = f .solid-transposed e in
@@ -88,9 +90,12 @@ module _ (n : ℕ) (costs : List Float) (kept vars F : List ℕ) (G : List Float
   bare-is b eb eo ey = ey ∙ ap from eo ∙ costs-are ∙ rw eb
 
   pub solved-is : (b : Bool) {y out : List Float} → b ≡ true → y ≡ from (replicate maxRows f0)
-      → out ≡ byRows (length kept) (numberIn F) (denseBoth (length kept) (upperTIn F G) (lowerTIn F G) (diagIn G) y) → out ≡ wanted b
+      → out ≡ byRows (length kept) (numberIn F) (denseBoth (length kept) (upperTIn F G) (lowerTIn F G) (diagIn G) y)
+      → out ≡ wanted b
   solved-is b {y} eb ey eo =
-      eo ∙ ap (byRows (length kept) (numberIn F)) (both-is (length kept) F G y ∙ ap (denseTransp (length kept) F G) (ey ∙ costs-are)) ∙ rw eb
+      let m = length kept in
+      let e = both-is m F G y ∙ ap (denseTransp m F G) (ey ∙ costs-are) in
+      eo ∙ ap (byRows m (numberIn F)) e ∙ rw eb
 
   pub wanted-long : (b : Bool) → length kept ≤ maxRows → length (wanted b) ≡ maxRows
   unfolding byRows basicCosts
@@ -112,7 +117,8 @@ module _ (n : ℕ) (costs : List Float) (kept vars F : List ℕ) (G : List Float
         ap (λ (y : List Float). afterOwn state (pricedIf (pricedFinite whole state y) whole state y)) (e ∙ rw ev)
 
 -- ---- what the sums ask
-module _ {n : ℕ} {costs : List Float} {kept S R : List ℕ} {X : List Float} {N : List ℕ} {D : List Float} (p : Prices n costs kept S R X N D) where
+module _ {n : ℕ} {costs : List Float} {kept S R : List ℕ} {X : List Float} {N : List ℕ} {D : List Float}
+    (p : Prices n costs kept S R X N D) where
   pub places-long : n ≤ length (section nbVarsAt maxColumns N)
   places-long = omega (arith, section-length nbVarsAt maxColumns N (omega (arith, p .sized)), p .columns-most)
 
@@ -136,8 +142,8 @@ module _ {n : ℕ} {costs : List Float} {kept S R : List ℕ} {X : List Float} {
 
 -- ---- how it ends
 module _ (n : ℕ) (costs : List Float) (starts cols : List ℕ) (coeffs : List Float) (kept S R : List ℕ) (X : List Float)
-    (m : ByColumns (rowed n starts cols coeffs kept) S R X) (N : List ℕ) (D : List Float) (F : List ℕ) (G : List Float) (t : Tally)
-    (y : List Float) where
+    (m : ByColumns (rowed n starts cols coeffs kept) S R X) (N : List ℕ) (D : List Float) (F : List ℕ) (G : List Float)
+    (t : Tally) (y : List Float) where
   abbrev P : Problem
   P = pricedOf n costs starts cols coeffs kept
 
@@ -163,7 +169,8 @@ module _ (n : ℕ) (costs : List Float) (starts cols : List ℕ) (coeffs : List 
     finite-is : b ≡ pricedFinite P s y
     unfolding pricedFinite
     finite-is =
-        eb ∙ rw (all-same (finiteAt fresh) (λ c. finite (priceAt P s y c)) n (λ c h. ap finite (fresh-at c h)), objective-is) refl
+        let f = all-same (finiteAt fresh) (λ c. finite (priceAt P s y c)) n (λ c h. ap finite (fresh-at c h)) in
+        eb ∙ rw (f, objective-is) refl
 
     pub ends-wild : b ≡ false → off NotFinite (packed N D) F G ≡ afterOwn s (pricedIf (pricedFinite P s y) P s y)
     ends-wild q = rw (sym finite-is ∙ q) refl
@@ -174,9 +181,16 @@ module _ (n : ℕ) (costs : List Float) (starts cols : List ℕ) (coeffs : List 
 
       abbrev with-objective : Tally
       with-objective =
-          record { «eta_count» = t .«eta_count»; objective = o; steps = t .steps; factored = t .factored; factorings = t .factorings }
+          record {
+            «eta_count» = t .«eta_count»;
+            objective = o;
+            steps = t .steps;
+            factored = t .factored;
+            factorings = t .factorings;
+          }
 
-      pub ends-priced : b ≡ true → (e : List Float) → e ≡ stored (section pricesAt maxColumns D) → length e ≡ length (section pricesAt maxColumns D)
+      pub ends-priced : b ≡ true → (e : List Float) → e ≡ stored (section pricesAt maxColumns D)
+          → length e ≡ length (section pricesAt maxColumns D)
           → on (stateIn N (putMid pricesAt maxColumns D e) F G with-objective) ≡ afterOwn s (pricedIf (pricedFinite P s y) P s y)
       unfolding pricedBy
       ends-priced q e ee ke =

@@ -17,7 +17,8 @@ abbrev pub pricedOf : ℕ → List Float → List ℕ → List ℕ → List Floa
 pricedOf n costs starts cols coeffs kept = problem (planOf n 0 0 0 f0 costs [] [] starts cols coeffs [] []) kept
 
 -- S, R and X are some rows by columns, and the variable at each place is one
-pub record Prices (n : ℕ) (costs : List Float) (kept S R : List ℕ) (X : List Float) (N : List ℕ) (D : List Float) : Type 0 where
+pub record Prices (n : ℕ) (costs : List Float) (kept S R : List ℕ) (X : List Float) (N : List ℕ) (D : List Float)
+    : Type 0 where
   pub starts : List ℕ
   pub cols : List ℕ
   pub coeffs : List Float

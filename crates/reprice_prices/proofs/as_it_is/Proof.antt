@@ -27,7 +27,10 @@ priced-requires c κs =
     let s : tie.Start = search in
     let b : tie.After-multipliers = search in
     let a = s .args in
-    (s .pre .0, ap length (b .multipliers .ensures) ∙ wanted-long (a .n) (a .costs .now) (a .kept .now) _ (a .factor-numbers .now) (a .factor-coeffs .now) (a .at .factored) (s .pre .0 .rows-most))
+    let l =
+    wanted-long (a .n) (a .costs .now) (a .kept .now) _ (a .factor-numbers .now) (a .factor-coeffs .now) (a .at .factored)
+    (s .pre .0 .rows-most) in
+    (s .pre .0, ap length (b .multipliers .ensures) ∙ l)
 
 same-length : tie.Need-same-length
 same-length c = search needs
@@ -39,7 +42,8 @@ returns c st co cf m =
     let q : tie.After-priced = search in
     let a = s .args in
     q .priced .ensures st co cf m (a .factor-numbers .now) (a .factor-coeffs .now)
-    ∙ end-is (a .n) (a .costs .now) (a .kept .now) _ (a .factor-numbers .now) (a .factor-coeffs .now) st co cf (a .numbers .now) (a .doubles .now) (a .at) refl (b .multipliers .ensures)
+    ∙ end-is (a .n) (a .costs .now) (a .kept .now) _ (a .factor-numbers .now) (a .factor-coeffs .now)
+    st co cf (a .numbers .now) (a .doubles .now) (a .at) refl (b .multipliers .ensures)
 
 pub as-it-is-spec : {M : Type 1} → statement M
 as-it-is-spec =

@@ -101,20 +101,29 @@ part-solve-multipliers-start-8 c = search needs
 part-solve-multipliers-end-8 : tie.Need-part-solve-multipliers-end-8
 part-solve-multipliers-end-8 c = search needs
 
+-- the way back to the costs of the basis, and how long they are
+abbrev costs-at : tie.After-solve-multipliers-arg9 → tie.After-basic-costs2
+costs-at c = c .before .before .before .before .before .before .before .before .before .before
+
+costs-long : (b : tie.After-basic-costs2) → length (b .basic-costs2 .last .1 .1 .1 .1 .0) ≡ maxRows
+costs-long b =
+    let s : tie.Start = search in
+    ap length (b .basic-costs2 .ensures) ∙ scratch-long (length (s .args .kept .now)) maxRows _ (s .pre .0 .1)
+
 solve-multipliers-requires : tie.Need-solve-multipliers-requires
 solve-multipliers-requires c κs =
     let s : tie.Start = search in
     let x : tie.Else1 = search in
     let a = s .args in
-    let b : tie.After-basic-costs2 = c .before .before .before .before .before .before .before .before .before .before in
-    let l : length (b .basic-costs2 .last .1 .1 .1 .1 .0) ≡ maxRows = ap length (b .basic-costs2 .ensures) ∙ scratch-long (length (a .kept .now)) maxRows _ (s .pre .0 .1) in
-    ((s .pre .0 .1, l, s .pre .0 .3), dense-solid (length (a .kept .now)) (factoredOf (a .at .factored) (a .at .factorings) (a .factor-numbers .now) (a .factor-coeffs .now)) (s .pre .1) (not-false _ (x .if1 .left)))
+    let m = length (a .kept .now) in
+    let F = factoredOf (a .at .factored) (a .at .factorings) (a .factor-numbers .now) (a .factor-coeffs .now) in
+    ((s .pre .0 .1, costs-long (costs-at c), s .pre .0 .3), dense-solid m F (s .pre .1) (not-false _ (x .if1 .left)))
 
 returns-2 : tie.Need-returns-2
 returns-2 c =
     let s : tie.Start = search in
     let x : tie.Else1 = search in
-    let b : tie.After-basic-costs2 = c .before .before .before .before .before .before .before .before .before .before .before in
+    let b = costs-at (c .before) in
     let a = s .args in
     solved-is (a .n) (a .costs .now) (a .kept .now) (a .basic-vars .now) (a .factor-numbers .now) (a .factor-coeffs .now) (a .at .factored)
     (not-false _ (x .if1 .left)) (b .basic-costs2 .ensures) (c .solve-multipliers .ensures)

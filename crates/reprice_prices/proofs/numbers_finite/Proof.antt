@@ -23,7 +23,9 @@ returns-2 c =
     let x : tie.Else1 = search in
     let b : tie.After-all-finite2 = search in
     let t : tie.Then2 = search in
-    rw (sym (a .all-finite .ensures) ∙ not-false _ (x .if1 .left), sym (b .all-finite2 .ensures) ∙ not-true _ (t .if2 .taken))
+    let p = sym (a .all-finite .ensures) ∙ not-false _ (x .if1 .left) in
+    let q = sym (b .all-finite2 .ensures) ∙ not-true _ (t .if2 .taken) in
+    rw (p, q)
 
 is-finite-requires : tie.Need-is-finite-requires
 is-finite-requires c κs = search needs
@@ -35,8 +37,9 @@ returns-3 c =
     let b : tie.After-all-finite2 = search in
     let z : tie.Else2 = search in
     let f : tie.After-is-finite = search in
-    f .is-finite .ensures
-    ∙ rw (sym (a .all-finite .ensures) ∙ not-false _ (x .if1 .left), sym (b .all-finite2 .ensures) ∙ not-false _ (z .if2 .left))
+    let p = sym (a .all-finite .ensures) ∙ not-false _ (x .if1 .left) in
+    let q = sym (b .all-finite2 .ensures) ∙ not-false _ (z .if2 .left) in
+    f .is-finite .ensures ∙ rw (p, q)
 
 pub numbers-finite-spec : {M : Type 1} → statement M
 numbers-finite-spec =

@@ -14,7 +14,7 @@ use Rattle.reprice_prices.proofs.priced.Tie as tie
 
 -- the way back to the entry, and the prices that were worked out
 abbrev entry : tie.After-prices → tie.Start
-entry b = search
+entry b = b .before .before .before .before .before .before .before .before .before .before
 
 abbrev fresh : tie.After-prices → List Float
 fresh b = b .prices .last .1 .1 .1 .1 .1 .1 .1 .0

@@ -23,10 +23,14 @@ element-copy-out-prices : tie.Need-element-copy-out-prices Inv-loop μ-loop
 element-copy-out-prices c = omega arith
 
 mul-prices-2 : tie.Need-mul-prices-2 Inv-loop μ-loop
-mul-prices-2 c = let t : tie.In-loop Inv-loop μ-loop = search in omega (arith, filled-length (t .before .loop .inv .1) (omega arith))
+mul-prices-2 c =
+    let t : tie.In-loop Inv-loop μ-loop = search in
+    omega (arith, filled-length (t .before .loop .inv .1) (omega arith))
 
 slice-write-prices : tie.Need-slice-write-prices Inv-loop μ-loop
-slice-write-prices c = let t : tie.In-loop Inv-loop μ-loop = search in omega (arith, filled-length (t .before .loop .inv .1) (omega arith))
+slice-write-prices c =
+    let t : tie.In-loop Inv-loop μ-loop = search in
+    omega (arith, filled-length (t .before .loop .inv .1) (omega arith))
 
 add-c : tie.Need-add-c Inv-loop μ-loop
 add-c c = omega arith
