@@ -1,5 +1,5 @@
--- What `solve_any` promises, said of any answer and memory that its contract allows: `reprice_rules!Any` has the theorems
--- about the definition. Assumes nothing.
+-- What `solve_any` promises, said of any answer and memory that its contract allows: `reprice_rules!Any` has the
+-- theorems about the definition. Assumes nothing.
 use mathlib.Core.Path.{_≡_, sym, ap, _∙_}
 use mathlib.Core.List.{List}
 use Prim.Native.Nat.{ℕ}
@@ -16,9 +16,10 @@ module _ (p : Plan) (v : List Float) (N : List ℕ) (D : List Float) (F : List �
   abbrev pub PromisedIn : AnyAnswer → List Float → List ℕ → List Float → List ℕ → List Float → Type 0
   PromisedIn a w M E H J = anyBy a w M E H J ≡ handedAny (anyPlan p (memoryIn v N D F G)) (pastOf N D)
 
-  -- "every lent cell settled": any two results that it allows are equal, the answer and every cell, of arrays of any length
-  pub cells-settled : (a b : AnyAnswer) (w x : List Float) (M L : List ℕ) (E K : List Float) (H S : List ℕ) (J T : List Float)
-      → PromisedIn a w M E H J → PromisedIn b x L K S T
+  -- "every lent cell settled": any two results that it allows are equal, the answer and every cell, of arrays of any
+  -- length
+  pub cells-settled : (a b : AnyAnswer) (w x : List Float) (M L : List ℕ) (E K : List Float) (H S : List ℕ)
+      (J T : List Float) → PromisedIn a w M E H J → PromisedIn b x L K S T
       → (a ≡ b) × (w ≡ x) × (M ≡ L) × (E ≡ K) × (H ≡ S) × (J ≡ T)
   cells-settled a b w x M L E K H S J T e f =
       let q : anyBy a w M E H J ≡ anyBy b x L K S T = e ∙ sym f in
