@@ -191,7 +191,8 @@ module _ (n : ℕ) (costs : List Float) (starts cols : List ℕ) (coeffs : List 
 
       pub ends-priced : b ≡ true → (e : List Float) → e ≡ stored (section pricesAt maxColumns D)
           → length e ≡ length (section pricesAt maxColumns D)
-          → on (stateIn N (putMid pricesAt maxColumns D e) F G with-objective) ≡ afterOwn s (pricedIf (pricedFinite P s y) P s y)
+          → on (stateIn N (putMid pricesAt maxColumns D e) F G with-objective)
+          ≡ afterOwn s (pricedIf (pricedFinite P s y) P s y)
       unfolding pricedBy
       ends-priced q e ee ke =
           let h = in-prices (as-lent N D) (lent pricesAt maxColumns D stored e (omega (arith, z)) ee ke) in

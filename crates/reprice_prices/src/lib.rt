@@ -1,5 +1,5 @@
-// docs/RULES-02.md, "Beyond: reprice", parts 2 to 5 over the lent state: prices and objective for the multipliers, every
-// number tested, and only then anything stored; and the multipliers where no eta column is stored. From minilp 0.2.2,
+// docs/RULES-02.md, "Beyond: reprice", parts 2 to 5 over the lent state: the multipliers where no eta column is stored;
+// prices and objective for given ones, every number tested, and only then anything stored. From minilp 0.2.2,
 // src/solver.rs (recalc_obj_coeffs), Apache-2.0, changed: 23.
 ghost use mathlib.Core.Path.{_≡_};
 ghost use mathlib.Core.Bool.{_&&_};
@@ -129,7 +129,8 @@ fn multipliers(
         (now «factor_numbers») (now «factor_coeffs»)) ⌝ }
     ensures { λ _. ⌜ now (out .exit) ≡ multipliersBy (at .factored) (length (now (kept .entry)))
         (now («factor_numbers» .entry)) (now («factor_coeffs» .entry))
-        (basicCosts (costed n (now (costs .entry)) (now (kept .entry))) (valued (now («basic_vars» .entry)) [] [] [])) ⌝ }
+        (basicCosts (costed n (now (costs .entry)) (now (kept .entry)))
+        (valued (now («basic_vars» .entry)) [] [] [])) ⌝ }
 {
     let m = kept.len();
     if !at.factored {

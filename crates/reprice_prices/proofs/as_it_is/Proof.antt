@@ -28,8 +28,8 @@ priced-requires c κs =
     let b : tie.After-multipliers = search in
     let a = s .args in
     let l =
-    wanted-long (a .n) (a .costs .now) (a .kept .now) _ (a .factor-numbers .now) (a .factor-coeffs .now) (a .at .factored)
-    (s .pre .0 .rows-most) in
+    wanted-long (a .n) (a .costs .now) (a .kept .now) _ (a .factor-numbers .now) (a .factor-coeffs .now)
+    (a .at .factored) (s .pre .0 .rows-most) in
     (s .pre .0, ap length (b .multipliers .ensures) ∙ l)
 
 same-length : tie.Need-same-length

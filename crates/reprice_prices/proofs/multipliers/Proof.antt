@@ -1,6 +1,6 @@
 -- `reprice_prices::multipliers` meets its contract: the costs of the basis, solved where there is a factor. Assumes
 -- nothing.
-use mathlib.Core.Path.{_≡_, refl, ap, _∙_}
+use mathlib.Core.Path.{_≡_, ap, _∙_}
 use native.Mathlib.Omega.{arith}
 use lib.ListN.{length, length-replicate}
 use borrow.Author.Tests.{not-true, not-false}
@@ -23,8 +23,8 @@ returns c =
     let s : tie.Start = search in
     let t : tie.Then1 = search in
     let a = s .args in
-    bare-is (a .n) (a .costs .now) (a .kept .now) (a .basic-vars .now) (a .factor-numbers .now) (a .factor-coeffs .now) (a .at .factored)
-    (not-true _ (t .if1 .taken)) (s .pre .0 .3) (c .basic-costs .ensures)
+    bare-is (a .n) (a .costs .now) (a .kept .now) (a .basic-vars .now) (a .factor-numbers .now) (a .factor-coeffs .now)
+    (a .at .factored) (not-true _ (t .if1 .taken)) (s .pre .0 .3) (c .basic-costs .ensures)
 
 basic-costs-requires-2 : tie.Need-basic-costs-requires-2
 basic-costs-requires-2 c κs = search needs
@@ -125,8 +125,9 @@ returns-2 c =
     let x : tie.Else1 = search in
     let b = costs-at (c .before) in
     let a = s .args in
-    solved-is (a .n) (a .costs .now) (a .kept .now) (a .basic-vars .now) (a .factor-numbers .now) (a .factor-coeffs .now) (a .at .factored)
-    (not-false _ (x .if1 .left)) (b .basic-costs2 .ensures) (c .solve-multipliers .ensures)
+    solved-is (a .n) (a .costs .now) (a .kept .now) (a .basic-vars .now) (a .factor-numbers .now) (a .factor-coeffs .now)
+    (a .at .factored) (not-false _ (x .if1 .left)) (b .basic-costs2 .ensures)
+    (c .solve-multipliers .ensures)
 
 pub multipliers-spec : {M : Type 1} → statement M
 multipliers-spec =

@@ -23,7 +23,8 @@ fresh-long : (b : tie.After-prices) → entry b .args .n ≤ length (fresh b)
 fresh-long b =
     let p = entry b .pre .0 in
     let n = entry b .args .n in
-    let l : length (fresh b) ≡ maxColumns = ap length (b .prices .ensures) ∙ scratch-long n maxColumns _ (p .columns-most) in
+    let l : length (fresh b) ≡ maxColumns =
+    ap length (b .prices .ensures) ∙ scratch-long n maxColumns _ (p .columns-most) in
     omega (arith, l, p .columns-most)
 
 sub-prices : tie.Need-sub-prices
@@ -99,8 +100,9 @@ returns c st co cf m F G =
     let f : tie.After-numbers-finite = search in
     let a = entry b .args in
     ends-wild (a .n) (a .costs .now) st co cf (a .kept .now) (a .cstarts .now) (a .crows .now) (a .ccoeffs .now) m
-    (a .numbers .now) (a .doubles .now) F G (a .at) (a .y .now) (fresh b) (o .objective .result) (f .numbers-finite .result)
-    (b .prices .ensures) (o .objective .ensures) (f .numbers-finite .ensures) (not-true _ (c .if1 .taken))
+    (a .numbers .now) (a .doubles .now) F G (a .at) (a .y .now) (fresh b) (o .objective .result)
+    (f .numbers-finite .result) (b .prices .ensures) (o .objective .ensures) (f .numbers-finite .ensures)
+    (not-true _ (c .if1 .taken))
 
 sub-store-prices : tie.Need-sub-store-prices
 sub-store-prices c = search needs
@@ -126,9 +128,10 @@ returns-2 c st co cf m F G =
     let e : tie.After-store-prices = search in
     let a = entry b .args in
     ends-priced (a .n) (a .costs .now) st co cf (a .kept .now) (a .cstarts .now) (a .crows .now) (a .ccoeffs .now) m
-    (a .numbers .now) (a .doubles .now) F G (a .at) (a .y .now) (fresh b) (o .objective .result) (f .numbers-finite .result)
-    (b .prices .ensures) (o .objective .ensures) (f .numbers-finite .ensures) (entry b .pre .0 .sized) (not-false _ (x .if1 .left))
-    (e .store-prices .last .1 .1 .0) (e .store-prices .ensures) (e .store-prices .kept .1 .1 .0)
+    (a .numbers .now) (a .doubles .now) F G (a .at) (a .y .now) (fresh b) (o .objective .result)
+    (f .numbers-finite .result) (b .prices .ensures) (o .objective .ensures) (f .numbers-finite .ensures)
+    (entry b .pre .0 .sized) (not-false _ (x .if1 .left)) (e .store-prices .last .1 .1 .0)
+    (e .store-prices .ensures) (e .store-prices .kept .1 .1 .0)
 
 pub priced-spec : {M : Type 1} → statement M
 priced-spec =
