@@ -12,7 +12,8 @@ use Rattle.lu_factor_rules.specs.Factor.{Factor, Matrix}
 use Rattle.lu_factor_rules.specs.Transpose.{transpose}
 use Rattle.lu_factor_rules.specs.Packed.{numberIn, packedNumbers, packedCoeffs}
 use Rattle.lu_factor_rules.proofs.Shaped.{IsFactor}
-use Rattle.lu_factor_rules.proofs.Packed.{Filled, Exact, transpose-filled, number-back, diag-back, lowerT-back, upperT-back}
+use Rattle.lu_factor_rules.proofs.Packed.{Filled, Exact, transpose-filled}
+use Rattle.lu_factor_rules.proofs.Packed.{number-back, diag-back, lowerT-back, upperT-back}
 use Rattle.lu_apply.specs.Ask.{Solid}
 use Rattle.lu_apply.proofs.Factors.{lower-read, upper-read, solid-factor, solid-transposed}
 use Rattle.rules.specs.Plan.{Problem, State, nOf, mOf}
@@ -26,13 +27,13 @@ use Rattle.reprice_factor.specs.Mults.{costsOf, multipliersOf, Solves}
 pub filled-by : (m : ℕ) (t : Matrix) {u : Matrix} → u ≡ transpose m t → Filled u
 filled-by m t q = subst Filled (sym q) (transpose-filled t m)
 
-pub solid-by : (m : ℕ) {number : List ℕ} {diag : List Float} (lower upper : Matrix) {lt ut : Matrix} → ut ≡ transpose m upper
-    → lt ≡ transpose m lower → Solves m number lower upper diag → Solid m number ut lt diag
+pub solid-by : (m : ℕ) {number : List ℕ} {diag : List Float} (lower upper : Matrix) {lt ut : Matrix}
+    → ut ≡ transpose m upper → lt ≡ transpose m lower → Solves m number lower upper diag → Solid m number ut lt diag
 solid-by m lower upper a b x = rw (a, b) (x .solid)
 
 -- the solves, of equal parts
-pub solved-same : (m : ℕ) (y : List Float) {a b : List ℕ} {u v l k : Matrix} {d e : List Float} → a ≡ b → u ≡ v → l ≡ k → d ≡ e
-    → byRows m a (denseBoth m u l d y) ≡ byRows m b (denseBoth m v k e y)
+pub solved-same : (m : ℕ) (y : List Float) {a b : List ℕ} {u v l k : Matrix} {d e : List Float} → a ≡ b
+    → u ≡ v → l ≡ k → d ≡ e → byRows m a (denseBoth m u l d y) ≡ byRows m b (denseBoth m v k e y)
 solved-same m y p q r t = rw (p, q, r, t) refl
 
 -- cells over fresh ones are as many

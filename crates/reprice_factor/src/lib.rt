@@ -93,19 +93,7 @@ fn solve_now(
     let mut lr = [0usize; doubles::MAX_TRI_ENTRIES];
     let mut lv = [0.0; doubles::MAX_TRI_ENTRIES];
     lu_transpose::transpose(m, lstarts, lrows, lvals, &mut ls, &mut lr, &mut lv);
-    reprice_numbers::solve_multipliers(
-        m,
-        number,
-        &us,
-        &ur,
-        &uv,
-        &ls,
-        &lr,
-        &lv,
-        diag,
-        y,
-        out,
-    );
+    reprice_numbers::solve_multipliers(m, number, &us, &ur, &uv, &ls, &lr, &lv, diag, y, out);
 }
 
 // The multipliers out of a factor that isn't stored, into fresh cells.

@@ -13,12 +13,11 @@ use Rattle.doubles.specs.Lists.{_#_}
 use Rattle.lu_factor_rules.specs.Factor.{Outcome, factored, notFinite, singular, Factor, factorize}
 use Rattle.lu_factor_rules.specs.Packed.{packedNumbers, packedCoeffs}
 use Rattle.lu_factor_rules.specs.Ready.{Vector as Ordered}
-use Rattle.lu_factor_rules.proofs.Shaped.{IsFactor, factor-shaped}
+use Rattle.lu_factor_rules.proofs.Shaped.{factor-shaped}
 use Rattle.lu_factor_rules.proofs.Packed.{Exact, factor-exact}
-use Rattle.rules.specs.Plan.{Problem, Workspace, State, nOf, mOf, column}
+use Rattle.rules.specs.Plan.{Problem, Workspace, State, mOf, column}
 use Rattle.rules.specs.Parts.{planOf, problem, rowed, factoredOf, stateWith}
 use Rattle.rules.specs.Invariant.{FactorFits}
-use Rattle.rules.specs.declared.Stop.{Stop}
 use Rattle.rules.specs.declared.Stop.the-variants.{NotFinite, Singular}
 use Rattle.rules.proofs.Vectors.{rows-places, in-order, scattered-vector}
 use Rattle.basis_columns.specs.Columns.{Matrix, Valued, ByColumns}
@@ -31,7 +30,8 @@ use Rattle.state.specs.declared.Tally.{Tally}
 use Rattle.state.proofs.Sections.{section-length, written}
 use Rattle.state.proofs.Moves.{as-lent, in-etaStarts}
 use Rattle.step_refactor.specs.Left.{Left, on, off}
-use Rattle.reprice_rules.specs.Reprice.{ready, orHalts, thenPriced, basisNow, factoredNow, settled, multipliers, pricedFinite, objectiveOf, byRows, pricedBy, pricedIf, priced, repriced}
+use Rattle.reprice_rules.specs.Reprice.{ready, basisNow, factoredNow, orHalts, settled, byRows, multipliers}
+use Rattle.reprice_rules.specs.Reprice.{objectiveOf, pricedFinite, pricedBy, pricedIf, priced, thenPriced, repriced}
 use Rattle.reprice_factor.specs.Mults.{costsOf, multipliersOf, Solves}
 use Rattle.reprice_factor.proofs.Laws.{costs-long, factor-solves, multipliers-are}
 use Rattle.reprice_prices.specs.Lent.{pricedOf, Prices}
@@ -40,13 +40,13 @@ use Rattle.reprice_prices.proofs.Laws.{fits-prices}
 use Rattle.reprice_store.specs.Lent.{Pricing, PricingBy, anewOf}
 
 -- ---- what the calls ask
-module _ {n : ℕ} {costs : List Float} {starts cols : List ℕ} {coeffs : List Float} {kept N : List ℕ} {D : List Float} {F : List ℕ}
-    {G : List Float} {t : Tally} (p : Pricing n costs starts cols coeffs kept N D F G t) where
+module _ {n : ℕ} {costs : List Float} {starts cols : List ℕ} {coeffs : List Float} {kept N : List ℕ} {D : List Float}
+    {F : List ℕ} {G : List Float} {t : Tally} (p : Pricing n costs starts cols coeffs kept N D F G t) where
   -- the problem of which a part is lent
   abbrev whole : Problem
   whole =
-      problem (planOf n (p .rows) (p .entries) (p .budget) (p .tolerance) costs (p .lowers) (p .uppers) starts cols coeffs (p .ops)
-      (p .rhs)) kept
+      problem (planOf n (p .rows) (p .entries) (p .budget) (p .tolerance) costs (p .lowers) (p .uppers) starts cols
+      coeffs (p .ops) (p .rhs)) kept
 
   pub transposes : Matrix (matrixOf whole) × Valued (matrixOf whole)
   transposes = (matrix-fits whole (p .problem-fits), values-fit whole (p .problem-fits))
@@ -56,8 +56,8 @@ module _ {n : ℕ} {costs : List Float} {starts cols : List ℕ} {coeffs : List 
   by-columns m long =
       record { starts = starts; cols = cols; coeffs = coeffs; pricing = p; by-columns = m; starts-long = long }
 
-module _ {n : ℕ} {costs : List Float} {kept S R : List ℕ} {X : List Float} {N : List ℕ} {D : List Float} {F : List ℕ} {G : List Float}
-    {t : Tally} (pb : PricingBy n costs kept S R X N D F G t) where
+module _ {n : ℕ} {costs : List Float} {kept S R : List ℕ} {X : List Float} {N : List ℕ} {D : List Float} {F : List ℕ}
+    {G : List Float} {t : Tally} (pb : PricingBy n costs kept S R X N D F G t) where
   abbrev p : Pricing n costs (pb .starts) (pb .cols) (pb .coeffs) kept N D F G t
   p = pb .pricing
 
@@ -75,6 +75,9 @@ module _ {n : ℕ} {costs : List Float} {kept S R : List ℕ} {X : List Float} {
 
   pub basics-long : length basics ≡ maxRows
   basics-long = section-length 0 maxRows N (omega (arith, p .sized))
+
+  pub basics-enough : length kept ≤ length basics
+  basics-enough = omega (arith, rows-most, basics-long)
 
   pub prices-asks : Prices n costs kept S R X N D
   prices-asks = fits-prices P (p .problem-fits) (p .sized) (p .state-fits) (pb .by-columns) (pb .starts-long)
@@ -112,7 +115,8 @@ module _ {n : ℕ} {costs : List Float} {kept S R : List ℕ} {X : List Float} {
   basis-asks =
       record {
         lent = λ i h. column-lent (basics # i) (p .state-fits .maps .row i h .var);
-        vector = λ i h. subst (Ordered (length kept)) (sym (columns-are (pb .starts) (pb .cols) (pb .coeffs) (pb .by-columns) i))
+        vector = λ i h.
+            subst (Ordered (length kept)) (sym (columns-are (pb .starts) (pb .cols) (pb .coeffs) (pb .by-columns) i))
             (in-order (scattered-vector P (p .problem-fits) _ (p .state-fits .maps .row i h .var)));
       }
 
@@ -125,7 +129,8 @@ module _ {n : ℕ} {costs : List Float} {kept S R : List ℕ} {X : List Float} {
     exact = factor-exact (columnsOf S R X n basics) (basis-asks .vector) rows-most q
 
     pub multipliers-long : {y : List Float}
-        → y ≡ multipliersOf (length kept) (f .number) (f .lower) (f .upper) (f .diag) (costsOf (length kept) n costs basics)
+        → y ≡ multipliersOf (length kept) (f .number) (f .lower) (f .upper) (f .diag)
+        (costsOf (length kept) n costs basics)
         → length y ≡ maxRows
     unfolding byRows
     multipliers-long e = costs-long (length kept) _ rows-most e
@@ -158,10 +163,16 @@ module _ (Q : Problem) (s : State) (f : Factor) {y : List Float} (e : y ≡ mult
       ∙ ap (λ (z : List Float). afterOwn s (pricedIf (pricedFinite Q (factoredNow s f) z) Q (factoredNow s f) z)) e
 
 -- the first start of the eta columns written, and the factor's arrays
-pub stored-state : (N : List ℕ) (D : List Float) (F : List ℕ) (G : List Float) (t : Tally) (f : Factor) {A : List ℕ} {B : List Float}
-    → A ≡ packedNumbers f F → B ≡ packedCoeffs f G
+pub stored-state : (N : List ℕ) (D : List Float) (F : List ℕ) (G : List Float) (t : Tally) (f : Factor) {A : List ℕ}
+    {B : List Float} → A ≡ packedNumbers f F → B ≡ packedCoeffs f G
     → stateIn (set N etaStartsAt 0) D A B
-    (record { «eta_count» = 0; objective = t .objective; steps = t .steps; factored = true; factorings = t .factorings })
+    (record {
+      «eta_count» = 0;
+      objective = t .objective;
+      steps = t .steps;
+      factored = true;
+      factorings = t .factorings;
+    })
     ≡ factoredNow (stateIn N D F G t) f
 stored-state N D F G t f {A} {B} ea eb =
     ap (λ (w : Workspace). stateWith w 0 (t .objective) (t .steps) (factoredOf true (t .factorings) A B))
@@ -169,22 +180,27 @@ stored-state N D F G t f {A} {B} ea eb =
     ∙ rw (ea, eb) refl
 
 module _ (Q : Problem) (s : State) (o : Outcome Factor) (q : o ≡ factorize (mOf Q) (basisNow Q s)) where
-  pub anew-wild : o ≡ notFinite → off NotFinite (s .ws) (s .factor .numbers) (s .factor .coeffs) ≡ afterOwn s (anewOf Q s)
+  pub anew-wild : o ≡ notFinite
+      → off NotFinite (s .ws) (s .factor .numbers) (s .factor .coeffs) ≡ afterOwn s (anewOf Q s)
   unfolding anewOf
   anew-wild h = rw (sym q ∙ h) refl
 
-  pub anew-flat : o ≡ singular → off Singular (s .ws) (s .factor .numbers) (s .factor .coeffs) ≡ afterOwn s (anewOf Q s)
+  pub anew-flat : o ≡ singular
+      → off Singular (s .ws) (s .factor .numbers) (s .factor .coeffs) ≡ afterOwn s (anewOf Q s)
   unfolding anewOf
   anew-flat h = rw (sym q ∙ h) refl
 
-  pub anew-on : (f : Factor) → o ≡ factored f → {l : Left} → l ≡ afterOwn s (priced Q (factoredNow s f)) → l ≡ afterOwn s (anewOf Q s)
+  pub anew-on : (f : Factor) → o ≡ factored f → {l : Left} → l ≡ afterOwn s (priced Q (factoredNow s f))
+      → l ≡ afterOwn s (anewOf Q s)
   unfolding anewOf
   anew-on f h k = rw (sym q ∙ h) k
 
 module _ (Q : Problem) (s : State) where
   abbrev by : Bool → Left
   by b =
-      afterOwn s (thenPriced Q (elim b [ true ↦ ready s | false ↦ orHalts (factorize (mOf Q) (basisNow Q s)) (factoredNow s) ]))
+      afterOwn s
+      (thenPriced Q
+      (elim b [ true ↦ ready s | false ↦ orHalts (factorize (mOf Q) (basisNow Q s)) (factoredNow s) ]))
 
   pub ends-as-it-is : s .etaCount ≡ 0 → {l : Left} → l ≡ afterOwn s (priced Q s) → l ≡ afterOwn s (repriced Q s)
   unfolding repriced settled

@@ -27,7 +27,8 @@ pub record Pricing (n : ℕ) (costs : List Float) (starts cols : List ℕ) (coef
   pub problem-fits : ProblemFits
       (problem (planOf n rows entries budget tolerance costs lowers uppers starts cols coeffs ops rhs) kept)
   pub state-fits : Fits
-      (problem (planOf n rows entries budget tolerance costs lowers uppers starts cols coeffs ops rhs) kept) (stateIn N D F G t)
+      (problem (planOf n rows entries budget tolerance costs lowers uppers starts cols coeffs ops rhs) kept)
+      (stateIn N D F G t)
 
 -- the same, of a function that is lent the problem by columns
 pub record PricingBy (n : ℕ) (costs : List Float) (kept S R : List ℕ) (X : List Float) (N : List ℕ) (D : List Float)

@@ -33,7 +33,8 @@ returns c =
     let b : tie.After-new-basis = search in
     let g = start b .args in
     c .factorize .ensures
-    ∙ ap (λ (l : List ℕ). factorize (g .m) (columnsOf (g .cstarts .now) (g .crows .now) (g .ccoeffs .now) (g .n) l)) (basis-is b)
+    ∙ ap (λ (l : List ℕ). factorize (g .m) (columnsOf (g .cstarts .now) (g .crows .now) (g .ccoeffs .now) (g .n) l))
+    (basis-is b)
 
 pub factor-now-spec : {M : Type 1} → statement M
 factor-now-spec =

@@ -24,7 +24,8 @@ returns c =
     let y : tie.After-basic-costs = search in
     let g = s .args in
     c .solve-now .ensures
-    ∙ ap (λ (l : List Float). multipliersOf (g .m) (g .number .now) (matrix (g .lstarts .now) (g .lrows .now) (g .lvals .now))
+    ∙ ap (λ (l : List Float). multipliersOf (g .m) (g .number .now)
+    (matrix (g .lstarts .now) (g .lrows .now) (g .lvals .now))
     (matrix (g .ustarts .now) (g .urows .now) (g .uvals .now)) (g .diag .now) l) (y .basic-costs .ensures)
 
 pub multipliers-now-spec : {M : Type 1} → statement M

@@ -7,19 +7,23 @@ use lib.ListN.{length}
 use lib.Ieee.{Float}
 use Rattle.lu_factor_rules.specs.Factor.{Factor, factorize}
 use Rattle.lu_factor_rules.specs.Counted.{factorIn, factorAt}
+use Rattle.lu_factor_rules.specs.declared.Ended.{Ended}
 use Rattle.rules.specs.Plan.{Problem, State}
 use Rattle.rules.specs.Parts.{rowed}
 use Rattle.basis_columns.specs.Columns.{ByColumns}
 use Rattle.state.specs.Packed.{stateIn}
 use Rattle.reprice_rules.specs.Reprice.{basisNow}
 use Rattle.reprice_prices.specs.Lent.{pricedOf}
-use Rattle.reprice_store.proofs.Laws.{rows-most, basics-long, basis-asks, factor-is, anew-wild, anew-flat, anew-on}
+use Rattle.reprice_store.proofs.Laws.{rows-most, basics-long, basis-asks, factor-is}
+use Rattle.reprice_store.proofs.Laws.{anew-wild, anew-flat, anew-on}
 use Rattle.reprice_store.proofs.anew.Statement.{statement}
 use Rattle.reprice_store.proofs.anew.Tie as tie
 
 -- the state at entry
 abbrev S : tie.Start → State
-S s = stateIn (s .args .numbers .now) (s .args .doubles .now) (s .args .factor-numbers .now) (s .args .factor-coeffs .now) (s .args .at)
+S s =
+    let a = s .args in
+    stateIn (a .numbers .now) (a .doubles .now) (a .factor-numbers .now) (a .factor-coeffs .now) (a .at)
 
 abbrev entry : tie.After-factor-now → tie.Start
 entry d = search
@@ -28,11 +32,19 @@ entry d = search
 abbrev factor : tie.After-factor-now → Factor
 factor d =
     let l = d .factor-now .last .1 .1 .1 .1 .1 .1 in
-    factorAt (length (entry d .args .kept .now)) (l .0) (l .1 .0) (l .1 .1 .0) (l .1 .1 .1 .0) (l .1 .1 .1 .1 .0) (l .1 .1 .1 .1 .1 .0) (l .1 .1 .1 .1 .1 .1 .0) (l .1 .1 .1 .1 .1 .1 .1 .0) (l .1 .1 .1 .1 .1 .1 .1 .1 .0)
+    factorAt (length (entry d .args .kept .now)) (l .0) (l .1 .0) (l .1 .1 .0) (l .1 .1 .1 .0) (l .1 .1 .1 .1 .0)
+    (l .1 .1 .1 .1 .1 .0) (l .1 .1 .1 .1 .1 .1 .0) (l .1 .1 .1 .1 .1 .1 .1 .0)
+    (l .1 .1 .1 .1 .1 .1 .1 .1 .0)
+
+-- the answer, with the arrays beside it
+told : (d : tie.After-factor-now) {r : Ended} → d .factor-now .result ≡ r
+    → factorIn (d .factor-now .result) (λ _. factor d) ≡ factorIn r (λ _. factor d)
+told d e = ap (λ r. factorIn r (λ _. factor d)) e
 
 module _ (d : tie.After-factor-now) (starts cols : List ℕ) (coeffs : List Float)
-    (m : ByColumns (rowed (entry d .args .n) starts cols coeffs (entry d .args .kept .now)) (entry d .args .cstarts .now)
-    (entry d .args .crows .now) (entry d .args .ccoeffs .now)) where
+    (m : let a = entry d .args in
+    ByColumns (rowed (a .n) starts cols coeffs (a .kept .now)) (a .cstarts .now) (a .crows .now)
+    (a .ccoeffs .now)) where
   abbrev s : tie.Start
   s = entry d
 
@@ -66,7 +78,8 @@ returns : tie.Need-returns
 returns c starts cols coeffs m =
     let d : tie.After-factor-now = search in
     let w : tie.After-enum-told = search in
-    anew-wild (Q d starts cols coeffs m) (S (entry d)) _ (ends d starts cols coeffs m) (ap (λ r. factorIn r (λ _. factor d)) (w .enum-told .given .1))
+    anew-wild (Q d starts cols coeffs m) (S (entry d)) _ (ends d starts cols coeffs m)
+    (told d (w .enum-told .given .1))
 
 enum-told-2 : tie.Need-enum-told-2
 enum-told-2 c = search needs
@@ -78,7 +91,8 @@ returns-2 : tie.Need-returns-2
 returns-2 c starts cols coeffs m =
     let d : tie.After-factor-now = search in
     let w : tie.After-enum-told2 = search in
-    anew-flat (Q d starts cols coeffs m) (S (entry d)) _ (ends d starts cols coeffs m) (ap (λ r. factorIn r (λ _. factor d)) (w .enum-told2 .given .1))
+    anew-flat (Q d starts cols coeffs m) (S (entry d)) _ (ends d starts cols coeffs m)
+    (told d (w .enum-told2 .given .1))
 
 enum-told-3 : tie.Need-enum-told-3
 enum-told-3 c = search needs
@@ -87,7 +101,7 @@ with-factor-requires : tie.Need-with-factor-requires
 with-factor-requires c κs =
     let d : tie.After-factor-now = search in
     let w : tie.After-enum-told3 = search in
-    (entry d .pre, sym (ap (λ r. factorIn r (λ _. factor d)) (w .enum-told3 .given .1)) ∙ d .factor-now .ensures)
+    (entry d .pre, sym (told d (w .enum-told3 .given .1)) ∙ d .factor-now .ensures)
 
 same-length-3 : tie.Need-same-length-3
 same-length-3 c = search needs
@@ -106,7 +120,8 @@ returns-3 c starts cols coeffs m =
     let z : tie.After-with-factor = search in
     let w : tie.After-enum-told3 = search in
     let d : tie.After-factor-now = search in
-    anew-on (Q d starts cols coeffs m) (S (entry d)) _ (ends d starts cols coeffs m) (factor d) (ap (λ r. factorIn r (λ _. factor d)) (w .enum-told3 .given .1))
+    anew-on (Q d starts cols coeffs m) (S (entry d)) _ (ends d starts cols coeffs m) (factor d)
+    (told d (w .enum-told3 .given .1))
     (z .with-factor .ensures starts cols coeffs m)
 
 pub anew-spec : {M : Type 1} → statement M

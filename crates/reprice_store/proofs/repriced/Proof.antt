@@ -1,4 +1,4 @@
--- `reprice_store::repriced` meets its contract: the matrix by columns, then the part for whether eta columns are stored.
+-- `reprice_store::repriced` meets its contract: the matrix by columns, then the part with no eta column or with some.
 -- Assumes nothing.
 use borrow.Author.Needs.{needs}
 use native.Mathlib.Omega.{arith}
@@ -15,7 +15,9 @@ abbrev Q : tie.Start → Problem
 Q s = let a = s .args in pricedOf (a .n) (a .costs .now) (a .starts .now) (a .cols .now) (a .coeffs .now) (a .kept .now)
 
 abbrev S : tie.Start → State
-S s = stateIn (s .args .numbers .now) (s .args .doubles .now) (s .args .factor-numbers .now) (s .args .factor-coeffs .now) (s .args .at)
+S s =
+    let a = s .args in
+    stateIn (a .numbers .now) (a .doubles .now) (a .factor-numbers .now) (a .factor-coeffs .now) (a .at)
 
 abbrev entry : tie.After-by-columns → tie.Start
 entry b = search
@@ -29,10 +31,12 @@ some-at r = search
 -- the same, lent by columns
 lent-by : (b : tie.After-by-columns) → let a = entry b .args in
     let l = b .by-columns .last .1 .1 .1 .1 .1 in
-    PricingBy (a .n) (a .costs .now) (a .kept .now) (l .0) (l .1 .0) (l .1 .1 .0) (a .numbers .now) (a .doubles .now) (a .factor-numbers .now) (a .factor-coeffs .now) (a .at)
+    PricingBy (a .n) (a .costs .now) (a .kept .now) (l .0) (l .1 .0) (l .1 .1 .0) (a .numbers .now) (a .doubles .now)
+    (a .factor-numbers .now) (a .factor-coeffs .now) (a .at)
 lent-by b =
     let p = entry b .pre in
-    by-columns p (b .by-columns .ensures .0) (omega (arith, b .by-columns .ensures .1, p .problem-fits .plan .columns-most))
+    by-columns p (b .by-columns .ensures .0)
+    (omega (arith, b .by-columns .ensures .1, p .problem-fits .plan .columns-most))
 
 by-columns-requires : tie.Need-by-columns-requires
 by-columns-requires c κs =

@@ -13,23 +13,27 @@ use Rattle.rules.specs.Plan.{Problem, State}
 use Rattle.rules.specs.Parts.{rowed}
 use Rattle.basis_columns.specs.Columns.{ByColumns}
 use Rattle.state.specs.Packed.{stateIn}
-use Rattle.step_refactor.specs.Left.{on}
+use Rattle.step_refactor.specs.Left.{Left, on}
 use Rattle.reprice_rules.specs.Reprice.{multipliers, factoredNow, pricedFinite, pricedIf}
 use Rattle.reprice_prices.specs.Lent.{pricedOf}
 use Rattle.reprice_prices.specs.Left.{afterOwn, ownLeft}
 use Rattle.reprice_prices.specs.declared.Own.{Own}
-use Rattle.reprice_store.proofs.Laws.{rows-most, basics-long, prices-asks, factor-asks, solves, multipliers-long, multipliers-now, with-factor, stored-state}
+use Rattle.reprice_store.proofs.Laws.{rows-most, basics-enough, prices-asks, factor-asks, solves}
+use Rattle.reprice_store.proofs.Laws.{multipliers-long, multipliers-now, with-factor, stored-state}
 use Rattle.reprice_store.proofs.with_factor.Statement.{statement}
 use Rattle.reprice_store.proofs.with_factor.Tie as tie
 
 -- the state at entry, and the factor that is lent
 abbrev S : tie.Start → State
-S s = stateIn (s .args .numbers .now) (s .args .doubles .now) (s .args .factor-numbers .now) (s .args .factor-coeffs .now) (s .args .at)
+S s =
+    let a = s .args in
+    stateIn (a .numbers .now) (a .doubles .now) (a .factor-numbers .now) (a .factor-coeffs .now) (a .at)
 
 abbrev factor : tie.Start → Factor
 factor s =
     let a = s .args in
-    factorAt (length (a .kept .now)) (a .order .now) (a .number .now) (a .lstarts .now) (a .ustarts .now) (a .diag .now) (a .lrows .now) (a .lvals .now) (a .urows .now) (a .uvals .now)
+    factorAt (length (a .kept .now)) (a .order .now) (a .number .now) (a .lstarts .now) (a .ustarts .now)
+    (a .diag .now) (a .lrows .now) (a .lvals .now) (a .urows .now) (a .uvals .now)
 
 -- the way back
 abbrev solved : tie.After-priced → tie.After-multipliers-now
@@ -45,8 +49,9 @@ abbrev E : tie.After-priced → List Float
 E q = q .priced .last .1 .0
 
 module _ (q : tie.After-priced) (starts cols : List ℕ) (coeffs : List Float)
-    (m : ByColumns (rowed (entry (solved q) .args .n) starts cols coeffs (entry (solved q) .args .kept .now)) (entry (solved q) .args .cstarts .now)
-    (entry (solved q) .args .crows .now) (entry (solved q) .args .ccoeffs .now)) where
+    (m : let a = entry (solved q) .args in
+    ByColumns (rowed (a .n) starts cols coeffs (a .kept .now)) (a .cstarts .now) (a .crows .now)
+    (a .ccoeffs .now)) where
   abbrev s : tie.Start
   s = entry (solved q)
 
@@ -56,10 +61,14 @@ module _ (q : tie.After-priced) (starts cols : List ℕ) (coeffs : List Float)
   mults : Y (solved q) ≡ multipliers Q (factoredNow (S s) (factor s))
   mults = solved q .multipliers-now .ensures ∙ multipliers-now (s .pre .0) (s .pre .1) starts cols coeffs
 
-  left : (r : Own) → q .priced .result ≡ r → ownLeft r (s .args .numbers .now) (E q) (s .args .factor-numbers .now) (s .args .factor-coeffs .now)
+  -- what is told, with the arrays as the pricing leaves them
+  abbrev leaves : Own → Left
+  leaves r = let a = s .args in ownLeft r (a .numbers .now) (E q) (a .factor-numbers .now) (a .factor-coeffs .now)
+
+  left : (r : Own) → q .priced .result ≡ r → leaves r
       ≡ afterOwn (S s) (pricedIf (pricedFinite Q (S s) (Y (solved q))) Q (S s) (Y (solved q)))
   left r e =
-      ap (λ (w : Own). ownLeft w (s .args .numbers .now) (E q) (s .args .factor-numbers .now) (s .args .factor-coeffs .now)) (sym e)
+      ap leaves (sym e)
       ∙ q .priced .ensures starts cols coeffs m (s .args .factor-numbers .now) (s .args .factor-coeffs .now)
 
 sub-multipliers-now : tie.Need-sub-multipliers-now
@@ -75,7 +84,7 @@ multipliers-now-requires : tie.Need-multipliers-now-requires
 multipliers-now-requires c κs =
     let s : tie.Start = search in
     let pb = s .pre .0 in
-    ((rows-most pb, pb .pricing .problem-fits .plan .costs-long, omega (arith, rows-most pb, basics-long pb), refl), solves pb (s .pre .1))
+    ((rows-most pb, pb .pricing .problem-fits .plan .costs-long, basics-enough pb, refl), solves pb (s .pre .1))
 
 priced-requires : tie.Need-priced-requires
 priced-requires c κs =
@@ -97,7 +106,8 @@ returns c starts cols coeffs m =
     let w : tie.After-own = search in
     let q : tie.After-priced = search in
     let s = entry (solved q) in
-    with-factor (Q q starts cols coeffs m) (S s) (factor s) (mults q starts cols coeffs m) (left q starts cols coeffs m _ (w .own .given .1))
+    with-factor (Q q starts cols coeffs m) (S s) (factor s) (mults q starts cols coeffs m)
+    (left q starts cols coeffs m _ (w .own .given .1))
 
 enum-known-own-2 : tie.Need-enum-known-own-2
 enum-known-own-2 c = search needs
@@ -133,9 +143,11 @@ returns-2 c starts cols coeffs m =
     let w : tie.After-own2 = search in
     let q : tie.After-priced = search in
     let s = entry (solved q) in
-    ap on (stored-state (s .args .numbers .now) (E q) (s .args .factor-numbers .now) (s .args .factor-coeffs .now) (w .own2 .given .0 .0) (factor s)
-    (z .store .ensures .0) (z .store .ensures .1))
-    ∙ with-factor (Q q starts cols coeffs m) (S s) (factor s) (mults q starts cols coeffs m) (left q starts cols coeffs m _ (w .own2 .given .1))
+    let a = s .args in
+    ap on (stored-state (a .numbers .now) (E q) (a .factor-numbers .now) (a .factor-coeffs .now) (w .own2 .given .0 .0)
+    (factor s) (z .store .ensures .0) (z .store .ensures .1))
+    ∙ with-factor (Q q starts cols coeffs m) (S s) (factor s) (mults q starts cols coeffs m)
+    (left q starts cols coeffs m _ (w .own2 .given .1))
 
 pub with-factor-spec : {M : Type 1} → statement M
 with-factor-spec =
