@@ -2,15 +2,14 @@
 //!
 //! calls [--seed N] [--count | --require | --fixed]
 //!
-//! Writes the plans with their calls in the exchange text, but for repricings, which the library hasn't.
-//! With --count it makes the calls and prints what they reach; with --require it checks these counts and
-//! ends with `N passed, M failed`; with --fixed it writes only the plans of the fixed list.
+//! Writes the plans with their calls in the exchange text. With --count it makes the calls and prints what
+//! they reach; with --require it checks these counts and ends with `N passed, M failed`; with --fixed it
+//! writes only the plans of the fixed list.
 
 use std::process::ExitCode;
 
 use oracle::call_families::{self, Fixed, Survey};
 use oracle::listing::{self, Mode};
-use oracle::plan::{Call, Plan};
 use oracle::survey::met;
 
 fn main() -> ExitCode {
@@ -23,7 +22,7 @@ fn run() -> Result<bool, String> {
         let mut short = Fixed::default();
         return listing::write(
             |take| call_families::make(seed, take),
-            |plan| !is_repriced(plan) && (mode == Mode::Write || short.takes(plan)),
+            |plan| mode == Mode::Write || short.takes(plan),
         );
     }
 
@@ -35,9 +34,4 @@ fn run() -> Result<bool, String> {
     }
 
     Ok(met(&survey.targets()))
-}
-
-fn is_repriced(plan: &Plan) -> bool {
-    let mut calls = plan.calls.iter();
-    calls.any(|call| matches!(call, Call::Reprice { .. }))
 }
