@@ -2,12 +2,8 @@
 -- those of the state that has the factor stored. No contract cites this file. Assumes nothing.
 use mathlib.Core.Path.{_≡_, refl, sym, ap, subst, _∙_}
 use mathlib.Core.List.{List}
-use Prim.Native.Nat.{ℕ, _≤_}
-use native.Mathlib.Omega.{arith}
-use lib.ListN.{length, replicate, length-replicate}
+use Prim.Native.Nat.{ℕ}
 use lib.Ieee.{Float}
-use Rattle.doubles.specs.Num.{f0}
-use Rattle.doubles.specs.Limits.{maxRows}
 use Rattle.lu_factor_rules.specs.Factor.{Factor, Matrix}
 use Rattle.lu_factor_rules.specs.Transpose.{transpose}
 use Rattle.lu_factor_rules.specs.Packed.{numberIn, packedNumbers, packedCoeffs}
@@ -17,10 +13,9 @@ use Rattle.lu_factor_rules.proofs.Packed.{number-back, diag-back, lowerT-back, 
 use Rattle.lu_apply.specs.Ask.{Solid}
 use Rattle.lu_apply.proofs.Factors.{lower-read, upper-read, solid-factor, solid-transposed}
 use Rattle.rules.specs.Plan.{Problem, State, nOf, mOf}
-use Rattle.rules.proofs.Lists.{over-long}
-use Rattle.reprice_rules.specs.Reprice.{costOf, cellsOf, byRows, basicCosts, multipliers, factoredNow}
+use Rattle.reprice_rules.specs.Reprice.{costOf, byRows, basicCosts, multipliers, factoredNow}
 use Rattle.reprice_numbers.specs.Lent.{denseBoth}
-use Rattle.reprice_numbers.proofs.Laws.{both-is}
+use Rattle.reprice_numbers.proofs.Laws.{both-is, solid-mapped}
 use Rattle.reprice_factor.specs.Mults.{costsOf, multipliersOf, Solves}
 
 -- ---- transposes that were made
@@ -36,29 +31,13 @@ pub solved-same : (m : ℕ) (y : List Float) {a b : List ℕ} {u v l k : Matrix}
     → u ≡ v → l ≡ k → d ≡ e → byRows m a (denseBoth m u l d y) ≡ byRows m b (denseBoth m v k e y)
 solved-same m y p q r t = rw (p, q, r, t) refl
 
--- cells over fresh ones are as many
-pub costs-long : (m : ℕ) (f : ℕ → Float) {y : List Float} → m ≤ maxRows → y ≡ cellsOf m f → length y ≡ maxRows
-costs-long m f h q =
-    let e : length (replicate maxRows f0) ≡ maxRows = length-replicate maxRows f0 in
-    ap length q ∙ over-long m f (replicate maxRows f0) (omega (arith, e)) ∙ e
-
 -- ---- every factor can be solved with so
 pub factor-solves : {m : ℕ} {f : Factor} → IsFactor m f → Solves m (f .number) (f .lower) (f .upper) (f .diag)
 factor-solves x =
-    let s = solid-factor x in
-    let t = solid-transposed x in
     record {
       lower-read = lower-read x;
       upper-read = upper-read x;
-      solid = record {
-        map-long = s .map-long;
-        leads = s .leads;
-        lower-columns = t .lower-columns;
-        upper-columns = t .upper-columns;
-        lower-vals = t .lower-vals;
-        upper-vals = t .upper-vals;
-        diag-long = t .diag-long;
-      };
+      solid = solid-mapped (solid-factor x) (solid-transposed x);
     }
 
 -- ---- the multipliers are those of the state with the factor in its arrays

@@ -6,13 +6,13 @@ use mathlib.Core.List.{List}
 use Prim.Native.Nat.{ℕ, _+_, _-_, _<_, _≤_}
 use native.Mathlib.Omega.{arith}
 use lib.Dec.{ltb}
-use lib.ListN.{length}
+use lib.ListN.{length, replicate, length-replicate}
 use lib.Ieee.{Float}
 use borrow.Author.Tests.{ltb-true}
 use Rattle.doubles.specs.Num.{_⊖_, f0}
 use Rattle.doubles.specs.Limits.{maxRows}
-use Rattle.doubles.specs.Loop.{run, each}
-use Rattle.doubles.specs.Lists.{_#_, part}
+use Rattle.doubles.specs.Loop.{run, each, table}
+use Rattle.doubles.specs.Lists.{_#_, part, over}
 use Rattle.sparse.specs.Scattered.{dot, dotTurn, Within}
 use Rattle.lu_solve.specs.Solve.{Numbers}
 use Rattle.lu_factor_rules.specs.Factor.{Matrix}
@@ -20,7 +20,7 @@ use Rattle.lu_factor_rules.specs.Packed.{lowerTIn, upperTIn, diagIn}
 use Rattle.lu_factor_rules.specs.Solves.{triOf}
 use Rattle.lu_apply.specs.Ask.{Solid}
 use Rattle.rules.specs.Plan.{Problem, nOf, column}
-use Rattle.rules.proofs.Lists.{part-long, part-at}
+use Rattle.rules.proofs.Lists.{part-long, part-at, over-long}
 use Rattle.basis_columns.specs.Columns.{ByColumns}
 use Rattle.basis_columns.proofs.Callers.{column-each, rows-size}
 use Rattle.reprice_rules.specs.Reprice.{costOf, denseTransp, priceTurn, priceOf}
@@ -82,6 +82,24 @@ module _ (S R : List ℕ) (X : List Float) (P : Problem) (g : ByColumns P S R X)
 pub both-is : (m : ℕ) (N : List ℕ) (D y : List Float) → denseBoth m (upperTIn N D) (lowerTIn N D) (diagIn D) y ≡ denseTransp m N D y
 unfolding denseTransp
 both-is m N D y = refl
+
+-- the map of one half of a factor with the triangles of the other: the pivot numbers with the transposes
+pub solid-mapped : {m : ℕ} {a b : List ℕ} {l u v w : Matrix} {d : List Float} → Solid m a l u d → Solid m b v w d
+    → Solid m a v w d
+solid-mapped s t =
+    record {
+      map-long = s .map-long;
+      leads = s .leads;
+      lower-columns = t .lower-columns;
+      upper-columns = t .upper-columns;
+      lower-vals = t .lower-vals;
+      upper-vals = t .upper-vals;
+      diag-long = t .diag-long;
+    }
+
+-- a scratch of k cells, its front written over
+pub scratch-long : (n k : ℕ) (f : ℕ → Float) → n ≤ k → length (over (table n f) (replicate k f0)) ≡ k
+scratch-long n k f h = let r = length-replicate k f0 in over-long n f (replicate k f0) (omega (arith, r)) ∙ r
 
 module _ (m : ℕ) (at : List ℕ) (lower upper : Matrix) (diag : List Float) (s : Solid m at lower upper diag) (y : List Float) (long : m ≤ length y) where
   pub dense-first : Numbers (triOf true m lower true diag) y

@@ -4,7 +4,7 @@ use mathlib.Core.Bool.{Bool, true, false, _&&_}
 use mathlib.Core.List.{List, []}
 use Prim.Native.Nat.{ℕ, _+_, _<_, _≤_}
 use native.Mathlib.Omega.{arith}
-use lib.ListN.{length, replicate, length-replicate}
+use lib.ListN.{length, replicate}
 use lib.Ieee.{Float, nan}
 use borrow.Rule.Slice.PartMut.{putMid}
 use Rattle.doubles.specs.Num.{f0, finite}
@@ -19,7 +19,7 @@ use Rattle.rules.specs.Plan.{Problem, Workspace, State, Factored, nOf, column}
 use Rattle.rules.specs.Parts.{rowed, stateWith}
 use Rattle.rules.specs.Invariant.{FactorFits, ProblemFits, Fits}
 use Rattle.rules.specs.declared.Stop.the-variants.{NotFinite}
-use Rattle.rules.proofs.Lists.{over-long, over-at}
+use Rattle.rules.proofs.Lists.{over-at}
 use Rattle.basis_columns.specs.Columns.{ByColumns}
 use Rattle.basis_columns.proofs.Callers.{matrixOf, columns-part}
 use Rattle.state.specs.Packed.{section, packed, stateIn, Sized, basicVarsAt, nbVarsAt, pricesAt}
@@ -29,7 +29,7 @@ use Rattle.state.proofs.Moves.{as-lent, in-prices}
 use Rattle.step_refactor.specs.Left.{on, off}
 use Rattle.reprice_rules.specs.Reprice.{costOf, basicCosts, denseTransp, byRows, multipliersBy, multipliers, priceAt, objectiveOf, pricedFinite, pricedBy, pricedIf, priced}
 use Rattle.reprice_numbers.specs.Lent.{costed, valued, denseBoth, priceOn, SumLent, SumsLent}
-use Rattle.reprice_numbers.proofs.Laws.{price-is, both-is}
+use Rattle.reprice_numbers.proofs.Laws.{price-is, both-is, solid-mapped, scratch-long}
 use Rattle.reprice_prices.specs.Lent.{pricedOf, Prices}
 use Rattle.reprice_prices.specs.Left.{afterOwn}
 
@@ -54,26 +54,11 @@ fits-prices P f z s m long =
 
 -- ---- the multipliers
 
--- a scratch of k cells, its front written over
-pub scratch-long : (n k : ℕ) (f : ℕ → Float) → n ≤ k → length (over (table n f) (replicate k f0)) ≡ k
-scratch-long n k f h = let r = length-replicate k f0 in over-long n f (replicate k f0) (omega (arith, r)) ∙ r
-
 -- the pivot numbers with the transposes, as a dense solve asks: each half of a factor that fits
 pub dense-solid : (m : ℕ) (F : Factored) → FactorFits m F → F .there ≡ true
     → Solid m (numberIn (F .numbers)) (upperTIn (F .numbers) (F .coeffs)) (lowerTIn (F .numbers) (F .coeffs))
     (diagIn (F .coeffs))
-dense-solid m F f e =
-    let a = f .solid e in
-    let b = f .solid-transposed e in
-    record {
-      map-long = a .map-long;
-      leads = a .leads;
-      lower-columns = b .lower-columns;
-      upper-columns = b .upper-columns;
-      lower-vals = b .lower-vals;
-      upper-vals = b .upper-vals;
-      diag-long = b .diag-long;
-    }
+dense-solid m F f e = solid-mapped (f .solid e) (f .solid-transposed e)
 
 module _ (n : ℕ) (costs : List Float) (kept vars F : List ℕ) (G : List Float) where
   abbrev from : List Float → List Float

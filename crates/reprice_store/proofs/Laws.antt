@@ -32,8 +32,9 @@ use Rattle.state.proofs.Moves.{as-lent, in-etaStarts}
 use Rattle.step_refactor.specs.Left.{Left, on, off}
 use Rattle.reprice_rules.specs.Reprice.{ready, basisNow, factoredNow, orHalts, settled, byRows, multipliers}
 use Rattle.reprice_rules.specs.Reprice.{objectiveOf, pricedFinite, pricedBy, pricedIf, priced, thenPriced, repriced}
+use Rattle.reprice_numbers.proofs.Laws.{scratch-long}
 use Rattle.reprice_factor.specs.Mults.{costsOf, multipliersOf, Solves}
-use Rattle.reprice_factor.proofs.Laws.{costs-long, factor-solves, multipliers-are}
+use Rattle.reprice_factor.proofs.Laws.{factor-solves, multipliers-are}
 use Rattle.reprice_prices.specs.Lent.{pricedOf, Prices}
 use Rattle.reprice_prices.specs.Left.{afterOwn}
 use Rattle.reprice_prices.proofs.Laws.{fits-prices}
@@ -133,7 +134,7 @@ module _ {n : ℕ} {costs : List Float} {kept S R : List ℕ} {X : List Float} {
         (costsOf (length kept) n costs basics)
         → length y ≡ maxRows
     unfolding byRows
-    multipliers-long e = costs-long (length kept) _ rows-most e
+    multipliers-long e = ap length e ∙ scratch-long (length kept) maxRows _ rows-most
 
     pub multipliers-now : (starts cols : List ℕ) (coeffs : List Float)
         → multipliersOf (length kept) (f .number) (f .lower) (f .upper) (f .diag) (costsOf (length kept) n costs basics)

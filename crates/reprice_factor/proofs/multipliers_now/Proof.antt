@@ -2,10 +2,12 @@
 use borrow.Author.Needs.{needs}
 use mathlib.Core.Path.{ap, _∙_}
 use mathlib.Core.List.{List}
+use lib.ListN.{length}
 use lib.Ieee.{Float}
+use Rattle.doubles.specs.Limits.{maxRows}
 use Rattle.lu_factor_rules.specs.Factor.{matrix}
+use Rattle.reprice_numbers.proofs.Laws.{scratch-long}
 use Rattle.reprice_factor.specs.Mults.{multipliersOf}
-use Rattle.reprice_factor.proofs.Laws.{costs-long}
 use Rattle.reprice_factor.proofs.multipliers_now.Statement.{statement}
 use Rattle.reprice_factor.proofs.multipliers_now.Tie as tie
 
@@ -16,7 +18,8 @@ solve-now-requires : tie.Need-solve-now-requires
 solve-now-requires c κs =
     let s : tie.Start = search in
     let y : tie.After-basic-costs = search in
-    ((costs-long (s .args .m) _ (s .pre .0 .0) (y .basic-costs .ensures), s .pre .0 .3), s .pre .1)
+    let long = ap length (y .basic-costs .ensures) ∙ scratch-long (s .args .m) maxRows _ (s .pre .0 .0) in
+    ((long, s .pre .0 .3), s .pre .1)
 
 returns : tie.Need-returns
 returns c =

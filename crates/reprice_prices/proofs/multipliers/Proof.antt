@@ -7,7 +7,8 @@ use borrow.Author.Tests.{not-true, not-false}
 use Rattle.doubles.specs.Num.{f0}
 use Rattle.doubles.specs.Limits.{maxRows}
 use Rattle.rules.specs.Parts.{factoredOf}
-use Rattle.reprice_prices.proofs.Laws.{scratch-long, dense-solid, bare-is, solved-is}
+use Rattle.reprice_numbers.proofs.Laws.{scratch-long}
+use Rattle.reprice_prices.proofs.Laws.{dense-solid, bare-is, solved-is}
 use borrow.Author.Needs.{needs}
 use Rattle.reprice_prices.proofs.multipliers.Statement.{statement}
 use Rattle.reprice_prices.proofs.multipliers.Tie as tie

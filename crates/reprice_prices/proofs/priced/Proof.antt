@@ -7,7 +7,8 @@ use lib.ListN.{length}
 use lib.Ieee.{Float}
 use borrow.Author.Tests.{not-true, not-false}
 use Rattle.doubles.specs.Limits.{maxColumns}
-use Rattle.reprice_prices.proofs.Laws.{scratch-long, places-long, sums-lent, ends-wild, ends-priced}
+use Rattle.reprice_numbers.proofs.Laws.{scratch-long}
+use Rattle.reprice_prices.proofs.Laws.{places-long, sums-lent, ends-wild, ends-priced}
 use borrow.Author.Needs.{needs}
 use Rattle.reprice_prices.proofs.priced.Statement.{statement}
 use Rattle.reprice_prices.proofs.priced.Tie as tie
