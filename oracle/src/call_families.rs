@@ -19,6 +19,7 @@ mod reprices;
 
 use damage::{Poke, CAUSES, DIAG, INVERSE, L_ROWS, L_STARTS, U_COEFFS, U_ROWS, U_STARTS};
 pub use reach::{Fixed, Survey};
+pub use reprices::solved_by;
 
 /// How many plans of which family of plans are taken, and how their calls are drawn.
 struct Family {

@@ -5,7 +5,7 @@ use super::{DIAG, U_COEFFS};
 use crate::answer::Outcome;
 use crate::gate::Session;
 use crate::limits;
-use crate::plan::{Call, Lent};
+use crate::plan::{Call, Lent, Plan};
 use crate::rng::Rng;
 use crate::shown::Options;
 
@@ -203,6 +203,41 @@ pub(super) fn refused(rng: &mut Rng, list: &mut List) {
         list.push(Call::Reprice { cost });
     }
     reprice(rng, list);
+}
+
+/// The plans that the repricings of a list solve, as a caller would say them from the start: with the new
+/// costs, and no other value for a column that is held still. None of them where a cell was written between.
+pub fn solved_by(plan: &Plan) -> Vec<Plan> {
+    if plan
+        .calls
+        .iter()
+        .any(|call| matches!(call, Call::Poke { .. }))
+    {
+        return vec![];
+    }
+    let mut session = Session::new(plan, Options::default());
+    session.solve();
+    let mut solved = vec![];
+    for (k, call) in plan.calls.iter().enumerate() {
+        if let (Call::Reprice { cost }, Some(state)) = (call, session.left()) {
+            let mut one = Plan {
+                id: format!("{}/{}", plan.id, k + 1),
+                cost: cost.clone(),
+                any: true,
+                calls: vec![],
+                ..plan.clone()
+            };
+            for (place, &var) in state.nonbasic.iter().enumerate() {
+                if state.flags[place] == 7 && var < one.lower.len() {
+                    one.lower[var] = state.nval[place];
+                    one.upper[var] = state.nval[place];
+                }
+            }
+            solved.push(one);
+        }
+        session.call(call);
+    }
+    solved
 }
 
 /// Calls after a solve from any start.

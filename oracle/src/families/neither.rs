@@ -245,7 +245,6 @@ pub(super) fn neither(rng: &mut Rng, sink: &mut Sink) {
         search(count, sink, draw, |answer| ends(answer, way, number));
     }
     search(300, sink, || tied(rng), |_| true);
-    search(200, sink, || just_outside(rng), |_| true);
     stopped(rng, sink);
 }
 
@@ -304,7 +303,8 @@ const DIRECT: [(&str, usize); 13] = [
     ("huge", 20),
 ];
 
-/// Plans of other families, asked for from any start; and drafts with dual steps.
+/// Plans of other families, asked for from any start; drafts with dual steps; and starts that are outside by
+/// about EPS.
 pub(super) fn from_any(rng: &mut Rng, sink: &mut Sink) {
     for (family, every) in DIRECT {
         let mut seen = 0;
@@ -323,6 +323,7 @@ pub(super) fn from_any(rng: &mut Rng, sink: &mut Sink) {
         let named = [Named::Norm, Named::DualNorm, Named::Row, Named::Price][index % 4];
         sink.plan(any(&dual_growth::draft(rng, named)));
     }
+    search(200, sink, || just_outside(rng), |_| true);
     let mut found = 0;
     while found < 10 {
         let plan = any(&far_apart(rng));
