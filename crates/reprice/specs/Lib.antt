@@ -1,1 +1,1 @@
--- The end of a repricing is that of a call whose run has counted its own factorings too.
+-- None: the call is reprice_rules:Calls.

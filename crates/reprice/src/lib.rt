@@ -6,77 +6,7 @@ ghost use Rattle.state.specs.Memory.{memoryIn, pastOf};
 ghost use Rattle.fix_ends.specs.Ends.{handedCall, calledBy};
 ghost use Rattle.reprice_rules.specs.Calls.{repricePlan};
 
-// Where the run that follows the own part ends, with the own factoring counted: it is closed as a fix is.
-fn gone_on(
-    numbers: &mut [usize],
-    doubles: &mut [f64],
-    factor_numbers: &mut [usize],
-    factor_coeffs: &mut [f64],
-    at: state::Tally,
-    n: usize,
-    budget: usize,
-    costs: &[f64],
-    lowers: &[f64],
-    uppers: &[f64],
-    starts: &[usize],
-    cols: &[usize],
-    coeffs: &[f64],
-    ops: &[u8],
-    kept: &[usize],
-) -> run::Ran {
-    let own = reprice_store::repriced(
-        numbers,
-        doubles,
-        factor_numbers,
-        factor_coeffs,
-        at,
-        n,
-        costs,
-        starts,
-        cols,
-        coeffs,
-        kept,
-    );
-    match own {
-        reprice_store::Own::Halts(why) => {
-            return run::Ran { why, at };
-        }
-        reprice_store::Own::Goes(t) => {
-            let ran = run_launch::go_on(
-                numbers,
-                doubles,
-                factor_numbers,
-                factor_coeffs,
-                t,
-                n,
-                budget,
-                lowers,
-                uppers,
-                starts,
-                cols,
-                coeffs,
-                ops,
-                kept,
-                false,
-            );
-            if at.eta_count == 0 {
-                return ran;
-            }
-            let last = ran.at;
-            return run::Ran {
-                why: ran.why,
-                at: state::Tally {
-                    eta_count: last.eta_count,
-                    objective: last.objective,
-                    steps: last.steps,
-                    factored: last.factored,
-                    factorings: last.factorings + 1,
-                },
-            };
-        }
-    }
-}
-
+// The kept basis is priced with the costs of the plan that is lent: refused, or priced, and the run goes on.
 pub fn reprice(
     columns: usize,
     rows: usize,
@@ -105,7 +35,7 @@ pub fn reprice(
         (now («factor_numbers» .entry)) (now («factor_coeffs» .entry))))
         (pastOf (now (numbers .entry)) (now (doubles .entry))) ⌝ }
 {
-    let refusal = start_gate::refusal(
+    let refusal = fix_gate::kept_refusal(
         columns,
         rows,
         entries,
@@ -125,24 +55,13 @@ pub fn reprice(
         factor_numbers,
         factor_coeffs,
     );
-    if let plan::Refusal::By(answer) = refusal {
-        return fix_rules::FixAnswer::Told(answer);
-    }
-    if !fix_kept::passes_41(
-        columns,
-        rows,
-        starts,
-        numbers,
-        doubles,
-        factor_numbers,
-        factor_coeffs,
-    ) {
-        return fix_rules::FixAnswer::NotKept;
+    if let fix_gate::Refusal::By(answer) = refusal {
+        return answer;
     }
     let mut kept = [0usize; doubles::MAX_ROWS];
     let m = plan::keep_rows(rows, starts, &mut kept);
     let at = fix_ends::take_up(m, numbers, doubles, factor_numbers, factor_coeffs);
-    let ran = gone_on(
+    let ran = reprice_run::gone_on(
         &mut numbers[..state::KEPT],
         &mut doubles[..state::OBJECTIVE],
         factor_numbers,
