@@ -146,30 +146,36 @@ static inline void tev_entry(TevPlan *plan, size_t column, double coeff) {
     }
 }
 
+/* What every call over a plan and the memory of a run is lent. */
+#define TEV_LENT(plan, work) \
+    (plan)->columns, (plan)->rows, (plan)->entries, (plan)->budget, (plan)->tolerance, TEV_ARRAY((plan)->costs), \
+        TEV_ARRAY((plan)->lowers), TEV_ARRAY((plan)->uppers), TEV_ARRAY((plan)->starts), TEV_ARRAY((plan)->cols), \
+        TEV_ARRAY((plan)->coeffs), TEV_ARRAY((plan)->ops), TEV_ARRAY((plan)->rhs), TEV_ARRAY((work)->values), \
+        TEV_STATE(work), TEV_ARRAY((work)->factor_numbers), TEV_ARRAY((work)->factor_coeffs)
+
 /* On status 0 work->values has the columns' values, then the kept rows' slacks. */
 static inline TevalumiAnswer tev_solve(const TevPlan *plan, TevWork *work) {
-    return tevalumi_solve(plan->columns, plan->rows, plan->entries, plan->budget, plan->tolerance,
-        TEV_ARRAY(plan->costs), TEV_ARRAY(plan->lowers), TEV_ARRAY(plan->uppers), TEV_ARRAY(plan->starts),
-        TEV_ARRAY(plan->cols), TEV_ARRAY(plan->coeffs), TEV_ARRAY(plan->ops), TEV_ARRAY(plan->rhs),
-        TEV_ARRAY(work->values), TEV_STATE(work), TEV_ARRAY(work->factor_numbers), TEV_ARRAY(work->factor_coeffs));
+    return tevalumi_solve(TEV_LENT(plan, work));
+}
+
+/* From any start: where tev_solve answers 7, first with costs 0, then with the plan's own. */
+static inline TevalumiAnyAnswer tev_solve_any(const TevPlan *plan, TevWork *work) {
+    return tevalumi_solve_any(TEV_LENT(plan, work));
+}
+
+/* The solved plan's costs have changed: goes on from what work holds. */
+static inline TevalumiAnswer tev_reprice(const TevPlan *plan, TevWork *work) {
+    return tevalumi_reprice(TEV_LENT(plan, work));
 }
 
 /* Holds a column of the solved plan still, and goes on from what work holds. */
 static inline TevalumiAnswer tev_fix(const TevPlan *plan, TevWork *work, size_t column, double value) {
-    return tevalumi_fix(plan->columns, plan->rows, plan->entries, plan->budget, plan->tolerance,
-        TEV_ARRAY(plan->costs), TEV_ARRAY(plan->lowers), TEV_ARRAY(plan->uppers), TEV_ARRAY(plan->starts),
-        TEV_ARRAY(plan->cols), TEV_ARRAY(plan->coeffs), TEV_ARRAY(plan->ops), TEV_ARRAY(plan->rhs),
-        TEV_ARRAY(work->values), TEV_STATE(work), TEV_ARRAY(work->factor_numbers), TEV_ARRAY(work->factor_coeffs),
-        column, value);
+    return tevalumi_fix(TEV_LENT(plan, work), column, value);
 }
 
 /* Lets it go. */
 static inline TevalumiAnswer tev_unfix(const TevPlan *plan, TevWork *work, size_t column) {
-    return tevalumi_unfix(plan->columns, plan->rows, plan->entries, plan->budget, plan->tolerance,
-        TEV_ARRAY(plan->costs), TEV_ARRAY(plan->lowers), TEV_ARRAY(plan->uppers), TEV_ARRAY(plan->starts),
-        TEV_ARRAY(plan->cols), TEV_ARRAY(plan->coeffs), TEV_ARRAY(plan->ops), TEV_ARRAY(plan->rhs),
-        TEV_ARRAY(work->values), TEV_STATE(work), TEV_ARRAY(work->factor_numbers), TEV_ARRAY(work->factor_coeffs),
-        column);
+    return tevalumi_unfix(TEV_LENT(plan, work), column);
 }
 
 /* ---- The audit sheet of a plan ---- */

@@ -188,6 +188,65 @@ TevalumiAnswer tevalumi_unfix(
     double *factor_coeffs, size_t factor_coeffs_len,
     size_t column);
 
+/* ---- Other costs ----
+ * A call over a plan and the memory that the last call left, where only the costs have changed since: it works
+ * the prices out anew and goes on from there, mostly in a few steps. That rows and bounds are the same isn't
+ * tested: with others the values are still the kept ones. A held column stays where it is.
+ *
+ * status  as of tevalumi_solve, without 6, 7 and 26; and refused: 41 as of tevalumi_fix. 23 and 25 are also
+ *         given where the basis can't be priced: the state is then the one before the call, but for the status
+ * steps   of this call, at most the budget
+ * A call that doesn't end in 0 leaves memory that later ones refuse with 41, until a solve ends in 0. */
+TevalumiAnswer tevalumi_reprice(
+    size_t columns, size_t rows, size_t entries, size_t budget, double tolerance,
+    const double *costs, size_t costs_len,
+    const double *lowers, size_t lowers_len,
+    const double *uppers, size_t uppers_len,
+    const size_t *starts, size_t starts_len,
+    const size_t *cols, size_t cols_len,
+    const double *coeffs, size_t coeffs_len,
+    const uint8_t *ops, size_t ops_len,
+    const double *rhs, size_t rhs_len,
+    double *values, size_t values_len,
+    size_t *numbers, size_t numbers_len,
+    double *doubles, size_t doubles_len,
+    size_t *factor_numbers, size_t factor_numbers_len,
+    double *factor_coeffs, size_t factor_coeffs_len);
+
+/* ---- From any start ----
+ * tevalumi_solve; on 7, tevalumi_solve with every cost 0, which never refuses with 7; and where that ends in 0,
+ * tevalumi_reprice with the plan's own costs over what it left.
+ *
+ * answer          that of the last of these calls, never 7
+ * way             0 tevalumi_solve answered
+ *                 1 it refused with 7, and the run with costs 0 didn't end in 0: its answer and what it left, the
+ *                   objective that of costs 0
+ *                 2 it refused with 7, the run with costs 0 ended in 0, and the plan's own costs followed: with 20
+ *                   to 25 the values are those of the run with costs 0
+ * costless_steps  of the run with costs 0, at most the budget; 0 with way 0. With way 2 answer.steps are those
+ *                 after it, at most the budget too */
+typedef struct {
+    TevalumiAnswer answer;
+    size_t way;
+    size_t costless_steps;
+} TevalumiAnyAnswer;
+
+TevalumiAnyAnswer tevalumi_solve_any(
+    size_t columns, size_t rows, size_t entries, size_t budget, double tolerance,
+    const double *costs, size_t costs_len,
+    const double *lowers, size_t lowers_len,
+    const double *uppers, size_t uppers_len,
+    const size_t *starts, size_t starts_len,
+    const size_t *cols, size_t cols_len,
+    const double *coeffs, size_t coeffs_len,
+    const uint8_t *ops, size_t ops_len,
+    const double *rhs, size_t rhs_len,
+    double *values, size_t values_len,
+    size_t *numbers, size_t numbers_len,
+    double *doubles, size_t doubles_len,
+    size_t *factor_numbers, size_t factor_numbers_len,
+    double *factor_coeffs, size_t factor_coeffs_len);
+
 /* ---- Triangles ----
  * Solves a triangle that is stored by columns, or two of them, one after the other.
  *

@@ -123,8 +123,25 @@ class Problems(unittest.TestCase):
         self.assertIn("1e-8", error.sentence)
 
     def test_a_start_that_neither_kind_of_step_begins_at(self):
-        error = self.raises(7, Problem.of([-1], [[1]], [">="], [1]).solve)
+        problem = Problem.of([-1, 1], [[1, 1], [1, 1]], [">=", "<="], [2, 5])
+        solution = problem.solve()
+        self.assertEqual((solution.objective, solution.values), (-5.0, [5.0, 0.0]))
+        self.assertEqual((solution.steps, solution.costless_steps), (1, 1))
+        problem.plain = True
+        error = self.raises(7, problem.solve)
         self.assertIn("a column has no bound on the side that its cost prefers", error.sentence)
+        self.assertIsNone(error.costless_steps)
+        error = self.raises(20, Problem.of([-1], [[1]], [">="], [1]).solve)
+        self.assertEqual((error.steps, error.costless_steps), (0, 1))
+
+    def test_other_costs_from_a_solution_on(self):
+        solution = tevalumi.solve([-3, -1], [[1, 1]], ["<="], [4], uppers=[math.inf, 2])
+        other = solution.with_costs([-3, -5])
+        self.assertEqual((other.objective, other.values, other.costless_steps), (-16.0, [2.0, 2.0], None))
+        self.assertEqual((solution.values, other.problem.costs), ([4.0, 0.0], [-3.0, -5.0]))
+        self.assertEqual(other.fix(0, 1).with_costs([0, 1]).values, [1.0, 0.0])
+        self.raises(1, lambda: solution.with_costs([1]))
+        self.raises(2, lambda: solution.with_costs([1, math.nan]))
 
     def test_the_final_check_names_the_row(self):
         # Row 0 is dropped, and 0.1 * (10 / 3 / 0.1) isn't 10 / 3 in doubles.

@@ -52,7 +52,7 @@ import operator
 import os
 import sys
 from ctypes import c_double, c_int64, c_size_t, c_uint8
-from dataclasses import dataclass, field
+from dataclasses import dataclass, field, replace
 from fractions import Fraction
 from pathlib import Path
 from typing import Any, Iterable, Iterator, Mapping, NamedTuple, Optional, Sequence, Union
@@ -94,7 +94,7 @@ _SENTENCES = {
     4: "a lower bound is above its upper bound",
     5: "a row without entries is false",
     6: "a number of the start isn't finite",
-    7: "a row isn't kept at the start, and a column has no bound on the side that its cost prefers: this solver begins "
+    7: "a row isn't kept at the start, and a column has no bound on the side that its cost prefers: a plain solve begins "
     "where every row is kept, or where every column has one",
     20: "unbounded: no bound and no row's coefficient of at least 1e-8 in size stops a column that makes the plan cheaper",
     21: "the step budget is spent",
@@ -147,6 +147,7 @@ class Error(Exception):
         steps: int = 0,
         objective: float = 0.0,
         excess: float = 0.0,
+        costless_steps: Optional[int] = None,
     ) -> None:
         self.number = number
         self.place = place
@@ -154,6 +155,7 @@ class Error(Exception):
         self.steps = steps
         self.objective = objective
         self.excess = excess
+        self.costless_steps = costless_steps
         super().__init__(f"{number}: {self.sentence}" + (f" ({place})" if place else ""))
 
 
@@ -174,6 +176,10 @@ class _Answer(ctypes.Structure):
         ("within", c_size_t),
         ("excess", c_double),
     ]
+
+
+class _Any(ctypes.Structure):
+    _fields_ = [("answer", _Answer), ("way", c_size_t), ("costless_steps", c_size_t)]
 
 
 class _Verdict(ctypes.Structure):
@@ -218,6 +224,8 @@ class _Night(ctypes.Structure):
 
 _RESULTS = {
     "solve": _Answer,
+    "solve_any": _Any,
+    "reprice": _Answer,
     "fix": _Answer,
     "unfix": _Answer,
     "open": c_size_t,
@@ -316,7 +324,8 @@ class Problem:
     """A plan: find the values with the lowest cost, or the highest where `maximise` says so.
 
     `budget` is the most steps that a solve takes (0 to 10,000), `tolerance` the final check's (0 to 1), `constant`
-    what is added to the objective. Each row is its terms, columns with their coefficients.
+    what is added to the objective. Each row is its terms, columns with their coefficients. Where neither kind of step
+    begins at the start, the problem is solved with costs 0 first, within the same budget; `plain` refuses it with 7.
     """
 
     maximise: bool = False
@@ -332,6 +341,7 @@ class Problem:
     column_names: list[str] = field(default_factory=list)
     row_names: list[str] = field(default_factory=list)
     constant: float = 0.0
+    plain: bool = False
 
     @classmethod
     def of(
@@ -430,12 +440,15 @@ class _Run:
         self.values = _doubles([0.0] * (COLUMNS + ROWS))
         self.numbers, self.doubles = (c_size_t * _NUMBERS)(), (c_double * _DOUBLES)()
         self.factor = [(c_size_t * _FACTOR_NUMBERS)(), (c_double * _FACTOR_COEFFS)()]
-        self.call("solve")
+        self.call("solve" if problem.plain else "solve_any")
 
     def call(self, name: str, *words: Any) -> None:
         """One of the calls over the problem and the lent memory."""
         lent = [self.values, self.numbers, self.doubles, *self.factor]
-        self.answer: _Answer = _call(name, *self.plan, *lent, *words)
+        told = _call(name, *self.plan, *lent, *words)
+        self.answer: _Answer = told.answer if isinstance(told, _Any) else told
+        repriced = isinstance(told, _Any) and told.way == 2
+        self.costless_steps: Optional[int] = told.costless_steps if repriced else None
         self.kept = list(self.numbers[_KEPT : _KEPT + self.numbers[_COUNTS]])
 
     def gone_on(self, name: str, *words: Any) -> _Run:
@@ -447,6 +460,14 @@ class _Run:
         if run.answer.status != 0:
             raise run.error()
         return run
+
+    def priced(self, costs: list[float]) -> _Run:
+        """The same with other costs, from where this run ended."""
+        run = copy.copy(self)
+        run.problem = replace(self.problem, costs=costs)
+        run.costs = _doubles(run.problem._turned(cost) for cost in costs)
+        run.plan = [run.costs if word is self.costs else word for word in self.plan]
+        return run.gone_on("reprice")
 
     def place(self) -> Optional[Place]:
         kind, at, within = self.answer.place, self.answer.at, self.answer.within
@@ -466,7 +487,8 @@ class _Run:
 
     def error(self) -> Error:
         answer = self.answer
-        return Error(answer.status, self.place(), None, answer.steps, self.objective(), answer.excess)
+        numbers = (answer.steps, self.objective(), answer.excess, self.costless_steps)
+        return Error(answer.status, self.place(), None, *numbers)
 
     def solution(self) -> Solution:
         columns, turned = self.columns, self.problem._turned
@@ -485,6 +507,7 @@ class _Run:
             problem=self.problem,
             objective=self.objective(),
             steps=self.answer.steps,
+            costless_steps=self.costless_steps,
             excess=self.answer.excess,
             values=list(self.values[:columns]),
             slacks=slacks,
@@ -522,11 +545,13 @@ class Solution:
     `slacks` is what each row has left (None for a row without terms), `prices` how much the objective moves for each
     unit by which a column is moved from its value, `multipliers` for each unit by which a right side is raised.
     `stands` says of each column, and `row_stands` of each row, whether it is basic, at lower, at upper, fixed or free.
+    `costless_steps` were taken with costs 0 before the `steps` with the problem's own; None where there was no need.
     """
 
     problem: Problem
     objective: float
     steps: int
+    costless_steps: Optional[int]
     excess: float
     values: list[float]
     slacks: list[Optional[float]]
@@ -553,6 +578,20 @@ class Solution:
     def unfix(self, column: Union[int, str]) -> Solution:
         """The solution with the column let go again. Raises `Error`, 44 where it isn't fixed."""
         return self._run.gone_on("unfix", _size(self._place(column))).solution()
+
+    def with_costs(self, costs: Iterable[float]) -> Solution:
+        """The solution with other costs, one for each column, found from this one on. Columns that are fixed stay so.
+
+        Raises `Error`: 1 where there aren't as many costs as columns, 2 for one that isn't allowed, or how the run
+        ended. This solution stays as it is.
+
+        >>> solve([-3, -1], [[1, 1]], ["<="], [4], uppers=[float("inf"), 2]).with_costs([-3, -5]).values
+        [2.0, 2.0]
+        """
+        costs = [float(cost) for cost in _list(costs)]
+        if len(costs) != len(self.values):
+            raise Error(1)
+        return self._run.priced(costs).solution()
 
     def __iter__(self) -> Iterator[float]:
         return iter(self.values)
@@ -799,7 +838,7 @@ def solve(
     uppers: Optional[Iterable[float]] = None,
     **settings: Any,
 ) -> Solution:
-    """Solves a problem from lists or arrays; `settings` are `maximise`, `budget` and `tolerance`.
+    """Solves a problem from lists or arrays; `settings` are `maximise`, `budget`, `tolerance` and `plain`.
 
     >>> solve([-3, -1], [[1, 1]], ["<="], [4], uppers=[float("inf"), 2]).values
     [4.0, 0.0]
@@ -1210,7 +1249,7 @@ def _table(heads: Sequence[str], sides: str, lines: Iterable[Sequence[str]]) -> 
     return "".join("  ".join(line).rstrip() + "\n" for line in cells)
 
 
-def _head(problem: Problem, status: str, objective: str = "", steps: int = 0) -> str:
+def _head(problem: Problem, status: str, objective: str, told: Union[Solution, Error]) -> str:
     sizes = [
         _counted(len(problem.costs), "column", "columns"),
         _counted(len(problem.rows), "row", "rows"),
@@ -1218,7 +1257,8 @@ def _head(problem: Problem, status: str, objective: str = "", steps: int = 0) ->
         "maximise" if problem.maximise else "minimise",
     ]
     out = f"plan       {problem.name or '(no name)'}: {', '.join(sizes)}\nstatus     {status}\n"
-    return out + (f"objective  {objective}\nsteps      {steps}\n" if objective else "")
+    before = "" if told.costless_steps is None else f", after {told.costless_steps} with costs 0"
+    return out + (f"objective  {objective}\nsteps      {told.steps}{before}\n" if objective else "")
 
 
 def _bound(bound: float) -> str:
@@ -1289,16 +1329,17 @@ def _told(words: Sequence[str]) -> tuple[int, str, str]:
     """The exit status, and what goes to standard output and standard error."""
     options = [word for word in words if word.startswith("--")]
     files = [word for word in words if not word.startswith("--")]
-    if len(files) != 1 or set(options) - {"--audit", "--relax"}:
-        return 2, "", "usage: python3 -m tevalumi [--audit] [--relax] FILE\n"
+    if len(files) != 1 or set(options) - {"--audit", "--relax", "--plain"}:
+        return 2, "", "usage: python3 -m tevalumi [--audit] [--relax] [--plain] FILE\n"
     try:
         _library()
         problem = read(files[0], "--relax" in options)
+        problem.plain = "--plain" in options
     except (FileError, Error, OSError) as error:
         return 2, "", f"tevalumi: {error}\n"
     try:
         solution = problem.solve()
-        out = _head(problem, f"0, {_optimal(problem, solution)}", _shown(solution.objective), solution.steps)
+        out = _head(problem, f"0, {_optimal(problem, solution)}", _shown(solution.objective), solution)
         if "--audit" not in options:
             return 0, out + _solved(problem, solution), ""
         sheet = problem.audit()
@@ -1306,12 +1347,12 @@ def _told(words: Sequence[str]) -> tuple[int, str, str]:
     except Error as error:
         number, _, sentence = str(error).partition(": ")
         objective = f"{_shown(error.objective)} after the last whole step, no result" if error.number >= 20 else ""
-        out = _head(problem, f"{number}, {sentence}.", objective, error.steps)
+        out = _head(problem, f"{number}, {sentence}.", objective, error)
         return 2 if error.number == 12 else 1 if error.number < 20 else 3, out, ""
 
 
 def main(words: Sequence[str]) -> int:
-    """`python3 -m tevalumi [--audit] [--relax] FILE`: solves the plan in FILE, and with --audit shows its sheet.
+    """`python3 -m tevalumi [--audit] [--relax] [--plain] FILE`: solves the plan in FILE, and with --audit shows its sheet.
 
     The exit status is the program's: 0 Optimal, 1 refused, 3 not solved, 4 an audit that shows no gap, 2 a wrong
     command line or file, or a disk that is full. A reader that has gone away is no fault.

@@ -176,6 +176,30 @@ static void fixes(void) {
         "the cells past the arrays");
 }
 
+/* Other costs over what N2's run left: each refusal, and that none changes a cell. */
+static void reprices(void) {
+    N2_ARRAYS
+    static Memory m, before;
+    memset(&m, 0, sizeof m);
+    check(refused(tevalumi_reprice(N2(10), LENT(&m)), 41), "41: no run to price anew");
+    check(tevalumi_solve(N2(10), LENT(&m)).status == 0, "N2's run again");
+    memcpy(&before, &m, sizeof m);
+    check(refused(tevalumi_reprice(N2(10001), LENT(&m)), 1), "1: as a solve");
+    m.numbers[TEVALUMI_COUNTS + 4] = 21;
+    before.numbers[TEVALUMI_COUNTS + 4] = 21;
+    check(refused(tevalumi_reprice(N2(10), LENT(&m)), 41), "41: that run wasn't Optimal");
+    check(memcmp(&m, &before, sizeof m) == 0, "and nothing changed");
+    m.numbers[TEVALUMI_COUNTS + 4] = 0;
+    TevalumiAnswer a = tevalumi_reprice(N2(0), LENT(&m));
+    check(a.status == 0 && a.steps == 0 && a.objective == -12 && a.excess == 0, "the same costs: no step");
+    check(m.numbers[TEVALUMI_COUNTS + 3] == 0 && m.numbers[TEVALUMI_COUNTS + 4] == 0 && m.numbers[TEVALUMI_COUNTS + 6] == 1,
+        "its counts, with its own factoring");
+    TevalumiAnyAnswer any = tevalumi_solve_any(N2(10), LENT(&m));
+    check(any.way == 0 && any.costless_steps == 0 && any.answer.status == 0 && any.answer.steps == 2, "solve's own answer");
+    any = tevalumi_solve_any(N2(10001), LENT(&m));
+    check(any.way == 0 && refused(any.answer, 1), "and refusal");
+}
+
 /* 2 x0 = 6 and 2 x0 + 4 x1 = 0, by columns; cells past the second are marked. */
 static void triangle(void) {
     const size_t starts[] = {0, 1, 1};
@@ -469,6 +493,7 @@ static void night(void) {
 int main(void) {
     plan();
     fixes();
+    reprices();
     wholes();
     night();
     triangle();

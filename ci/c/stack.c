@@ -92,6 +92,27 @@ static void *unfix(void *answer) {
     return NULL;
 }
 
+/* The eta columns of those steps make room for a factor of the basis as it stands. */
+static void *reprice(void *answer) {
+    TevalumiAnswer a = tevalumi_reprice(CUBE_PLAN);
+    *(int *)answer = a.status == 0 && cube.numbers[TEVALUMI_COUNTS + 6] == 2;
+    return NULL;
+}
+
+/* Below x0 + x1 = 2 to 5 the start is neither feasible nor dual feasible: two runs, and a factor between them. */
+static void *any(void *answer) {
+    static const double costs[] = {-1, 1}, lowers[] = {0, 0}, coeffs[] = {1, 1, 1, 1}, rhs[] = {2, 5};
+    const double uppers[] = {INFINITY, INFINITY};
+    static const size_t starts[] = {0, 2, 4}, cols[] = {0, 1, 0, 1};
+    static const uint8_t ops[] = {2, 0};
+    static double values[COLUMNS + ROWS], doubles[TEVALUMI_DOUBLES], factor_coeffs[TEVALUMI_FACTOR_COEFFS];
+    static size_t numbers[TEVALUMI_NUMBERS], factor_numbers[TEVALUMI_FACTOR_NUMBERS];
+    TevalumiAnyAnswer a = tevalumi_solve_any(2, 2, 4, 10, 1e-9, ARRAY(costs), ARRAY(lowers), ARRAY(uppers), ARRAY(starts), ARRAY(cols), ARRAY(coeffs),
+        ARRAY(ops), ARRAY(rhs), ARRAY(values), ARRAY(numbers), ARRAY(doubles), ARRAY(factor_numbers), ARRAY(factor_coeffs));
+    *(int *)answer = a.way == 2 && a.answer.status == 0 && a.answer.objective == -5;
+    return NULL;
+}
+
 /* A chain of as many places as there may be: the walk is as deep as it can be. */
 static void *triangle(void *answer) {
     static size_t starts[ROWS + 1], rows[ROWS - 1], list[ROWS];
@@ -187,6 +208,8 @@ int main(void) {
     measure("tevalumi_solve with a factor", factor, 512 << 10);
     measure("tevalumi_fix with a factor", fix, 512 << 10);
     measure("tevalumi_unfix with a factor", unfix, 512 << 10);
+    measure("tevalumi_reprice with a factor", reprice, 512 << 10);
+    measure("tevalumi_solve_any", any, 512 << 10);
     measure("tevalumi_night", night, 512 << 10);
     measure("tevalumi_lower_sparse", triangle, 24 << 10);
     measure("tevalumi_open and tevalumi_edit", edit, 8 << 10);

@@ -82,6 +82,28 @@ static void fixes(void) {
     check(a.status == 0 && a.objective == -12 && work.values[0] == 4, "let go");
 }
 
+/* A start that neither kind of step begins at; then other costs from there on. */
+static void any_start(void) {
+    tev_begin(&plan);
+    size_t x = tev_column(&plan, -1, 0, INFINITY), y = tev_column(&plan, 1, 0, INFINITY);
+    tev_row(&plan, TEV_GE, 2), tev_entry(&plan, x, 1), tev_entry(&plan, y, 1);
+    tev_row(&plan, TEV_LE, 5), tev_entry(&plan, x, 1), tev_entry(&plan, y, 1);
+    check(tev_solve(&plan, &work).status == 7, "a plain solve refuses it");
+    check(tev_reprice(&plan, &work).status == 41, "and leaves no run");
+    TevalumiAnyAnswer any = tev_solve_any(&plan, &work);
+    check(any.way == 2 && any.costless_steps == 1 && any.answer.steps == 1, "the way and both runs' steps");
+    check(any.answer.status == 0 && any.answer.objective == -5 && work.values[x] == 5 && work.values[y] == 0, "its values");
+    plan.costs[x] = 3;
+    TevalumiAnswer a = tev_reprice(&plan, &work);
+    check(a.status == 0 && a.objective == 2 && work.values[x] == 0 && work.values[y] == 2, "other costs");
+    any = tev_solve_any(&plan, &work);
+    check(any.way == 0 && any.costless_steps == 0 && any.answer.status == 0 && any.answer.objective == 2, "by dual steps");
+    plan.costs[x] = -1;
+    plan.rhs[1] = 1;
+    any = tev_solve_any(&plan, &work);
+    check(any.way == 1 && any.answer.status == 26 && any.answer.place == 5, "no plan: the run with costs 0 says so");
+}
+
 /* What is too much is counted, stands nowhere, and is refused. */
 static void limits(void) {
     tev_begin(&plan);
@@ -272,6 +294,7 @@ int main(void) {
     plans();
     dual();
     fixes();
+    any_start();
     limits();
     sheets();
     nights();

@@ -47,7 +47,7 @@ pub fn answers(block: &str, shown: Shown, rng: &mut Rng) -> Result<String, Strin
         let lines = match item? {
             Item::Plan(plan) => {
                 let lengths = plans::Lengths::told(&plan, rng);
-                plans::lines(&plan, &lengths, shown.state)?
+                plans::lines(&plan, &lengths, shown.state)
             }
             Item::Tri(tri) => vec![triangles::line(&tri, rng)],
             Item::Factors(both) => vec![triangles::factors_line(&both, rng)],

@@ -9,7 +9,10 @@ use oracle::plan::{Call, Lent as Name, Plan};
 use oracle::rng::Rng;
 
 use crate::lent::{Cell, Lent};
-use crate::library::{tevalumi_fix, tevalumi_solve, tevalumi_unfix, Answer};
+use crate::library::{
+    tevalumi_fix, tevalumi_reprice, tevalumi_solve, tevalumi_solve_any, tevalumi_unfix, Answer,
+    AnyAnswer,
+};
 use crate::{sections, EXTRA};
 
 /// A section of one of the arrays that hold the state.
@@ -244,6 +247,45 @@ impl Wrote {
 struct Begins {
     has_factor: bool,
     factorings: usize,
+    /// A repricing factors the basis of a store that isn't empty, which is no step.
+    own: usize,
+}
+
+/// What a call says.
+struct Said {
+    answer: Answer,
+    /// Of a solve from any start: its way, and the steps of the run with costs 0.
+    way: Option<(usize, usize)>,
+}
+
+impl From<Answer> for Said {
+    fn from(answer: Answer) -> Said {
+        Said { answer, way: None }
+    }
+}
+
+impl From<AnyAnswer> for Said {
+    fn from(any: AnyAnswer) -> Said {
+        Said {
+            answer: any.answer,
+            way: Some((any.way, any.costless_steps)),
+        }
+    }
+}
+
+impl Said {
+    /// Whether a run with costs 0 was Optimal, and so wrote its values.
+    fn is_repriced(&self) -> bool {
+        matches!(self.way, Some((2, _)))
+    }
+
+    /// So many bases may have been factored.
+    fn most_factorings(&self, begins: Begins) -> usize {
+        match self.way {
+            Some((2, costless)) => costless.saturating_add(self.answer.steps).saturating_add(1),
+            _ => self.answer.steps.saturating_add(begins.own),
+        }
+    }
 }
 
 /// One of the library's calls with what all of them are lent, and its own arguments.
@@ -274,6 +316,7 @@ macro_rules! over {
 }
 
 /// Cells of `counts`.
+const ETAS: usize = 1;
 const STATUS: usize = 4;
 const HAS_FACTOR: usize = 5;
 const FACTORINGS: usize = 6;
@@ -334,13 +377,31 @@ impl Memory {
         over!(tevalumi_unfix, plan, given, self, column as usize)
     }
 
+    fn reprice(&mut self, plan: &Plan, given: &Given) -> Answer {
+        over!(tevalumi_reprice, plan, given, self,)
+    }
+
+    fn solve_any(&mut self, plan: &Plan, given: &Given) -> AnyAnswer {
+        over!(tevalumi_solve_any, plan, given, self,)
+    }
+
     /// What a call over this memory begins with. Where it is refused nobody asks.
     fn begins(&self) -> Begins {
         let counts = self.numbers.get().get(sections::COUNTS);
         counts.map_or(Begins::default(), |counts| Begins {
             has_factor: counts[HAS_FACTOR] == 1,
             factorings: counts[FACTORINGS],
+            own: 0,
         })
+    }
+
+    /// What a repricing over this memory begins with.
+    fn begins_repricing(&self) -> Begins {
+        let counts = self.numbers.get().get(sections::COUNTS);
+        Begins {
+            own: counts.map_or(0, |counts| usize::from(counts[ETAS] > 0)),
+            ..self.begins()
+        }
     }
 
     /// The first array or section with a changed cell past what the answer may have written.
@@ -603,26 +664,42 @@ pub fn line(plan: &Plan, lengths: &Lengths, with_state: bool) -> String {
 }
 
 /// The answer lines of a plan's run and of the calls after it, each over the memory that the one before it left.
-pub fn lines(plan: &Plan, lengths: &Lengths, with_state: bool) -> Result<Vec<String>, String> {
+pub fn lines(plan: &Plan, lengths: &Lengths, with_state: bool) -> Vec<String> {
+    let mut lines = vec![];
+    each(plan, lengths, with_state, |line, _| lines.push(line));
+    lines
+}
+
+/// How many factorings stand in `counts` after the run and after each call.
+pub fn factorings(plan: &Plan, lengths: &Lengths) -> Vec<usize> {
+    let mut factorings = vec![];
+    each(plan, lengths, false, |_, memory| {
+        factorings.push(memory.begins().factorings);
+    });
+    factorings
+}
+
+/// The run and the calls after it: the line of each, with the memory that it left.
+fn each(plan: &Plan, lengths: &Lengths, with_state: bool, mut take: impl FnMut(String, &Memory)) {
     if plan.calls.is_empty() {
-        return Ok(vec![line(plan, lengths, with_state)]);
+        let mut session = Session::new(plan, Memory::marked(lengths), with_state);
+        return take(session.run(), &session.memory);
     }
     let memory = Memory::marked(lengths).without_a_run();
     let mut session = Session::new(plan, memory, with_state);
-    let mut lines = vec![session.run()];
+    take(session.run(), &session.memory);
+    let mut calls = 0;
     for call in &plan.calls {
-        let id = format!("{}/{}", plan.id, lines.len());
-        match *call {
-            Call::Poke { lent, index, bits } => session.memory.poke(lent, index, bits),
-            Call::Fix { column, value } => lines
-                .push(session.called(&id, |memory, given| memory.fix(plan, given, column, value))),
-            Call::Unfix { column } => {
-                lines.push(session.called(&id, |memory, given| memory.unfix(plan, given, column)))
-            }
-            Call::Reprice { .. } => return Err("the library has no call for `reprice`".into()),
+        if let Call::Poke { lent, index, bits } = *call {
+            session.memory.poke(lent, index, bits);
+            continue;
         }
+        calls += 1;
+        take(
+            session.call(&format!("{}/{calls}", plan.id), call),
+            &session.memory,
+        );
     }
-    Ok(lines)
 }
 
 /// A plan with the memory that its calls are lent.
@@ -645,12 +722,31 @@ impl Session<'_> {
 
     fn run(&mut self) -> String {
         let plan = self.plan;
-        let solve = |memory: &mut Memory, given: &Given| memory.solve(plan, given);
-        self.line(&plan.id, Begins::default(), solve)
+        self.line(&plan.id, Begins::default(), |memory, given| {
+            match plan.any {
+                true => memory.solve_any(plan, given).into(),
+                false => memory.solve(plan, given).into(),
+            }
+        })
     }
 
-    fn called(&mut self, id: &str, call: impl FnOnce(&mut Memory, &Given) -> Answer) -> String {
-        self.line(id, self.memory.begins(), call)
+    /// A call over the memory as it stands, which is no poke.
+    fn call(&mut self, id: &str, call: &Call) -> String {
+        let plan = self.plan;
+        let mut begins = self.memory.begins();
+        if let Call::Reprice { cost } = call {
+            // The plan's costs are these from here on.
+            self.given.costs = Lent::holding(cost);
+            begins = self.memory.begins_repricing();
+        }
+        self.line(id, begins, |memory, given| {
+            let answer = match *call {
+                Call::Fix { column, value } => memory.fix(plan, given, column, value),
+                Call::Unfix { column } => memory.unfix(plan, given, column),
+                _ => memory.reprice(plan, given),
+            };
+            answer.into()
+        })
     }
 
     /// The line of one call; what it changed that it must leave stands at its end.
@@ -658,10 +754,11 @@ impl Session<'_> {
         &mut self,
         id: &str,
         begins: Begins,
-        call: impl FnOnce(&mut Memory, &Given) -> Answer,
+        call: impl FnOnce(&mut Memory, &Given) -> Said,
     ) -> String {
         let (given_before, before) = (self.given.clone(), self.memory.clone());
-        let answer = call(&mut self.memory, &self.given);
+        let said = call(&mut self.memory, &self.given);
+        let answer = &said.answer;
         let memory = &self.memory;
 
         let mut faults = vec![];
@@ -669,7 +766,7 @@ impl Session<'_> {
             faults.push("the plan changed".to_string());
         }
         let wrote = match answer.status {
-            0 | 20..=26 => wrote(self.plan, &answer, memory, begins)
+            0 | 20..=26 => wrote(self.plan, &said, memory, begins)
                 .map_err(|fault| faults.push(fault))
                 .ok(),
             _ => None,
@@ -681,10 +778,11 @@ impl Session<'_> {
         let state = wrote.map(|wrote| memory.state(wrote));
         let line = Line {
             status: answer.status,
-            place: place(&answer),
+            place: place(answer),
             objective: answer.objective,
             steps: answer.steps,
             values: &memory.values.get()[..wrote.map_or(0, |wrote| wrote.values)],
+            way: said.way,
             why: None,
             state: state.as_ref().filter(|_| self.with_state),
         };
@@ -695,7 +793,8 @@ impl Session<'_> {
 }
 
 /// What an answer of 0 or 20 to 26 wrote, by its own counts, and whether these are the answer's.
-fn wrote(plan: &Plan, answer: &Answer, memory: &Memory, begins: Begins) -> Result<Wrote, String> {
+fn wrote(plan: &Plan, said: &Said, memory: &Memory, begins: Begins) -> Result<Wrote, String> {
+    let answer = &said.answer;
     let columns = plan.columns as usize;
     let counts = memory.numbers(sections::COUNTS, 7);
     let [kept, etas, entries, steps, status, factor, factorings] = *counts else {
@@ -706,7 +805,7 @@ fn wrote(plan: &Plan, answer: &Answer, memory: &Memory, begins: Begins) -> Resul
         && etas as u64 <= limits::ETA_COLUMNS
         && entries as u64 <= limits::ETA_ENTRIES
         && factor == usize::from(begins.has_factor || made > 0)
-        && made <= steps;
+        && made <= said.most_factorings(begins);
     if !fits || (steps, status) != (answer.steps, answer.status) {
         return Err(format!("counts {counts:?} don't fit"));
     }
@@ -718,7 +817,10 @@ fn wrote(plan: &Plan, answer: &Answer, memory: &Memory, begins: Begins) -> Resul
         return Err("the map back doesn't agree with the maps".into());
     }
     Ok(Wrote {
-        values: if status == 0 { columns + kept } else { 0 },
+        values: match status == 0 || said.is_repriced() {
+            true => columns + kept,
+            false => 0,
+        },
         columns,
         kept,
         etas,

@@ -1,10 +1,10 @@
 //! Calls after a run, through the library: the kept list with arrays just long enough and longer, and
 //! an array too short, which gives 1 for the run and for every call after it.
 
-use driver::plans::{lines, Lengths};
+use driver::plans::{factorings, lines, Lengths};
 use oracle::exchange::{answer_lines, Extras, Item, Reader};
 use oracle::gate;
-use oracle::plan::{Call, Plan};
+use oracle::plan::Plan;
 use oracle::shown::Options;
 
 const STATE: Extras = Extras {
@@ -29,7 +29,7 @@ fn told(plan: &Plan) -> Vec<String> {
 }
 
 fn called(plan: &Plan, lengths: &Lengths) -> Vec<String> {
-    lines(plan, lengths, true).expect("calls that the library has")
+    lines(plan, lengths, true)
 }
 
 #[test]
@@ -73,11 +73,21 @@ fn a_written_array_too_short_gives_1() {
     }
 }
 
+/// The one count that no line shows: a refused call leaves what stood there.
 #[test]
-fn a_repricing_is_no_call_of_the_librarys() {
-    let mut plan = plans().swap_remove(0);
-    plan.calls = vec![Call::Reprice {
-        cost: plan.cost.clone(),
-    }];
-    assert!(lines(&plan, &Lengths::needed(&plan), true).is_err());
+fn the_factorings_are_the_oracles() {
+    let (mut tried, mut factored) = (0, 0);
+    for plan in plans() {
+        let told = gate::answers(&plan, Options::default());
+        let kept = factorings(&plan, &Lengths::needed(&plan));
+        assert_eq!(kept.len(), told.len());
+        for (kept, told) in kept.into_iter().zip(told) {
+            if let Some(state) = told.state {
+                assert_eq!(kept, state.factorings, "{}", plan.id);
+                tried += 1;
+                factored += usize::from(kept > 0);
+            }
+        }
+    }
+    assert!(tried > 400 && factored > 40, "{tried} {factored}");
 }

@@ -28,6 +28,7 @@ fn plans() {
             objective: case.objective,
             steps: case.steps as usize,
             values: case.values,
+            way: None,
             why: None,
             state: None,
         };

@@ -222,6 +222,29 @@ pub struct Factor {
     pub col_order: Option<Vec<usize>>,
 }
 
+/// How a solve from any start came to its answer.
+#[derive(Clone, Copy, Debug, PartialEq, Eq, Hash)]
+pub enum Way {
+    /// "What solve says, other than 7".
+    Direct = 0,
+    /// What the run with costs 0 says, where that isn't Optimal.
+    Halted = 1,
+    /// What the repricing with the plan's own costs says.
+    Repriced = 2,
+}
+
+impl Way {
+    pub const ALL: [Way; 3] = [Way::Direct, Way::Halted, Way::Repriced];
+
+    pub fn name(self) -> &'static str {
+        match self {
+            Way::Direct => "direct",
+            Way::Halted => "halted",
+            Way::Repriced => "repriced",
+        }
+    }
+}
+
 /// The outcome with its numbers: a refusal has objective 0.0, 0 steps, no values and no state.
 #[derive(Clone, Debug)]
 pub struct Answer {
@@ -230,9 +253,11 @@ pub struct Answer {
     pub steps: u64,
     /// The final check's largest excess; 0.0 where it wasn't asked.
     pub excess: f64,
-    /// Columns, then kept slacks; only with Optimal.
+    /// Columns, then kept slacks; only with Optimal, and with `Way::Repriced`.
     pub values: Vec<f64>,
     pub state: Option<State>,
+    /// Of a solve from any start: its way, and the steps of the run with costs 0.
+    pub way: Option<(Way, u64)>,
 }
 
 impl Answer {
@@ -244,6 +269,7 @@ impl Answer {
             excess: 0.0,
             values: vec![],
             state: None,
+            way: None,
         }
     }
 }

@@ -15,9 +15,11 @@ use crate::shown::Options;
 
 mod damage;
 mod reach;
+mod reprices;
 
 use damage::{Poke, CAUSES, DIAG, INVERSE, L_ROWS, L_STARTS, U_COEFFS, U_ROWS, U_STARTS};
 pub use reach::{Fixed, Survey};
+pub use reprices::solved_by;
 
 /// How many plans of which family of plans are taken, and how their calls are drawn.
 struct Family {
@@ -27,7 +29,7 @@ struct Family {
     draw: fn(&mut Rng, &mut List),
 }
 
-const FAMILIES: [Family; 21] = [
+const FAMILIES: [Family; 36] = [
     family("call-plain", "plain", 900, few),
     family("call-ties", "ties", 300, few),
     family("call-dual", "dual", 900, few),
@@ -47,8 +49,23 @@ const FAMILIES: [Family; 21] = [
     family("call-entry", "entry", 60, refused),
     family("call-crossed", "crossed", 60, refused),
     family("call-empty", "empty", 60, refused),
-    family("reprice-plain", "plain", 500, repriced),
-    family("reprice-dual", "dual", 500, repriced),
+    family("reprice-plain", "plain", 500, reprices::repriced),
+    family("reprice-dual", "dual", 500, reprices::repriced),
+    family("reprice-fixed", "plain", 300, reprices::after_fixes),
+    family("reprice-turned", "dual", 400, reprices::turned),
+    family("reprice-tiny", "plain", 300, reprices::tiny),
+    family("reprice-huge", "plain", 900, reprices::huge),
+    family("reprice-factor", "plain", 300, reprices::with_factor),
+    family("reprice-memory", "dual", 700, reprices::damaged),
+    family("reprice-basis", "plain", 200, reprices::another_basis),
+    family("reprice-spent", "dual", 200, reprices::spent),
+    family("reprice-refused", "damaged", 300, reprices::refused),
+    family("reprice-entry", "entry", 60, reprices::refused),
+    family("reprice-crossed", "crossed", 60, reprices::refused),
+    family("reprice-empty", "empty", 60, reprices::refused),
+    family("reprice-outside", "outside", 60, reprices::refused),
+    family("reprice-any", "neither", 500, reprices::after_any),
+    family("reprice-direct", "any", 300, reprices::after_any),
 ];
 
 const fn family(
@@ -139,6 +156,16 @@ impl List {
 
     fn poke(&mut self, lent: Lent, index: usize, bits: u64) {
         self.push(Call::Poke { lent, index, bits });
+    }
+
+    /// The maps name another basis: a variable of this state's for one that isn't in it.
+    fn swap(&mut self, rng: &mut Rng, state: &State) {
+        let (row, col) = (rng.below(state.kept.len()), rng.below(self.columns()));
+        let (leaving, entering) = (state.basic[row], state.nonbasic[col]);
+        self.poke(Lent::Basic, row, entering as u64);
+        self.poke(Lent::Nonbasic, col, leaving as u64);
+        self.poke(Lent::Where, entering, self.plan.columns + row as u64);
+        self.poke(Lent::Where, leaving, col as u64);
     }
 
     fn is_optimal(&self) -> bool {
@@ -449,12 +476,7 @@ fn full(rng: &mut Rng, list: &mut List) {
         list.poke(Lent::Counts, 6, u64::MAX);
     }
     if rng.one_in(2) {
-        let (row, col) = (rng.below(state.kept.len()), rng.below(list.columns()));
-        let (leaving, entering) = (state.basic[row], state.nonbasic[col]);
-        list.poke(Lent::Basic, row, entering as u64);
-        list.poke(Lent::Nonbasic, col, leaving as u64);
-        list.poke(Lent::Where, entering, list.plan.columns + row as u64);
-        list.poke(Lent::Where, leaving, col as u64);
+        list.swap(rng, &state);
     }
     let column = rng.pick(&basic);
     let value = value(rng, list, column);
@@ -465,8 +487,12 @@ fn full(rng: &mut Rng, list: &mut List) {
     some(rng, list, 3);
 }
 
-/// Causes of a 41, each mended after the call that is refused for it; then a call that isn't.
 fn damaged(rng: &mut Rng, list: &mut List) {
+    damaged_by(rng, list, fix_or_unfix);
+}
+
+/// Causes of a 41, each mended after the call that is refused for it; then a call that isn't.
+fn damaged_by(rng: &mut Rng, list: &mut List, call: fn(&mut Rng, &mut List)) {
     if !list.is_optimal() {
         return;
     }
@@ -492,12 +518,12 @@ fn damaged(rng: &mut Rng, list: &mut List) {
         for (lent, index, bits) in pokes {
             list.poke(lent, index, bits);
         }
-        fix_or_unfix(rng, list);
+        call(rng, list);
         for (lent, index, bits) in whole {
             list.poke(lent, index, bits);
         }
     }
-    fix_or_unfix(rng, list);
+    call(rng, list);
 }
 
 /// A plan that isn't run, and calls all the same.
@@ -508,27 +534,5 @@ fn refused(rng: &mut Rng, list: &mut List) {
             value: rng.whole(2),
         });
         list.push(Call::Unfix { column: 0 });
-    }
-}
-
-/// New costs before, among and after the other calls.
-fn repriced(rng: &mut Rng, list: &mut List) {
-    for _ in 0..rng.between(1, 5) {
-        if !list.is_optimal() {
-            return;
-        }
-        if rng.one_in(3) {
-            fix_or_unfix(rng, list);
-            continue;
-        }
-        let mut cost = list.plan.cost.clone();
-        for val in &mut cost {
-            match rng.below(4) {
-                0 => *val = rng.whole(9),
-                1 => *val += 0.1 * rng.whole(9),
-                _ => {}
-            }
-        }
-        list.push(Call::Reprice { cost });
     }
 }

@@ -146,6 +146,7 @@ fn plan_field(
             let lent = Lent::named(&name).ok_or_else(|| format!("no lent array {}", name))?;
             plan.short.push((lent, whole(words.next())?));
         }
+        "any" => plan.any = true,
         "fix" => plan.calls.push(Call::Fix {
             column: whole(words.next())?,
             value: double(words.next())?,
@@ -274,6 +275,9 @@ impl fmt::Display for Plan {
         for (lent, length) in &self.short {
             writeln!(f, "short {} {}", lent.name(), length)?;
         }
+        if self.any {
+            writeln!(f, "any")?;
+        }
         for call in &self.calls {
             write!(f, "{}", call)?;
         }
@@ -373,6 +377,8 @@ pub struct Line<'a> {
     pub objective: f64,
     pub steps: usize,
     pub values: &'a [f64],
+    /// Of a solve from any start: its way, and the steps of the run with costs 0.
+    pub way: Option<(usize, usize)>,
     pub why: Option<&'a str>,
     pub state: Option<&'a State>,
 }
@@ -453,6 +459,9 @@ pub fn answer_line(id: &str, answer: &Answer, extras: Extras) -> String {
         objective: answer.objective,
         steps: answer.steps as usize,
         values: &answer.values,
+        way: answer
+            .way
+            .map(|(way, steps)| (way as usize, steps as usize)),
         why: answer.outcome.why().filter(|_| extras.why),
         state: answer.state.as_ref().filter(|_| extras.state),
     };
@@ -460,8 +469,8 @@ pub fn answer_line(id: &str, answer: &Answer, extras: Extras) -> String {
 }
 
 impl Line<'_> {
-    /// `ID STATUS PLACE OBJECTIVE STEPS COUNT hex*`, then ` why NAME` and ` | ` with the state where
-    /// they are there.
+    /// `ID STATUS PLACE OBJECTIVE STEPS COUNT hex*`, then ` way WAY STEPS`, ` why NAME` and ` | ` with the
+    /// state where they are there.
     pub fn text(&self, id: &str) -> String {
         let mut line = match self.status {
             PANICKED => format!("{} panic {}", id, self.place),
@@ -474,6 +483,9 @@ impl Line<'_> {
         );
         push_doubles(&mut line, self.values);
 
+        if let Some((way, steps)) = self.way {
+            push(&mut line, format_args!(" way {} {}", way, steps));
+        }
         if let Some(why) = self.why {
             push(&mut line, format_args!(" why {}", why));
         }

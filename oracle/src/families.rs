@@ -11,12 +11,14 @@ use crate::shown::Options;
 mod dual;
 mod dual_growth;
 mod growth;
+mod neither;
 mod refactor;
 
 use dual::dual;
 pub use dual::of_both_kinds;
 pub use dual_growth::DUAL_PLACES;
 use growth::{Cascade, Within};
+use neither::{from_any, neither};
 use refactor::{cube, refactor};
 
 const INF: f64 = f64::INFINITY;
@@ -163,7 +165,7 @@ impl Sink<'_> {
 
 type Make = fn(&mut Rng, &mut Sink);
 
-pub const FAMILIES: [(&str, Make); 27] = [
+pub const FAMILIES: [(&str, Make); 29] = [
     ("tiny", tiny),
     ("plain", plain),
     ("ties", ties),
@@ -191,6 +193,8 @@ pub const FAMILIES: [(&str, Make); 27] = [
     ("free", free_columns),
     ("refactor", refactor),
     ("dual", dual),
+    ("neither", neither),
+    ("any", from_any),
 ];
 
 /// Makes the plans of all families whose name `wanted` accepts, in order.

@@ -87,7 +87,15 @@ struct Now {
     dual_steps: u64,
 }
 
+/// The plan's run, from any start where the plan says so.
 pub fn solve(plan: &Plan) -> Answer {
+    match plan.any {
+        true => calls::solve_any(plan, &mut calls::Cells::default()),
+        false => solve_from_start(plan),
+    }
+}
+
+fn solve_from_start(plan: &Plan) -> Answer {
     let (rules, now, dual_feasible) = match laid_out(plan).and_then(started) {
         Ok(started) => started,
         Err(outcome) => return Answer::refusal(outcome),
@@ -129,6 +137,7 @@ fn stood(rules: &Rules, now: &Now, outcome: Outcome) -> Answer {
             vec![]
         },
         state: Some(state(rules, now)),
+        way: None,
     }
 }
 

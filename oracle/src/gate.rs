@@ -1,9 +1,10 @@
 //! The whole call: refusals 1 to 3, then the solver, then the final check. All ours, from the
 //! table "When the gateway says no" of document 01. 4 and 5 are given by try_new, in its own order,
-//! which is theirs. Then the calls of document 02's Ask 9, over the memory that a call left.
+//! which is theirs. Then the calls of document 02's Ask 9 and our repricing, over the memory that a call
+//! left, and the solve from any start.
 
 use crate::{
-    answer::{Answer, Outcome, State},
+    answer::{Answer, Outcome, State, Way},
     limits,
     memory::Memory,
     plan::{Call, Lent, Plan},
@@ -13,7 +14,15 @@ use crate::{
     ComparisonOp,
 };
 
+/// The plan's run: from its start, or from any where the plan says so.
 pub fn solve(plan: &Plan, options: Options) -> Answer {
+    match plan.any {
+        true => Session::new(plan, options).solve(),
+        false => from_start(plan, options),
+    }
+}
+
+fn from_start(plan: &Plan, options: Options) -> Answer {
     let run = |solver: &mut Solver| {
         solver.refuse_start()?;
         solver.initial_solve()
@@ -52,9 +61,34 @@ impl Session {
     }
 
     pub fn solve(&mut self) -> Answer {
-        let answer = solve(&self.plan, self.options);
-        self.memory.keep(&answer);
-        answer
+        let first = from_start(&self.plan, self.options);
+        self.memory.keep(&first);
+        match (self.plan.any, first.outcome) {
+            (false, _) => first,
+            (true, Outcome::SlackOutside) => self.solve_costless(),
+            (true, _) => by(Way::Direct, 0, first),
+        }
+    }
+
+    // "on 7, `solve` with costs 0 over the same memory", and where that is Optimal a repricing.
+    fn solve_costless(&mut self) -> Answer {
+        let costless = Plan {
+            cost: vec![0.0; self.plan.cost.len()],
+            ..self.plan.clone()
+        };
+        let second = from_start(&costless, self.options);
+        self.memory.keep(&second);
+        let steps = second.steps;
+        if second.outcome != Outcome::Optimal {
+            return by(Way::Halted, steps, second);
+        }
+        let mut last = self.go_on(|solver, _| solver.reprice());
+        self.memory.keep(&last);
+        if last.outcome != Outcome::Optimal {
+            // "the values array holds what the last Optimal run wrote".
+            last.values = second.values;
+        }
+        by(Way::Repriced, steps, last)
     }
 
     /// A call's answer; a poke has none.
@@ -108,6 +142,13 @@ impl Session {
             }),
             Err(outcome) => Answer::refusal(outcome),
         }
+    }
+}
+
+fn by(way: Way, costless_steps: u64, answer: Answer) -> Answer {
+    Answer {
+        way: Some((way, costless_steps)),
+        ..answer
     }
 }
 
@@ -167,6 +208,7 @@ fn answer(
             _ => vec![],
         },
         state: Some(solver.state()),
+        way: None,
     }
 }
 

@@ -23,6 +23,8 @@ pub struct Plan {
     pub room: Option<[u64; 3]>,
     /// Lengths of arrays of the state or the store.
     pub short: Vec<(Lent, u64)>,
+    /// Whether it is solved from any start.
+    pub any: bool,
     /// What comes after the run, in order.
     pub calls: Vec<Call>,
 }

@@ -4,7 +4,7 @@
 use std::collections::{BTreeMap, HashSet};
 use std::hash::{DefaultHasher, Hash, Hasher};
 
-use crate::answer::{Answer, Named, Outcome, Rejected, StartNumber, State};
+use crate::answer::{Answer, Named, Outcome, Rejected, StartNumber, State, Way};
 use crate::families::{
     bad_number_kind, factorings, of_both_kinds, BAD_NUMBERS, DUAL_PLACES, FREE_KINDS, LARGEST,
     SHORT_KINDS, TURNING,
@@ -33,6 +33,12 @@ impl Survey {
     pub fn add(&mut self, plan: &Plan, answer: &Answer) {
         let number = answer.outcome.number();
         self.plans += 1;
+        if let Some((family, _)) = family(plan) {
+            self.count(format!("family {}", family));
+        }
+        if let Some((way, costless_steps)) = answer.way {
+            return self.add_any(plan, answer, way, costless_steps);
+        }
         self.different
             .entry(number)
             .or_default()
@@ -83,8 +89,27 @@ impl Survey {
                 self.add_dual(plan, answer, state);
             }
         }
-        if let Some((family, _)) = family(plan) {
-            self.count(format!("family {}", family));
+    }
+
+    /// Plans that are solved from any start; they count by their way alone.
+    fn add_any(&mut self, plan: &Plan, answer: &Answer, way: Way, costless_steps: u64) {
+        let number = answer.outcome.number();
+        self.count(format!("{}, answer {}", way.name(), number));
+        if way == Way::Direct {
+            return;
+        }
+        if plan.rows == limits::ROWS && plan.columns == limits::COLUMNS {
+            self.count("costs 0, 96 rows and 128 columns");
+        }
+        if (plan.rows, plan.columns) == (1, 1) {
+            self.count("costs 0, 1 row and 1 column");
+        }
+        if way == Way::Repriced {
+            self.count(match (costless_steps, answer.steps) {
+                (0, _) => "repriced after no step",
+                (_, 0) => "repriced after steps, and none more",
+                _ => "repriced after steps, and more of them",
+            });
         }
     }
 
@@ -316,8 +341,20 @@ impl Survey {
             (100, "dual steps, 1 row and 1 column"),
             (200, "dual steps from a tie of the leaving row"),
             (200, "dual steps that leave the objective"),
+            (3_000, "family neither"),
+            (1_500, "family any"),
+            (10, "costs 0, 96 rows and 128 columns"),
+            (50, "costs 0, 1 row and 1 column"),
+            (50, "repriced after no step"),
+            (200, "repriced after steps, and none more"),
+            (1_500, "repriced after steps, and more of them"),
         ] {
             at_least(least, name.into());
+        }
+        for (way, answers) in BY_WAYS {
+            for &(number, least) in answers {
+                at_least(least, format!("{}, answer {}", way.name(), number));
+            }
         }
         for named in Named::ALL {
             if !UNREACHED.contains(&named) {
@@ -364,6 +401,44 @@ pub fn met(targets: &[(String, u64, u64)]) -> bool {
     );
     missed.is_empty()
 }
+
+/// Each way of a solve from any start, and the least count of its answers. The first is never 7; the run
+/// with costs 0 has no price that lets a column enter, so it never ends in 20; and the steps after it are
+/// primal ones, which never end in 26.
+const BY_WAYS: [(Way, &[(u8, u64)]); 3] = [
+    (
+        Way::Direct,
+        &[
+            (0, 300),
+            (1, 100),
+            (2, 60),
+            (3, 30),
+            (4, 30),
+            (5, 40),
+            (20, 200),
+            (21, 20),
+            (23, 30),
+            (24, 60),
+            (25, 10),
+            (26, 20),
+        ],
+    ),
+    (
+        Way::Halted,
+        &[(21, 150), (23, 40), (24, 60), (25, 10), (26, 500)],
+    ),
+    (
+        Way::Repriced,
+        &[
+            (0, 1_000),
+            (20, 500),
+            (21, 150),
+            (23, 40),
+            (24, 60),
+            (25, 50),
+        ],
+    ),
+];
 
 /// Places of document 01's order that no plan reaches; docs/DECISIONS.md, "23's places", says why.
 pub const UNREACHED: [Named; 6] = [
@@ -418,7 +493,14 @@ impl Fixed {
     pub fn takes(&mut self, plan: &Plan) -> bool {
         let answer = gate::solve(plan, Options::default());
         let (family, index) = family(plan).unwrap_or(("", 0));
+        let by_way = |(way, costless_steps): (Way, u64)| {
+            let (why, steps) = (answer.outcome.why(), answer.steps.min(2));
+            let number = answer.outcome.number();
+            let costless_steps = costless_steps.min(2);
+            format!("{way:?} {number} {why:?} {costless_steps} {steps}")
+        };
         let kind = match answer.outcome {
+            _ if answer.way.is_some() => answer.way.map(by_way).unwrap_or_default(),
             // The families "short", "number", "largest" and "free" go through their kinds in turn.
             Outcome::BadSize if family == "short" => format!("1, {}", index % SHORT_KINDS),
             Outcome::BadNumber if family == "number" => bad_number_kind(index).to_string(),
@@ -450,6 +532,8 @@ impl Fixed {
             ),
         };
         let (most_taken, longest) = match answer.outcome.number() {
+            25 if answer.way.is_some() => (2, 2_000),
+            _ if answer.way.is_some() => (2, 900),
             _ if factorings(&answer) > 0 => (1, usize::MAX),
             23 => (2, usize::MAX),
             1 | 2 => (1, 700),

@@ -2,7 +2,7 @@
 
 use std::io::Cursor;
 
-use oracle::answer::{Answer, Outcome, State};
+use oracle::answer::{Answer, Outcome, State, Way};
 use oracle::call_families;
 use oracle::exchange::{
     answer_line, answer_lines, factors_answer_line, tri_answer_line, Extras, Item, Reader,
@@ -598,6 +598,7 @@ fn malformed_text_is_an_error() {
         "plan a\nwhat 1\nend",
         "plan a\nfix 0\nend",
         "plan a\nunfix\nend",
+        "plan a\nreprice 0\nend",
         "plan a\npoke basic 96 0\nend",
         "plan a\npoke bval 0 1\nend",
         "plan a\npoke numbers 0 0\nend",
@@ -780,6 +781,13 @@ fn only_an_optimal_run_goes_on() {
 fn a_reprice_is_a_run_with_the_new_costs() {
     let mut compared = 0;
     call_families::make(5, &mut |plan| {
+        if plan
+            .calls
+            .iter()
+            .any(|call| matches!(call, Call::Poke { .. }))
+        {
+            return;
+        }
         for (call, answer) in called(&plan) {
             let (Some(Call::Reprice { cost }), Some(state)) = (call, &answer.state) else {
                 continue;
@@ -795,7 +803,49 @@ fn a_reprice_is_a_run_with_the_new_costs() {
             }
         }
     });
-    assert!(compared > 500);
+    assert!(compared > 2_000);
+}
+
+/// On 7, from any start: a run with costs 0, and where it ends in 0 a repricing; else what the run says. The
+/// values are then the last that were written.
+#[test]
+fn a_solve_from_any_start_is_its_calls() {
+    let wanted = |family: &str| ["neither", "any"].contains(&family);
+    let mut ways = [0; 3];
+    families::make(6, &wanted, &mut |plan| {
+        let answer = gate::solve(&plan, Options::default());
+        let (way, costless_steps) = answer.way.expect("a plan from any start");
+        ways[way as usize] += 1;
+        let mut parts = Plan {
+            any: false,
+            ..plan.clone()
+        };
+        let direct = gate::solve(&parts, Options::default());
+        assert_eq!(direct.outcome == Outcome::SlackOutside, way != Way::Direct);
+        let mut told = direct;
+        if way != Way::Direct {
+            let cost = std::mem::replace(&mut parts.cost, vec![0.0; plan.cost.len()]);
+            parts.calls = vec![Call::Reprice { cost }];
+            let mut both = gate::answers(&parts, Options::default());
+            let repriced = both.pop().expect("a call's answer");
+            told = both.remove(0);
+            assert_eq!(told.steps, costless_steps, "{}", plan.id);
+            assert_eq!(told.outcome == Outcome::Optimal, way == Way::Repriced);
+            if way == Way::Repriced {
+                let written = told.values;
+                told = repriced;
+                if told.outcome != Outcome::Optimal {
+                    told.values = written;
+                }
+            } else {
+                assert_eq!(repriced.outcome, Outcome::NoRun, "{}", plan.id);
+            }
+        }
+        told.way = answer.way;
+        let line = |answer| answer_line(&plan.id, answer, ALL);
+        assert_eq!(line(&answer), line(&told));
+    });
+    assert!(ways.iter().all(|&count| count > 800), "{:?}", ways);
 }
 
 fn triangle(upper: bool, columns: &[&[(u64, f64)]], list: &[(u64, f64)]) -> Tri {

@@ -33,6 +33,16 @@ pub(crate) struct Answer {
     pub excess: f64,
 }
 
+/// What `tevalumi_solve_any` answers. `way` is 0 direct, 1 halted, 2 repriced; `costless_steps` are those of the run with
+/// costs 0.
+#[repr(C)]
+#[derive(Clone, Copy, Debug)]
+pub(crate) struct AnyAnswer {
+    pub answer: Answer,
+    pub way: usize,
+    pub costless_steps: usize,
+}
+
 /// What a triangle call answers: 01's number, and how many places are listed afterwards.
 #[repr(C)]
 #[derive(Clone, Copy, Debug)]
@@ -185,6 +195,29 @@ call! {
         factor_numbers: &mut [usize], factor_coeffs: &mut [f64],
         column: usize,
     ) -> Answer
+}
+
+call! {
+    /// Prices the kept state anew for the plan's costs and goes on from there. Reads and writes what
+    /// `tevalumi_solve` does.
+    fn tevalumi_reprice(
+        columns: usize, rows: usize, entries: usize, budget: usize, tolerance: f64,
+        costs: &[f64], lowers: &[f64], uppers: &[f64],
+        starts: &[usize], cols: &[usize], coeffs: &[f64], ops: &[u8], rhs: &[f64],
+        values: &mut [f64], numbers: &mut [usize], doubles: &mut [f64],
+        factor_numbers: &mut [usize], factor_coeffs: &mut [f64],
+    ) -> Answer
+}
+
+call! {
+    /// Solves a plan from any start. Reads and writes what `tevalumi_solve` does.
+    fn tevalumi_solve_any(
+        columns: usize, rows: usize, entries: usize, budget: usize, tolerance: f64,
+        costs: &[f64], lowers: &[f64], uppers: &[f64],
+        starts: &[usize], cols: &[usize], coeffs: &[f64], ops: &[u8], rhs: &[f64],
+        values: &mut [f64], numbers: &mut [usize], doubles: &mut [f64],
+        factor_numbers: &mut [usize], factor_coeffs: &mut [f64],
+    ) -> AnyAnswer
 }
 
 call! {

@@ -6,8 +6,9 @@ finding the minimum (or maximum) of a linear function of a set of continuous var
 subject to linear equality and inequality constraints.
 
 The solver is the part of [minilp](https://crates.io/crates/minilp) 0.2.2 that a gateway uses, the
-simplex from a slack start that is feasible or dual feasible, ported and proved to follow its written
-rules (documents 01 and 02), step by step and bit by bit. It adds a step budget, a final check, and an audit
+simplex from a slack start, ported and proved to follow its written rules (documents 01 and 02), step
+by step and bit by bit. A start that is neither feasible nor dual feasible is left by a run with an
+objective of 0. It adds a step budget, a final check, and an audit
 sheet in whole numbers that bounds how much cheaper any other plan could be.
 
 | module | for whom |
@@ -47,17 +48,18 @@ Change `use minilp::…` to `use tevalumi::…`. What differs:
 | minilp 0.2.2 | here |
 |---|---|
 | any size | at most 128 variables, 96 constraints and 2,048 terms, else error 1 |
-| any start | each constraint holds where the variables start (below), or each variable starts at the bound that its objective coefficient prefers, else error 7 |
+| any start | any start; where neither kind of step begins there, the problem is solved with an objective of 0 first. [`Problem::set_plain`] gives error 7 instead |
 | runs until it is done | at most [`Problem::set_budget`] steps (10,000 unless set), else error 21 |
 | no check of the result | every value and constraint is checked within [`Problem::set_tolerance`] (1e-6 unless set), else error 24 |
 | refactors the basis as soon as its exchanges have as many entries as it, and panics where it can't | refactors when a store of 256 exchanges and 4,096 entries is full; where it can't, error 25 |
 | NaN, numbers above 1e12 and overflow go on | errors 2 and 23 |
 | a variable with no bounds enters at any reduced cost: one with coefficient 0 in no constraint can be called unbounded | it enters only where its reduced cost is at least 1e-8 in size, as every variable does |
-| `Error::Infeasible`, `Error::Unbounded` | the same, and a third case: [`Error::Other`] with every other number. [`Status::CrossedBounds`] (4), [`Status::FalseEmptyRow`] (5) and [`Status::Infeasible`] (26) are `Infeasible`; a problem that is refused with [`Status::SlackOutside`] (7) may be |
+| `Error::Infeasible`, `Error::Unbounded` | the same, and a third case: [`Error::Other`] with every other number. [`Status::CrossedBounds`] (4), [`Status::FalseEmptyRow`] (5) and [`Status::Infeasible`] (26) are `Infeasible` |
 | `add_constraint` panics where a variable stands twice or is of a larger problem | [`Problem::solve`] gives error 3 and names the constraint |
 | `Solution::add_constraint` goes on from the solution | [`Solution::add_constraint`] solves the longer problem anew |
 | `MpsFile` | [`MpsFile`], with `constant` beside its fields |
 | `fix_var`, `unfix_var` | [`Solution::fix_var`], [`Solution::unfix_var`], in a few steps from the solution on; [`Solution::fix`] and [`Solution::unfix`] with the number of an error |
+| no other objective | [`Solution::with_objective`], from the solution on |
 | `add_gomory_cut` | left out |
 
 The page docs/FROM-MINILP.md of the repository has each public item of minilp beside ours.

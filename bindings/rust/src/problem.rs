@@ -6,7 +6,8 @@
 use std::fmt;
 
 use crate::raw::{
-    fix_into, limits, ops, sections, solve_into, unfix_into, Answer, Place, PlanRef, Status,
+    fix_into, limits, ops, reprice_into, sections, solve_any_into, solve_into, unfix_into, Answer,
+    Place, PlanRef, Status, Way,
     Workspace,
 };
 
@@ -138,6 +139,7 @@ pub struct Problem {
     direction: OptimizationDirection,
     budget: usize,
     tolerance: f64,
+    plain: bool,
     costs: Vec<f64>,
     lowers: Vec<f64>,
     uppers: Vec<f64>,
@@ -171,6 +173,7 @@ impl Problem {
             direction,
             budget: Self::DEFAULT_BUDGET,
             tolerance: Self::DEFAULT_TOLERANCE,
+            plain: false,
             costs: vec![],
             lowers: vec![],
             uppers: vec![],
@@ -261,6 +264,29 @@ impl Problem {
         self.tolerance = tolerance;
     }
 
+    /// Keep to document 01's start, which is what the library's plain solve does: a problem whose start
+    /// neither kind of step begins at ends with error 7. The default is to solve it all the same, first
+    /// with an objective of 0 and from there with its own.
+    ///
+    /// ```
+    /// # use tevalumi::*;
+    /// // x starts at 0, where x >= 2 doesn't hold, and y would rise without end but for the last row.
+    /// let mut problem = Problem::new(OptimizationDirection::Maximize);
+    /// let x = problem.add_var(-1.0, (0.0, f64::INFINITY));
+    /// let y = problem.add_var(1.0, (0.0, f64::INFINITY));
+    /// problem.add_constraint([(x, 1.0)], ComparisonOp::Ge, 2.0);
+    /// problem.add_constraint([(x, 1.0), (y, 1.0)], ComparisonOp::Le, 5.0);
+    /// let solution = problem.solve()?;
+    /// assert_eq!((solution[x], solution[y], solution.objective()), (2.0, 3.0, 1.0));
+    ///
+    /// problem.set_plain(true);
+    /// assert_eq!(problem.answer().unwrap_err().number(), 7);
+    /// # Ok::<(), Error>(())
+    /// ```
+    pub fn set_plain(&mut self, plain: bool) {
+        self.plain = plain;
+    }
+
     /// The problem as the library's arrays, for the calls of [`raw`](crate::raw). They minimise:
     /// the costs of a problem that is to be maximised stand there negated.
     pub fn plan(&self) -> PlanRef<'_> {
@@ -308,9 +334,10 @@ impl Problem {
     /// # Errors
     ///
     /// Will return an error for every [`Status`] but [`Optimal`](Status::Optimal): if the problem
-    /// is over a limit or has a start that neither kind of step begins at, if the constraints can't
-    /// be satisfied, if the objective value is unbounded, if the budget is spent, if a number isn't
-    /// finite, if a basis can't be factored, or if the final check rejects the values.
+    /// is over a limit, if the constraints can't be satisfied, if the objective value is unbounded, if
+    /// the budget is spent, if a number isn't finite, if a basis can't be factored, or if the final check
+    /// rejects the values; and where [`set_plain`](Problem::set_plain) asks for it, if neither kind of
+    /// step begins at the start.
     pub fn solve(&self) -> Result<Solution, Error> {
         Ok(self.answer()?)
     }
@@ -334,11 +361,24 @@ impl Problem {
     pub fn solve_in(&self, work: &mut Workspace) -> Result<Solution, Failure> {
         let plan = self.plan();
         let mut values = vec![0.0; plan.columns + plan.rows];
-        let answer = solve_into(&plan, work, &mut values);
+        let (answer, costless_steps) = match self.plain {
+            true => (solve_into(&plan, work, &mut values), None),
+            false => {
+                let any = solve_any_into(&plan, work, &mut values);
+                let repriced = any.way == Way::Repriced;
+                (any.answer, repriced.then_some(any.costless_steps))
+            }
+        };
         if answer.status != Status::Optimal {
-            return Err(Failure::new(self, work, answer));
+            return Err(Failure {
+                costless_steps,
+                ..Failure::new(self, work, answer)
+            });
         }
-        Ok(Solution::new(self, work, answer, values))
+        Ok(Solution {
+            costless_steps,
+            ..Solution::new(self, work, answer, values)
+        })
     }
 }
 
@@ -363,6 +403,7 @@ impl Problem {
 pub struct Failure {
     direction: OptimizationDirection,
     answer: Answer,
+    costless_steps: Option<usize>,
     variable: Option<Variable>,
     constraint: Option<usize>,
     /// Boxed, since an error is handed back by value and few have it.
@@ -404,6 +445,7 @@ impl Failure {
         Failure {
             direction: problem.direction,
             answer,
+            costless_steps: None,
             variable,
             constraint,
             over: sizes
@@ -441,9 +483,15 @@ impl Failure {
         self.constraint
     }
 
-    /// Whole steps taken; 0 on a refusal.
+    /// Whole steps of the run that ended so; 0 on a refusal.
     pub fn steps(&self) -> usize {
         self.answer.steps
+    }
+
+    /// The steps of the run with an objective of 0 before that, where there was one that found values
+    /// for every constraint.
+    pub fn costless_steps(&self) -> Option<usize> {
+        self.costless_steps
     }
 
     /// The objective function's value after the last whole step; 0 on a refusal.
@@ -565,6 +613,7 @@ pub struct Solution {
     num_constraints: usize,
     objective: f64,
     steps: usize,
+    costless_steps: Option<usize>,
     excess: f64,
     /// Columns, then kept slacks.
     values: Vec<f64>,
@@ -609,6 +658,7 @@ impl Solution {
             num_constraints: problem.rhs.len(),
             objective: answer.objective,
             steps: answer.steps,
+            costless_steps: None,
             excess: answer.excess,
             values,
             prices,
@@ -790,9 +840,56 @@ impl Solution {
         Ok(solution)
     }
 
-    /// How many steps the solver took.
+    /// The solution with another objective: the terms give the new coefficients, a variable that isn't
+    /// named has 0, and one that is named twice has the sum. The direction stays.
+    ///
+    /// This method will consume the solution and not return it in case of error. The solver goes on from
+    /// this solution, which keeps every constraint whatever the objective, mostly in fewer steps than
+    /// solving anew takes. Variables that are fixed stay so.
+    ///
+    /// ```
+    /// # use tevalumi::*;
+    /// let mut problem = Problem::new(OptimizationDirection::Maximize);
+    /// let x = problem.add_var(3.0, (0.0, f64::INFINITY));
+    /// let y = problem.add_var(1.0, (0.0, 2.0));
+    /// problem.add_constraint([(x, 1.0), (y, 1.0)], ComparisonOp::Le, 4.0);
+    /// let solution = problem.solve()?;
+    /// assert_eq!((solution[x], solution[y], solution.objective()), (4.0, 0.0, 12.0));
+    ///
+    /// // A quarter of an hour later y pays better.
+    /// let solution = solution.with_objective([(x, 3.0), (y, 5.0)])?;
+    /// assert_eq!((solution[x], solution[y], solution.objective()), (2.0, 2.0, 16.0));
+    /// # Ok::<(), Error>(())
+    /// ```
+    ///
+    /// # Errors
+    ///
+    /// 2 where a coefficient isn't allowed; else how the run ended, where that isn't with a solution.
+    ///
+    /// # Panics
+    ///
+    /// Will panic if a variable belongs to a larger problem.
+    pub fn with_objective(mut self, expr: impl Into<LinearExpr>) -> Result<Self, Failure> {
+        let mut costs = vec![self.direction.turn(0.0); self.num_vars];
+        for (var, coeff) in expr.into().terms {
+            costs[var] += self.direction.turn(coeff);
+        }
+        self.problem.costs = costs;
+        let mut values = vec![0.0; self.num_vars + self.num_constraints];
+        let answer = reprice_into(&self.problem.plan(), &mut self.work, &mut values);
+        Solution::gone_on(self.problem, &self.work, answer, values, self.fixed)
+    }
+
+    /// How many steps the solver took for the problem's own objective. With
+    /// [`costless_steps`](Solution::costless_steps) these are all; the budget holds for each of the two.
     pub fn steps(&self) -> usize {
         self.steps
+    }
+
+    /// How many steps the solver took before with an objective of 0; none where it didn't begin so, since
+    /// one of the two kinds of step begins at the problem's start.
+    pub fn costless_steps(&self) -> Option<usize> {
+        self.costless_steps
     }
 
     /// The largest excess of the values over a bound, or of a constraint's sum over or under its right

@@ -1,7 +1,8 @@
 //! The library's own calls over memory that the caller lends: nothing here allocates.
 //!
 //! This is the level for firmware. A [`PlanRef`] borrows the plan's arrays, a [`Workspace`] is four
-//! fixed arrays that can stand in a `static`, and [`solve_into`] answers an [`Answer`].
+//! fixed arrays that can stand in a `static`, and [`solve_into`] answers an [`Answer`];
+//! [`solve_any_into`] has one for every start.
 //! A caller with memory of its own lends a [`WorkspaceMut`] to [`solve_lent`]. The audit
 //! sheet's arrays are lent as a [`SheetMut`]; its plan is written into a file's bytes by
 //! [`SheetRef::write_plan`] and read back by [`FiguresMut::read_plan`]. A journal of its edits is
@@ -93,11 +94,12 @@ pub mod ops {
     pub const GE: u8 = 2;
 }
 
-/// What a solve, a fix or an unfix ends with: document 01's numbers, with document 02's.
+/// What a solve, a fix, an unfix or a repricing ends with: document 01's numbers, with document 02's.
 ///
 /// 1 to 7 and 41 to 44 are refusals: no lent cell has changed. 20 to 26 leave the values alone, and
 /// the workspace holds the state after the last whole step. 41 to 44 are those of [`fix_into`] and
-/// [`unfix_into`] alone, which never give 6 and 7.
+/// [`unfix_into`], and 41 of [`reprice_into`] too; these three never give 6 and 7, and nor does
+/// [`solve_any_into`].
 #[derive(Clone, Copy, Debug, PartialEq, Eq, Hash)]
 pub enum Status {
     /// 0: the plan is solved, the values are written.
@@ -119,7 +121,8 @@ pub enum Status {
     /// to 1e12 don't reach it.
     StartNotFinite = 6,
     /// 7: a row's slack starts outside its bounds, and a column has no bound on the side that its cost
-    /// prefers, so the start isn't dual feasible either. The plan may have a solution all the same.
+    /// prefers, so the start isn't dual feasible either. The plan may have a solution all the same, which
+    /// [`solve_any_into`] looks for.
     SlackOutside = 7,
     /// 20: the objective falls without end, as far as coefficients of at least 1e-8 in size say: a
     /// smaller one stops nothing.
@@ -202,7 +205,7 @@ impl Status {
             Status::CrossedBounds => "a lower bound is above its upper bound",
             Status::FalseEmptyRow => "a row without entries is false",
             Status::StartNotFinite => "a number of the start isn't finite",
-            Status::SlackOutside => "a row isn't kept at the start, and a column has no bound on the side that its cost prefers: this solver begins where every row is kept, or where every column has one",
+            Status::SlackOutside => "a row isn't kept at the start, and a column has no bound on the side that its cost prefers: a plain solve begins where every row is kept, or where every column has one",
             Status::Unbounded => "unbounded: no bound and no row's coefficient of at least 1e-8 in size stops a column that makes the plan cheaper",
             Status::Spent => "the step budget is spent",
             Status::NoRoom => "the eta store is full",
@@ -400,8 +403,8 @@ pub struct WorkspaceMut<'a> {
 
 /// One of the library's calls over a plan, the memory of a run and the values, with what it takes behind them.
 macro_rules! over {
-    ($call:ident, $plan:expr, $work:expr, $values:expr $(, $more:expr)*) => {
-        Answer::from_numbers(ffi::$call(
+    ($answer:ident, $call:ident, $plan:expr, $work:expr, $values:expr $(, $more:expr)*) => {
+        $answer::from_numbers(ffi::$call(
             $plan.columns,
             $plan.rows,
             $plan.entries,
@@ -433,7 +436,7 @@ pub fn solve_into(plan: &PlanRef<'_>, work: &mut Workspace, values: &mut [f64]) 
 
 /// As [`solve_into`], with memory of the caller's own.
 pub fn solve_lent(plan: &PlanRef<'_>, work: &mut WorkspaceMut<'_>, values: &mut [f64]) -> Answer {
-    over!(tevalumi_solve, plan, work, values)
+    over!(Answer, tevalumi_solve, plan, work, values)
 }
 
 /// Holds a column of a solved plan still at a value, and goes on from the state in the workspace: in a
@@ -491,7 +494,7 @@ pub fn fix_lent(
     column: usize,
     value: f64,
 ) -> Answer {
-    over!(tevalumi_fix, plan, work, values, column, value)
+    over!(Answer, tevalumi_fix, plan, work, values, column, value)
 }
 
 /// Lets a column go that [`fix_into`] holds, and goes on from the state in the workspace.
@@ -511,7 +514,134 @@ pub fn unfix_lent(
     values: &mut [f64],
     column: usize,
 ) -> Answer {
-    over!(tevalumi_unfix, plan, work, values, column)
+    over!(Answer, tevalumi_unfix, plan, work, values, column)
+}
+
+/// Solves a plan anew whose costs have changed, from the state in the workspace: the rows and bounds are
+/// those that the last call over it solved. Columns that [`fix_into`] holds stay where they are.
+///
+/// A call that doesn't end in 0 leaves a workspace that later ones refuse with 41, until a solve ends in 0
+/// again.
+///
+/// ```
+/// use tevalumi::raw::{reprice_into, solve_into, PlanRef, Status, Workspace};
+///
+/// // Minimise -3 x0 - x1 with x0 >= 0, 0 <= x1 <= 2 and x0 + x1 <= 4; then -x0 - 3 x1.
+/// let mut plan = PlanRef {
+///     columns: 2,
+///     rows: 1,
+///     entries: 2,
+///     budget: 100,
+///     tolerance: 1e-6,
+///     costs: &[-3.0, -1.0],
+///     lowers: &[0.0, 0.0],
+///     uppers: &[f64::INFINITY, 2.0],
+///     starts: &[0, 2],
+///     cols: &[0, 1],
+///     coeffs: &[1.0, 1.0],
+///     ops: &[0],
+///     rhs: &[4.0],
+/// };
+/// let mut work = Workspace::new();
+/// let mut values = [0.0; 3];
+/// solve_into(&plan, &mut work, &mut values);
+/// assert_eq!(values, [4.0, 0.0, 0.0]);
+/// plan.costs = &[-1.0, -3.0];
+/// let answer = reprice_into(&plan, &mut work, &mut values);
+/// assert_eq!((answer.status, answer.objective), (Status::Optimal, -8.0));
+/// assert_eq!(values, [2.0, 2.0, 0.0]);
+/// ```
+pub fn reprice_into(plan: &PlanRef<'_>, work: &mut Workspace, values: &mut [f64]) -> Answer {
+    reprice_lent(plan, &mut work.lend(), values)
+}
+
+/// As [`reprice_into`], with memory of the caller's own.
+pub fn reprice_lent(plan: &PlanRef<'_>, work: &mut WorkspaceMut<'_>, values: &mut [f64]) -> Answer {
+    over!(Answer, tevalumi_reprice, plan, work, values)
+}
+
+/// How [`solve_any_into`] came to its answer.
+#[derive(Clone, Copy, Debug, PartialEq, Eq, Hash)]
+pub enum Way {
+    /// 0: as [`solve_into`] answers, which doesn't give 7.
+    Direct = 0,
+    /// 1: a solve with costs 0 didn't end in 0. Its answer is the call's.
+    Halted = 1,
+    /// 2: a solve with costs 0 ended in 0, and what it left was repriced with the plan's own costs.
+    Repriced = 2,
+}
+
+/// What [`solve_any_into`] answers.
+#[derive(Clone, Copy, Debug, PartialEq)]
+pub struct AnyAnswer {
+    /// The last run's answer.
+    pub answer: Answer,
+    /// Which run that was.
+    pub way: Way,
+    /// The steps of the run with costs 0, if there was one. `answer.steps` are those of the last run.
+    pub costless_steps: usize,
+}
+
+impl AnyAnswer {
+    pub(crate) fn from_numbers(from: ffi::AnyAnswer) -> AnyAnswer {
+        AnyAnswer {
+            answer: Answer::from_numbers(from.answer),
+            way: match from.way {
+                0 => Way::Direct,
+                1 => Way::Halted,
+                _ => Way::Repriced,
+            },
+            costless_steps: from.costless_steps,
+        }
+    }
+}
+
+/// Solves a plan from any start: as [`solve_into`], and where that gives 7 with costs 0 first, from where
+/// every start is dual feasible, and then with the plan's own costs. Each of the two runs has the whole
+/// budget.
+///
+/// On [`Way::Repriced`] the values are written whatever the answer is: where it isn't 0 they are those of
+/// the run with costs 0, which keep every row and bound within the tolerance.
+///
+/// ```
+/// use tevalumi::raw::{solve_any_into, solve_into, PlanRef, Status, Way, Workspace};
+///
+/// // Minimise -x with x >= 0, x >= 1 and x <= 4 as rows: 0 breaks the first, and x has no upper bound.
+/// let plan = PlanRef {
+///     columns: 1,
+///     rows: 2,
+///     entries: 2,
+///     budget: 100,
+///     tolerance: 1e-6,
+///     costs: &[-1.0],
+///     lowers: &[0.0],
+///     uppers: &[f64::INFINITY],
+///     starts: &[0, 1, 2],
+///     cols: &[0, 0],
+///     coeffs: &[1.0, 1.0],
+///     ops: &[2, 0],
+///     rhs: &[1.0, 4.0],
+/// };
+/// let mut work = Workspace::new();
+/// let mut values = [0.0; 3];
+/// let answer = solve_into(&plan, &mut work, &mut values);
+/// assert_eq!(answer.status, Status::SlackOutside);
+/// let any = solve_any_into(&plan, &mut work, &mut values);
+/// assert_eq!((any.way, any.costless_steps), (Way::Repriced, 1));
+/// assert_eq!((any.answer.status, any.answer.objective), (Status::Optimal, -4.0));
+/// assert_eq!(values, [4.0, -3.0, 0.0]);
+/// ```
+pub fn solve_any_into(plan: &PlanRef<'_>, work: &mut Workspace, values: &mut [f64]) -> AnyAnswer {
+    solve_any_lent(plan, &mut work.lend(), values)
+}
+
+/// As [`solve_any_into`], with memory of the caller's own.
+pub fn solve_any_lent(
+    plan: &PlanRef<'_>,
+    work: &mut WorkspaceMut<'_>,
+    values: &mut [f64],
+) -> AnyAnswer {
+    over!(AnyAnswer, tevalumi_solve_any, plan, work, values)
 }
 
 /// Why a sheet's call was refused: document 01's numbers. A refused call changes nothing.

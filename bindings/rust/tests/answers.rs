@@ -149,7 +149,11 @@ fn reaching(status: Status) -> Problem {
             unreachable!("not a solve's")
         }
         // 0, where it starts, breaks the row, and its cost prefers the bound that it hasn't.
-        Status::SlackOutside => one_column(-1.0, (0.0, INF), &[(1.0, GE, 1.0)]),
+        Status::SlackOutside => {
+            let mut problem = one_column(-1.0, (0.0, INF), &[(1.0, GE, 1.0)]);
+            problem.set_plain(true);
+            problem
+        }
         Status::Unbounded => one_column(-1.0, (0.0, INF), &[(-1.0, LE, 4.0)]),
         Status::Spent => {
             let mut problem = n1();
@@ -374,6 +378,7 @@ fn places_are_said_in_the_callers_numbers() {
     second.add_constraint([(x, 1.0), (y, 1.0)], LE, 4.0);
     second.add_constraint([(x, 1.0), (y, -1.0)], LE, 3.0);
     second.add_constraint([(y, 1.0)], GE, 1.0);
+    second.set_plain(true);
     let outside = error(&second);
     assert_eq!((outside.number(), outside.constraint()), (7, Some(1)));
 
@@ -814,6 +819,7 @@ fn whatever_is_put_in_is_answered() {
         }
         problem.set_tolerance(number(&mut rng).abs().min(1.0));
         problem.set_budget(rng.below(30));
+        problem.set_plain(rng.below(2) == 0);
         match problem.solve_in(&mut work) {
             Ok(solution) => {
                 seen.insert(0);

@@ -2,7 +2,7 @@
 
 mod common;
 
-use common::Rng;
+use common::{near, Rng};
 use tevalumi::raw::{fix_into, sections, solve_into, unfix_into, Status, Workspace};
 use tevalumi::{
     ComparisonOp, Error, LinearExpr, OptimizationDirection, Problem, Solution, Variable,
@@ -43,10 +43,6 @@ fn shared(rng: &mut Rng, held: &[(usize, f64)]) -> (Problem, Vec<Variable>) {
         problem.add_constraint(expr, LE, rng.between(20, 120) as f64);
     }
     (problem, vars)
-}
-
-fn near(a: f64, b: f64) -> bool {
-    (a - b).abs() <= 1e-9 * (1.0 + a.abs().max(b.abs()))
 }
 
 /// Holding columns one after another ends where a fresh solve of the same plan with those bounds does, and letting them

@@ -40,7 +40,7 @@ use Rattle.fix_rules.specs.Calls.{Called, called, passes42, passes43, passes44,
 use Rattle.fix_rules.specs.declared.FixAnswer.{FixAnswer}
 use Rattle.fix_rules.specs.declared.FixAnswer.the-variants.{Told, NotKept, BadColumn, BadValue, NotFixed}
 use Rattle.fix_gate.specs.Gate as Gate
-use Rattle.fix_gate.specs.Gate.{passing, callRefusal, fixRefusal, unfixRefusal}
+use Rattle.fix_gate.specs.Gate.{passing, keptRefusal, callRefusal, fixRefusal, unfixRefusal}
 use Rattle.fix_gate.specs.declared.Refusal.{Refusal}
 use Rattle.fix_gate.specs.declared.Refusal.the-variants.{By, Nothing}
 
@@ -68,7 +68,28 @@ module _ {A : Type 0} (p : Plan) (m : Memory) (says : Answer → A) (r : A) wher
       (rung (eqb (firstCrossed p) (p .columns)) (CrossedBounds (firstCrossed p)) _ _
       (rung (eqb (firstFalse p) (p .rows)) (FalseEmptyRow (firstFalse p)) r Plan·Nothing refl))))
 
--- ---- `call_refusal`
+-- ---- the last rung of a gate, behind the gate before it
+module _ (x : Refusal) where
+  pub stays-refused : (y : Refusal) (a : FixAnswer) → x ≡ By a → By a ≡ Gate.orElse x y
+  stays-refused y a e = sym (ap (λ (x : Refusal). Gate.orElse x y) e)
+
+  module _ (e : x ≡ Nothing) where
+    pub last-refuses : (b : Bool) (a : FixAnswer) → b ≡ false → By a ≡ Gate.orElse x (passing b a Nothing)
+    last-refuses b a f = sym (ap (λ (x : Refusal). Gate.orElse x (passing b a Nothing)) e ∙ ap (λ (b : Bool). passing b a Nothing) f)
+
+    pub last-passes : (b : Bool) (a : FixAnswer) → b ≡ true → Nothing ≡ Gate.orElse x (passing b a Nothing)
+    last-passes b a f = sym (ap (λ (x : Refusal). Gate.orElse x (passing b a Nothing)) e ∙ ap (λ (b : Bool). passing b a Nothing) f)
+
+  -- the other way: nothing was refused
+  pub all-passed : (b : Bool) (a : FixAnswer) → Nothing ≡ Gate.orElse x (passing b a Nothing) → (Nothing ≡ x) × (b ≡ true)
+  all-passed b a e = go x b e
+    where
+      go : (x : Refusal) (b : Bool) → Nothing ≡ Gate.orElse x (passing b a Nothing) → (Nothing ≡ x) × (b ≡ true)
+      go (By c) b e = absurd (let z : _≡_ {A = ℕ} 0 1 = cc in omega arith)
+      go Nothing true e = (refl, refl)
+      go Nothing false e = absurd (let z : _≡_ {A = ℕ} 0 1 = cc in omega arith)
+
+-- ---- `kept_refusal`
 module _ (p : Plan) (v : List Float) (N : List ℕ) (D : List Float) (F : List ℕ) (G : List Float) where
   abbrev m : Memory
   m = memoryIn v N D F G
@@ -78,34 +99,26 @@ module _ (p : Plan) (v : List Float) (N : List ℕ) (D : List Float) (F : List �
   unfolding passes41 mapsFine keptRows
   kept-part = refl
 
-  module _ (j : ℕ) where
-    abbrev rest : Refusal
-    rest = passing (passes41 p m) NotKept (passing (passes42 p j) BadColumn Nothing)
+  abbrev rest : Refusal
+  rest = passing (passes41 p m) NotKept Nothing
 
-    abbrev from : Plan·Refusal → Refusal
-    from r = elim r [ Plan·By a ↦ By (Told a) | Plan·Nothing ↦ rest ]
+  abbrev from : Plan·Refusal → Refusal
+  from r = elim r [ Plan·By a ↦ By (Told a) | Plan·Nothing ↦ rest ]
 
-    pub says-told : (a : Answer) → Plan·By a ≡ refusalBy p m → By (Told a) ≡ callRefusal p m j
-    unfolding callRefusal
-    says-told a e = ap from e
+  pub says-told : (a : Answer) → Plan·By a ≡ refusalBy p m → By (Told a) ≡ keptRefusal p m
+  unfolding keptRefusal
+  says-told a e = ap from e
 
-    module _ (ok : Plan·Nothing ≡ refusalBy p m) where
-      is-rest : rest ≡ callRefusal p m j
-      unfolding callRefusal
-      is-rest = ap from ok
+  module _ (ok : Plan·Nothing ≡ refusalBy p m) where
+    is-rest : rest ≡ keptRefusal p m
+    unfolding keptRefusal
+    is-rest = ap from ok
 
-      pub says-not-kept : passes41 p m ≡ false → By NotKept ≡ callRefusal p m j
-      says-not-kept e = sym (ap (λ (b : Bool). passing b NotKept (passing (passes42 p j) BadColumn Nothing)) e) ∙ is-rest
+    pub says-not-kept : passes41 p m ≡ false → By NotKept ≡ keptRefusal p m
+    says-not-kept e = sym (ap (λ (b : Bool). passing b NotKept Nothing) e) ∙ is-rest
 
-      module _ (k : passes41 p m ≡ true) where
-        is-kept : passing (passes42 p j) BadColumn Nothing ≡ callRefusal p m j
-        is-kept = sym (ap (λ (b : Bool). passing b NotKept (passing (passes42 p j) BadColumn Nothing)) k) ∙ is-rest
-
-        pub says-unknown : passes42 p j ≡ false → By BadColumn ≡ callRefusal p m j
-        says-unknown e = sym (ap (λ (b : Bool). passing b BadColumn Nothing) e) ∙ is-kept
-
-        pub says-nothing : passes42 p j ≡ true → Nothing ≡ callRefusal p m j
-        says-nothing e = sym (ap (λ (b : Bool). passing b BadColumn Nothing) e) ∙ is-kept
+    pub says-kept : passes41 p m ≡ true → Nothing ≡ keptRefusal p m
+    says-kept e = sym (ap (λ (b : Bool). passing b NotKept Nothing) e) ∙ is-rest
 
   -- what holds once 1 to 5 have passed
   module _ (ok : Plan·Nothing ≡ refusalBy p m) where
@@ -124,35 +137,43 @@ module _ (p : Plan) (v : List Float) (N : List ℕ) (D : List Float) (F : List �
         let f = plan-fits .plan in
         (f .columns-most, f .rows-most, omega (arith, f .starts-long), long .numbers, long .doubles, long .factor-numbers, long .factor-coeffs)
 
-  -- and once 41 and 42 have
-  pub record Known (j : ℕ) : Type 0 where
+  -- once 41 has too, and 42
+  pub record Kept : Type 0 where
     pub refused-none : Plan·Nothing ≡ refusalBy p m
     pub kept : passes41 p m ≡ true
+
+  pub record Known (j : ℕ) : Type 0 where
+    pub memory : Kept
     pub column : j < p .columns
 
   clash : {A : Type 0} → _≡_ {A = ℕ} 0 1 → A
   clash e = absurd (omega arith)
 
+  pub was-kept : Nothing ≡ keptRefusal p m → Kept
+  unfolding keptRefusal
+  was-kept e = go (refusalBy p m) refl (passes41 p m) refl e
+    where
+      go : (r : Plan·Refusal) → refusalBy p m ≡ r → (b : Bool) → passes41 p m ≡ b
+          → Nothing ≡ elim r [ Plan·By a ↦ By (Told a) | Plan·Nothing ↦ passing b NotKept Nothing ] → Kept
+      go (Plan·By a) er b eb e = clash cc
+      go Plan·Nothing er true eb e = record { refused-none = sym er; kept = eb }
+      go Plan·Nothing er false eb e = clash cc
+
   pub known : (j : ℕ) → Nothing ≡ callRefusal p m j → Known j
   unfolding callRefusal
-  known j e = go (refusalBy p m) refl (passes41 p m) refl (passes42 p j) refl e
-    where
-      go : (r : Plan·Refusal) → refusalBy p m ≡ r → (b : Bool) → passes41 p m ≡ b → (c : Bool) → passes42 p j ≡ c
-          → Nothing ≡ elim r [ Plan·By a ↦ By (Told a) | Plan·Nothing ↦ passing b NotKept (passing c BadColumn Nothing) ] → Known j
-      go (Plan·By a) er b eb c ec e = clash cc
-      go Plan·Nothing er true eb true ec e = record { refused-none = sym er; kept = eb; column = ltb-true j (p .columns) ec }
-      go Plan·Nothing er true eb false ec e = clash cc
-      go Plan·Nothing er false eb c ec e = clash cc
+  known j e =
+      let a = all-passed (keptRefusal p m) (passes42 p j) BadColumn e in
+      record { memory = was-kept (a .0); column = ltb-true j (p .columns) (a .1) }
 
   -- what the last tests ask
   module _ (j : ℕ) (k : Known j) where
     pub inside-asks : (j < length (p .lowers)) × (j < length (p .uppers))
     inside-asks =
-        let f = plan-fits (k .refused-none) .plan in
+        let f = plan-fits (k .memory .refused-none) .plan in
         (omega (arith, k .column, f .lowers-long), omega (arith, k .column, f .uppers-long))
 
     pub fixed-asks : (p .columns ≤ maxColumns) × (j < p .columns) × (numbersEnd ≤ length N)
-    fixed-asks = let a = kept-asks (k .refused-none) in (a .0, k .column, a .3)
+    fixed-asks = let a = kept-asks (k .memory .refused-none) in (a .0, k .column, a .3)
 
 -- ---- `value_inside`
 module _ (lowers uppers : List Float) (j : ℕ) (value : Float) where
@@ -203,7 +224,7 @@ unfolding isFixed
 fixed-part p v N D F G j = refl
 
 -- ---- the whole calls by the answer
-module _ (p : Plan) (m : Memory) (j : ℕ) where
+module _ (p : Plan) (m : Memory) where
   -- the rest of a call after the gate
   abbrev pub goesBy : Called → Refusal → Called
   goesBy c (By a) = called a m
@@ -213,64 +234,34 @@ module _ (p : Plan) (m : Memory) (j : ℕ) where
   tested true a c = refl
   tested false a c = refl
 
-  joined : (x y : Refusal) (c : Called) → goesBy (goesBy c y) x ≡ goesBy c (Gate.orElse x y)
-  joined (By a) y c = refl
-  joined Nothing y c = refl
+  -- one rung more
+  joined : (x : Refusal) (b : Bool) (a : FixAnswer) (c : Called)
+      → goesBy (orElse b (called a m) c) x ≡ goesBy c (Gate.orElse x (passing b a Nothing))
+  joined (By d) b a c = refl
+  joined Nothing b a c = tested b a c
 
-  call-by : (c : Called) → orRefusedCall p m j c ≡ goesBy c (callRefusal p m j)
-  unfolding callRefusal
-  call-by c =
-      refused-by p m (λ a. called (Told a) m) _ ∙ go (refusalBy p m)
+  pub kept-by : (c : Called)
+      → orRefused p m (λ a. called (Told a) m) (orElse (passes41 p m) (called NotKept m) c) ≡ goesBy c (keptRefusal p m)
+  unfolding keptRefusal
+  kept-by c = refused-by p m (λ a. called (Told a) m) _ ∙ go (refusalBy p m)
     where
-      from42 : Called
-      from42 = orElse (passes41 p m) (called NotKept m) (orElse (passes42 p j) (called BadColumn m) c)
-
-      kept : (b d : Bool) → orElse b (called NotKept m) (orElse d (called BadColumn m) c)
-          ≡ goesBy c (passing b NotKept (passing d BadColumn Nothing))
-      kept true true = refl
-      kept true false = refl
-      kept false d = refl
-
-      go : (r : Plan·Refusal) → saysBy p m (λ a. called (Told a) m) from42 r
-          ≡ goesBy c (elim r [ Plan·By a ↦ By (Told a) | Plan·Nothing ↦ passing (passes41 p m) NotKept (passing (passes42 p j) BadColumn Nothing) ])
+      go : (r : Plan·Refusal)
+          → saysBy p m (λ a. called (Told a) m) (orElse (passes41 p m) (called NotKept m) c) r
+          ≡ goesBy c (elim r [ Plan·By a ↦ By (Told a) | Plan·Nothing ↦ passing (passes41 p m) NotKept Nothing ])
       go (Plan·By a) = refl
-      go Plan·Nothing = kept (passes41 p m) (passes42 p j)
+      go Plan·Nothing = tested (passes41 p m) NotKept c
 
-  pub fix-by : (value : Float) → let P = problemOf p in
-      fixPlan p j value m ≡ goesBy (closeCall P m (fixed P (keptState P m) j value)) (fixRefusal p m j value)
-  unfolding fixPlan fixRefusal
-  fix-by value =
-      let P = problemOf p in
-      let c = closeCall P m (fixed P (keptState P m) j value) in
-      call-by _ ∙ ap (λ (x : Called). goesBy x (callRefusal p m j)) (tested (passes43 p j value) BadValue c)
-      ∙ joined (callRefusal p m j) (passing (passes43 p j value) BadValue Nothing) c
+  module _ (j : ℕ) where
+    call-by : (c : Called) → orRefusedCall p m j c ≡ goesBy c (callRefusal p m j)
+    unfolding callRefusal
+    call-by c = kept-by _ ∙ joined (keptRefusal p m) (passes42 p j) BadColumn c
 
-  pub unfix-by : let P = problemOf p in
-      unfixPlan p j m ≡ goesBy (closeCall P m (unfixed P (keptState P m) j)) (unfixRefusal p m j)
-  unfolding unfixPlan unfixRefusal
-  unfix-by =
-      let P = problemOf p in
-      let c = closeCall P m (unfixed P (keptState P m) j) in
-      call-by _ ∙ ap (λ (x : Called). goesBy x (callRefusal p m j)) (tested (passes44 p m j) NotFixed c)
-      ∙ joined (callRefusal p m j) (passing (passes44 p m j) NotFixed Nothing) c
+    pub fix-by : (value : Float) → let P = problemOf p in
+        fixPlan p j value m ≡ goesBy (closeCall P m (fixed P (keptState P m) j value)) (fixRefusal p m j value)
+    unfolding fixPlan fixRefusal
+    fix-by value = call-by _ ∙ joined (callRefusal p m j) (passes43 p j value) BadValue _
 
--- ---- the last rung of either call
-module _ (x : Refusal) where
-  pub stays-refused : (y : Refusal) (a : FixAnswer) → x ≡ By a → By a ≡ Gate.orElse x y
-  stays-refused y a e = sym (ap (λ (x : Refusal). Gate.orElse x y) e)
-
-  module _ (e : x ≡ Nothing) where
-    pub last-refuses : (b : Bool) (a : FixAnswer) → b ≡ false → By a ≡ Gate.orElse x (passing b a Nothing)
-    last-refuses b a f = sym (ap (λ (x : Refusal). Gate.orElse x (passing b a Nothing)) e ∙ ap (λ (b : Bool). passing b a Nothing) f)
-
-    pub last-passes : (b : Bool) (a : FixAnswer) → b ≡ true → Nothing ≡ Gate.orElse x (passing b a Nothing)
-    last-passes b a f = sym (ap (λ (x : Refusal). Gate.orElse x (passing b a Nothing)) e ∙ ap (λ (b : Bool). passing b a Nothing) f)
-
-  -- the other way: nothing was refused
-  pub all-passed : (b : Bool) (a : FixAnswer) → Nothing ≡ Gate.orElse x (passing b a Nothing) → (Nothing ≡ x) × (b ≡ true)
-  all-passed b a e = go x b e
-    where
-      go : (x : Refusal) (b : Bool) → Nothing ≡ Gate.orElse x (passing b a Nothing) → (Nothing ≡ x) × (b ≡ true)
-      go (By c) b e = absurd (let z : _≡_ {A = ℕ} 0 1 = cc in omega arith)
-      go Nothing true e = (refl, refl)
-      go Nothing false e = absurd (let z : _≡_ {A = ℕ} 0 1 = cc in omega arith)
+    pub unfix-by : let P = problemOf p in
+        unfixPlan p j m ≡ goesBy (closeCall P m (unfixed P (keptState P m) j)) (unfixRefusal p m j)
+    unfolding unfixPlan unfixRefusal
+    unfix-by = call-by _ ∙ joined (callRefusal p m j) (passes44 p m j) NotFixed _

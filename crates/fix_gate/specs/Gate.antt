@@ -1,5 +1,5 @@
 -- 02: "Refuse, lowest first and changing nothing": 1 to 5 as solve gives them, 41, 42, then 43 of a fix or 44 of an
--- unfix. Assumes nothing.
+-- unfix. A call that names no column has those up to 41. Assumes nothing.
 use mathlib.Core.Bool.{Bool, true, false}
 use Prim.Native.Nat.{ℕ}
 use lib.Ieee.{Float}
@@ -22,13 +22,14 @@ abbrev pub orElse : Refusal → Refusal → Refusal
 orElse (By a) r = By a
 orElse Nothing r = r
 
--- 1 to 5, 41 and 42
+-- 1 to 5 and 41, of every call over a memory that was kept
+unfoldable pub keptRefusal : Plan → Memory → Refusal
+keptRefusal p m =
+    elim (refusalBy p m) [ Plan·By a ↦ By (Told a) | Plan·Nothing ↦ passing (passes41 p m) NotKept Nothing ]
+
+-- and 42
 unfoldable pub callRefusal : Plan → Memory → ℕ → Refusal
-callRefusal p m j =
-    elim (refusalBy p m) [
-      | Plan·By a ↦ By (Told a)
-      | Plan·Nothing ↦ passing (passes41 p m) NotKept (passing (passes42 p j) BadColumn Nothing)
-    ]
+callRefusal p m j = orElse (keptRefusal p m) (passing (passes42 p j) BadColumn Nothing)
 
 -- and 43
 unfoldable pub fixRefusal : Plan → Memory → ℕ → Float → Refusal

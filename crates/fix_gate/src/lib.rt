@@ -1,4 +1,4 @@
-// What a call that fixes or unfixes a column refuses, before the first lent cell is written.
+// What a call over a memory that was kept refuses, before the first lent cell is written.
 ghost use mathlib.Core.Path.{_≡_};
 ghost use mathlib.Core.List.{List, []};
 ghost use Prim.Native.Nat.{_<_, _≤_};
@@ -11,15 +11,15 @@ ghost use Rattle.state.specs.Packed.{packed};
 ghost use Rattle.state.specs.Memory.{memoryIn, numbersEnd};
 ghost use Rattle.fix_rules.specs.Fix.{isFixed};
 ghost use Rattle.fix_rules.specs.Calls.{passes43};
-ghost use Rattle.fix_gate.specs.Gate.{callRefusal, fixRefusal, unfixRefusal};
+ghost use Rattle.fix_gate.specs.Gate.{keptRefusal, callRefusal, fixRefusal, unfixRefusal};
 
 pub enum Refusal {
     By(fix_rules::FixAnswer),
     Nothing,
 }
 
-// 1 to 5, 41 and 42, of either call. Any sizes and any arrays.
-fn call_refusal(
+// 1 to 5 and 41, of every call over a memory that was kept. Any sizes and any arrays.
+pub fn kept_refusal(
     columns: usize,
     rows: usize,
     entries: usize,
@@ -38,13 +38,12 @@ fn call_refusal(
     doubles: &[f64],
     factor_numbers: &[usize],
     factor_coeffs: &[f64],
-    column: usize,
 ) -> Refusal
-    ensures { λ r. ⌜ r ≡ callRefusal
+    ensures { λ r. ⌜ r ≡ keptRefusal
         (planOf columns rows entries budget tolerance (now (costs .entry)) (now (lowers .entry))
         (now (uppers .entry)) (now (starts .entry)) (now (cols .entry)) (now (coeffs .entry)) (now (ops .entry))
         (now (rhs .entry))) (memoryIn (now (values .entry)) (now (numbers .entry)) (now (doubles .entry))
-        (now («factor_numbers» .entry)) (now («factor_coeffs» .entry))) column ⌝ }
+        (now («factor_numbers» .entry)) (now («factor_coeffs» .entry))) ⌝ }
 {
     let refusal = start_gate::refusal(
         columns,
@@ -79,6 +78,60 @@ fn call_refusal(
         factor_coeffs,
     ) {
         return Refusal::By(fix_rules::FixAnswer::NotKept);
+    }
+    Refusal::Nothing
+}
+
+// And 42, of a call that names a column.
+fn call_refusal(
+    columns: usize,
+    rows: usize,
+    entries: usize,
+    budget: usize,
+    tolerance: f64,
+    costs: &[f64],
+    lowers: &[f64],
+    uppers: &[f64],
+    starts: &[usize],
+    cols: &[usize],
+    coeffs: &[f64],
+    ops: &[u8],
+    rhs: &[f64],
+    values: &[f64],
+    numbers: &[usize],
+    doubles: &[f64],
+    factor_numbers: &[usize],
+    factor_coeffs: &[f64],
+    column: usize,
+) -> Refusal
+    ensures { λ r. ⌜ r ≡ callRefusal
+        (planOf columns rows entries budget tolerance (now (costs .entry)) (now (lowers .entry))
+        (now (uppers .entry)) (now (starts .entry)) (now (cols .entry)) (now (coeffs .entry)) (now (ops .entry))
+        (now (rhs .entry))) (memoryIn (now (values .entry)) (now (numbers .entry)) (now (doubles .entry))
+        (now («factor_numbers» .entry)) (now («factor_coeffs» .entry))) column ⌝ }
+{
+    let refusal = kept_refusal(
+        columns,
+        rows,
+        entries,
+        budget,
+        tolerance,
+        costs,
+        lowers,
+        uppers,
+        starts,
+        cols,
+        coeffs,
+        ops,
+        rhs,
+        values,
+        numbers,
+        doubles,
+        factor_numbers,
+        factor_coeffs,
+    );
+    if let Refusal::By(answer) = refusal {
+        return Refusal::By(answer);
     }
     if column >= columns {
         return Refusal::By(fix_rules::FixAnswer::BadColumn);

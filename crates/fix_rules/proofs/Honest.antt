@@ -106,7 +106,7 @@ module _ (lower : Bool) (m : ℕ) (t : Matrix) (first : t .starts # 0 ≡ 0) (mo
       and (lt-ltb _ _ inside) (far lower c (kid tri c i) inside (columns .falls c i h g))))))
 
 -- the test of a factor, apart from the arrays that it stands in
-abbrev fineOf : ℕ → Factor → Bool
+abbrev pub fineOf : ℕ → Factor → Bool
 fineOf m f =
     orderFine m (f .order) (f .number)
     && (triangleFine true m (f .lower)
@@ -127,7 +127,7 @@ module _ (m : ℕ) (small : m ≤ maxRows) (f : Factor) (i : IsFactor m f)
   unfolding diagonalFine
   diagonal-fine = all-by (λ j. not (lt (size (f .diag ! j)) eps)) m (λ j h. rw (le-not-lt _ _ (least j h)) refl)
 
-  factor-fine : fineOf m f ≡ true
+  pub factor-fine : fineOf m f ≡ true
   factor-fine =
       let whole = fits-whole m small in
       and order-fine
@@ -136,7 +136,7 @@ module _ (m : ℕ) (small : m ≤ maxRows) (f : Factor) (i : IsFactor m f)
       diagonal-fine))
 
 -- a factor that passes still does in the arrays that it is written to
-packed-fine : (m : ℕ) (f : Factor) → Exact f → (N : List ℕ) (D : List Float) → fineOf m f ≡ true
+pub packed-fine : (m : ℕ) (f : Factor) → Exact f → (N : List ℕ) (D : List Float) → fineOf m f ≡ true
     → factorFine m (packedNumbers f N) (packedCoeffs f D) ≡ true
 unfolding factorFine
 packed-fine m f e N D h =

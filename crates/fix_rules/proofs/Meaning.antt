@@ -120,14 +120,14 @@ module _ (p : Plan) (m : Memory) where
       }
 
 -- ---- what it tells
-checked-told : (s : State) (x : Checked)
+pub checked-told : (s : State) (x : Checked)
     → (asRow (checkedAnswer s x) .steps ≡ s .steps) × (asRow (checkedAnswer s x) .objective ≡ s .objective)
 unfolding checkedAnswer asRow
 checked-told s (Passed x) = (refl, refl)
 checked-told s (Value v x) = (refl, refl)
 checked-told s (Row r x) = (refl, refl)
 
-told : (P : Problem) (w : Stop) (s : State)
+pub told : (P : Problem) (w : Stop) (s : State)
     → (asRow (answerOf P (ended w s)) .steps ≡ s .steps) × (asRow (answerOf P (ended w s)) .objective ≡ s .objective)
 unfolding answerOf asRow
 told P Finished s = checked-told s (finalCheck P (valuesOf P (s .ws)))
@@ -151,7 +151,7 @@ checked-by P NotFinite s q = absurd (⊎-elim (λ z. omega arith) (λ z. omega a
 checked-by P Singular s q = absurd (⊎-elim (λ z. omega arith) (λ z. omega arith) q)
 checked-by P (Infeasible r) s q = absurd (⊎-elim (λ z. omega arith) (λ z. omega arith) q)
 
-checked-passed : (s : State) (x : Checked) → numberOf (checkedAnswer s x) ≡ 0
+pub checked-passed : (s : State) (x : Checked) → numberOf (checkedAnswer s x) ≡ 0
     → x ≡ Passed (asRow (checkedAnswer s x) .excess)
 unfolding checkedAnswer asRow
 checked-passed s (Passed x) q = refl

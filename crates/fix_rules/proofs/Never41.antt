@@ -105,7 +105,7 @@ module _ (p : Plan) (m : Memory) (e : Ended) where
   abbrev s : State
   s = e .state
 
-  close-passes : Honest P s → numberOf (answerOf P e) ≡ 0 → passes41 p (close P m e .memory) ≡ true
+  pub close-passes : Honest P s → numberOf (answerOf P e) ≡ 0 → passes41 p (close P m e .memory) ≡ true
   unfolding close memoryAfter passes41 flagsFine
   close-passes h q =
       let n = h .sound .numbers in

@@ -17,6 +17,7 @@ mod files;
 mod fixes;
 mod journals;
 mod nights;
+mod reprices;
 mod wholes;
 
 // with_diag 0: all ones on the diagonal, and diag isn't read.

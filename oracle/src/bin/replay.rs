@@ -197,6 +197,9 @@ fn plans() -> Result<List, String> {
         .chain(read(PLANS)?.into_iter().map(|item| (item, false)))
     {
         let Item::Plan(plan) = item else { continue };
+        if plan.any {
+            continue;
+        }
         let answer = gate::solve(&plan, Options::default());
         let words = plan_words(&plan);
         let kind = plan_kind(&plan, &answer);

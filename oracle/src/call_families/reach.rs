@@ -4,7 +4,7 @@ use std::collections::BTreeMap;
 
 use super::damage::{self, CAUSES};
 use super::List;
-use crate::answer::{Answer, State};
+use crate::answer::{Answer, Outcome, State};
 use crate::plan::{Call, Plan};
 
 /// The kinds of a plan's calls with their answers.
@@ -16,13 +16,19 @@ fn kinds(plan: &Plan) -> Vec<String> {
     let mut list = List::new(bare);
     let mut kinds = vec![];
     let mut poked = None;
+    let mut last = if plan.any { "any" } else { "solve" };
     for call in &plan.calls {
         let what = kind(&list, call);
+        let left = list.session.left();
         let Some(answer) = list.session.call(call) else {
             poked = Some(call);
             continue;
         };
         let number = answer.outcome.number();
+        if let (Call::Reprice { .. }, Some(left)) = (call, left) {
+            kinds.extend(reprices(last, &left, &answer));
+        }
+        last = name(call);
         kinds.push("calls".into());
         kinds.push(format!("answer {}", number));
         kinds.push(format!("{}, answer {}", what, number));
@@ -31,10 +37,11 @@ fn kinds(plan: &Plan) -> Vec<String> {
             (Some(&Call::Poke { lent, index, bits }), Some(state))
                 if number == 41 && was_optimal =>
             {
-                kinds.push(format!(
-                    "41 by {}",
-                    damage::named(state, (lent, index, bits))
-                ));
+                let cause = damage::named(state, (lent, index, bits));
+                kinds.push(match call {
+                    Call::Reprice { .. } => format!("reprice, 41 by {}", cause),
+                    _ => format!("41 by {}", cause),
+                });
             }
             (Some(_), _) => kinds.push(format!("right after a poke, answer {}", number)),
             (None, _) => {}
@@ -50,8 +57,11 @@ fn kinds(plan: &Plan) -> Vec<String> {
 
 /// What a call is about.
 fn kind(list: &List, call: &Call) -> String {
+    let is_reprice = matches!(call, Call::Reprice { .. });
     let state = match &list.state {
         Some(state) if list.number == 0 => state,
+        Some(_) if is_reprice => return "reprice after an end".into(),
+        None if is_reprice => return "reprice after a refused plan".into(),
         Some(_) => return "after an end".into(),
         None => return "after a refused plan".into(),
     };
@@ -102,14 +112,50 @@ fn fixes(list: &List, call: &Call, number: u8) -> Vec<String> {
     ]
 }
 
+fn name(call: &Call) -> &'static str {
+    match call {
+        Call::Fix { .. } => "fix",
+        Call::Unfix { .. } => "unfix",
+        Call::Reprice { .. } => "reprice",
+        Call::Poke { .. } => "poke",
+    }
+}
+
+/// What a repricing that isn't refused comes after, what it finds, and where a 23 arises.
+fn reprices(last: &str, left: &State, answer: &Answer) -> Vec<String> {
+    if answer.state.is_none() {
+        return vec![];
+    }
+    let found = match (left.etarow.is_empty(), left.factor.is_some()) {
+        (true, false) => "neither eta columns nor a factor",
+        (true, true) => "a factor alone",
+        (false, false) => "eta columns alone",
+        (false, true) => "eta columns and a factor",
+    };
+    let mut kinds = vec![
+        format!("reprice after {}", last),
+        format!("reprice that finds {}", found),
+    ];
+    if left.flags.contains(&7) {
+        kinds.push("reprice beside marks".into());
+    }
+    if let Outcome::NotFinite { named, .. } = answer.outcome {
+        // The first of a step's numbers is an entry of its column.
+        let own = ["multiplier", "price", "objective", "factor"].contains(&named.name());
+        let part = if own && answer.steps == 0 {
+            ""
+        } else {
+            " of a step"
+        };
+        kinds.push(format!("reprice, 23 by {}{}", named.name(), part));
+    }
+    kinds
+}
+
 /// Which steps a call took.
 fn steps(what: &str, call: &Call, before: &State, after: &State, answer: &Answer) -> Vec<String> {
     let mut kinds = vec![];
-    let name = match call {
-        Call::Fix { .. } => "fix",
-        Call::Unfix { .. } => "unfix",
-        _ => "reprice",
-    };
+    let name = name(call);
     match (after.dual_steps, answer.steps - after.dual_steps) {
         (0, 0) => kinds.push(format!("{} without steps", name)),
         (0, _) => kinds.push(format!("{} with primal steps alone", name)),
@@ -173,7 +219,7 @@ impl Survey {
 
     /// What must be reached: a name, the least count and the count.
     pub fn targets(&self) -> Vec<(String, u64, u64)> {
-        let mut targets = vec![("plans".to_string(), 8_000, self.plans)];
+        let mut targets = vec![("plans".to_string(), 12_000, self.plans)];
         let mut at_least = |least: u64, name: &str| {
             let count = self.counts.get(name).copied().unwrap_or(0);
             targets.push((name.to_string(), least, count));
@@ -188,6 +234,10 @@ impl Survey {
         }
         for cause in CAUSES {
             at_least(200, &format!("41 by {}", cause.name));
+            at_least(60, &format!("reprice, 41 by {}", cause.name));
+        }
+        for (least, name) in REPRICES {
+            at_least(least, name);
         }
         for (least, name) in STEPS {
             at_least(least, name);
@@ -198,7 +248,7 @@ impl Survey {
 
 /// All calls, by their answers and by what they fix.
 const ALL: [(u64, &str); 15] = [
-    (20_000, "calls"),
+    (40_000, "calls"),
     (2_000, "answer 41"),
     (200, "answer 42"),
     (200, "answer 43"),
@@ -216,7 +266,7 @@ const ALL: [(u64, &str); 15] = [
 ];
 
 /// What calls are about, and the least count of their answers.
-const ANSWERS: [(&str, &[(u8, u64)]); 10] = [
+const ANSWERS: [(&str, &[(u8, u64)]); 12] = [
     (
         "fix of a basic column",
         &[
@@ -268,10 +318,46 @@ const ANSWERS: [(&str, &[(u8, u64)]); 10] = [
             (44, 40),
         ],
     ),
-    ("reprice", &[(0, 700), (20, 40), (24, 2)]),
+    (
+        "reprice",
+        &[
+            (0, 4_000),
+            (1, 10),
+            (2, 40),
+            (20, 300),
+            (21, 150),
+            (23, 200),
+            (24, 200),
+            (25, 40),
+        ],
+    ),
+    (
+        "reprice after a refused plan",
+        &[(1, 60), (2, 30), (3, 50), (4, 50), (5, 40), (41, 40)],
+    ),
+    ("reprice after an end", &[(41, 1_000)]),
 ];
 
-const STEPS: [(u64, &str); 16] = [
+/// What repricings come after, what they find, and where their 23s arise: at each of the numbers that they
+/// work out themselves, and in steps.
+const REPRICES: [(u64, &str); 14] = [
+    (1_500, "reprice after solve"),
+    (150, "reprice after any"),
+    (300, "reprice after fix"),
+    (150, "reprice after unfix"),
+    (1_500, "reprice after reprice"),
+    (500, "reprice beside marks"),
+    (500, "reprice that finds neither eta columns nor a factor"),
+    (1_000, "reprice that finds a factor alone"),
+    (1_000, "reprice that finds eta columns alone"),
+    (800, "reprice that finds eta columns and a factor"),
+    (40, "reprice, 23 by multiplier"),
+    (20, "reprice, 23 by price"),
+    (60, "reprice, 23 by objective"),
+    (60, "reprice, 23 by helper of a step"),
+];
+
+const STEPS: [(u64, &str); 17] = [
     (2_000, "fix without steps"),
     (2_000, "fix with dual steps alone"),
     (3, "fix with primal steps alone"),
@@ -288,7 +374,8 @@ const STEPS: [(u64, &str); 16] = [
     (500, "unfix with primal steps alone"),
     (60, "unfix with a factor"),
     (150, "unfix beside other marks"),
-    (150, "reprice with primal steps alone"),
-    (300, "reprice that factors"),
-    (250, "reprice with a factor"),
+    (1_500, "reprice without steps"),
+    (1_500, "reprice with primal steps alone"),
+    (2_000, "reprice that factors"),
+    (1_500, "reprice with a factor"),
 ];

@@ -6,7 +6,7 @@ use crate::limits;
 use crate::rng::Rng;
 
 /// Rows and columns, from the least to the limits.
-const SIZES: [(usize, usize); 12] = [
+pub(super) const SIZES: [(usize, usize); 12] = [
     (1, 1),
     (1, 4),
     (4, 1),
@@ -22,7 +22,7 @@ const SIZES: [(usize, usize); 12] = [
 ];
 
 /// Entries for a row, at least one of them, within the limit for all rows together.
-fn entries(
+pub(super) fn entries(
     draft: &Draft,
     rng: &mut Rng,
     sparse: usize,
@@ -37,7 +37,7 @@ fn entries(
     entries
 }
 
-fn sparsity(rng: &mut Rng, rows: usize, columns: usize) -> usize {
+pub(super) fn sparsity(rng: &mut Rng, rows: usize, columns: usize) -> usize {
     let least = (rows * columns).div_ceil(limits::ENTRIES as usize - 200);
     rng.between(1, 3).max(least)
 }
@@ -88,7 +88,7 @@ fn feasible_column(draft: &mut Draft, rng: &mut Rng) {
 }
 
 /// A point within the bounds.
-fn point(draft: &Draft, rng: &mut Rng) -> Vec<f64> {
+pub(super) fn point(draft: &Draft, rng: &mut Rng) -> Vec<f64> {
     let mut point = vec![];
     for (&lower, &upper) in draft.lower.iter().zip(&draft.upper) {
         let low = if lower == -INF {
@@ -131,7 +131,7 @@ fn through(rng: &mut Rng, rows: usize, columns: usize, ops: &[u64], apart: bool)
     draft
 }
 
-fn mixed(rng: &mut Rng, rows: usize, columns: usize) -> Draft {
+pub(super) fn mixed(rng: &mut Rng, rows: usize, columns: usize) -> Draft {
     let apart = rng.one_in(3);
     through(rng, rows, columns, &[LE, GE, GE, EQ], apart)
 }
@@ -228,7 +228,7 @@ fn just_outside(rng: &mut Rng) -> Draft {
 
 /// A dense covering plan whose rows and columns have sizes far apart: a pivot is well over EPS in its
 /// step, and what is left of it in a factor may not be.
-fn far_apart(rng: &mut Rng) -> Draft {
+pub(super) fn far_apart(rng: &mut Rng) -> Draft {
     let sizes = [1.0, 1e-3, 1e-6];
     let (rows, columns) = (rng.between(40, 56), limits::COLUMNS as usize);
     let mut draft = Draft::new();

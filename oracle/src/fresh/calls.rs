@@ -1,13 +1,13 @@
-//! The calls of 02's Ask 9, and our repricing, for the second solver; and the lent cells between them,
-//! each by its name in a poke.
+//! The calls of 02's Ask 9, our repricing and our solve from any start, for the second solver; and the
+//! lent cells between them, each by its name in a poke.
 
 use std::collections::HashMap;
 
 use super::{
-    column, factored, finite, laid_out, left, run, solve, solve_column, stood, transposed, Eta,
-    Now, Rules, Triangles, EPS,
+    column, factored, finite, laid_out, left, run, solve_column, solve_from_start, stood,
+    transposed, Eta, Now, Rules, Triangles, EPS,
 };
-use crate::answer::{Answer, Factor, Named, Outcome, State};
+use crate::answer::{Answer, Factor, Named, Outcome, State, Way};
 use crate::plan::{Call, Plan};
 
 /// Where the factor's parts stand in its two arrays.
@@ -24,7 +24,10 @@ pub fn answers(plan: &Plan) -> Vec<Answer> {
     let mut plan = plan.clone();
     let mut cells = Cells::default();
     cells.set("counts", 4, 99);
-    let mut answers = vec![solve(&plan)];
+    let mut answers = vec![match plan.any {
+        true => solve_any(&plan, &mut cells),
+        false => solve_from_start(&plan),
+    }];
     cells.keep(&answers[0]);
     for call in plan.calls.clone() {
         match call {
@@ -40,6 +43,32 @@ pub fn answers(plan: &Plan) -> Vec<Answer> {
         answers.push(answer);
     }
     answers
+}
+
+/// A solve; on 7 one with costs 0, and after its 0 a repricing with the plan's costs.
+pub(super) fn solve_any(plan: &Plan, cells: &mut Cells) -> Answer {
+    let mut answer = solve_from_start(plan);
+    let mut way = (Way::Direct, 0);
+    if answer.outcome == Outcome::SlackOutside {
+        let mut costless = plan.clone();
+        costless.cost.fill(0.0);
+        answer = solve_from_start(&costless);
+        cells.keep(&answer);
+        way = (Way::Halted, answer.steps);
+        if answer.outcome == Outcome::Optimal {
+            let call = Call::Reprice {
+                cost: plan.cost.clone(),
+            };
+            let written = answer.values;
+            answer = called(plan, cells, &call).unwrap_or_else(Answer::refusal);
+            if answer.outcome != Outcome::Optimal {
+                answer.values = written;
+            }
+            way.0 = Way::Repriced;
+        }
+    }
+    answer.way = Some(way);
+    answer
 }
 
 /// A call's answer, or its refusal: "1 to 5 as solve gives them", then 41 to 44.
@@ -172,7 +201,7 @@ fn repriced(rules: &Rules, now: &Now, costs: &[f64]) -> Result<Now, Outcome> {
 
 /// Lent cells by a poke's name and index, doubles by their bits. One that nobody wrote holds 0.
 #[derive(Default)]
-struct Cells(HashMap<(&'static str, usize), u64>);
+pub(super) struct Cells(HashMap<(&'static str, usize), u64>);
 
 impl Cells {
     fn set(&mut self, name: &'static str, index: usize, bits: u64) {

@@ -29,6 +29,7 @@ pub struct Request {
     pub maximise: Option<bool>,
     pub budget: Option<usize>,
     pub tolerance: Option<f64>,
+    pub plain: bool,
     pub bits: bool,
     pub json: bool,
     /// Where `keep` puts the plan.
@@ -51,10 +52,11 @@ pub struct Request {
 }
 
 impl Request {
-    /// Budget, tolerance and direction as the command line says.
+    /// Budget, tolerance, start and direction as the command line says.
     pub fn settle(&self, plan: &mut Plan) {
         plan.budget = self.budget.unwrap_or(plan.budget);
         plan.tolerance = self.tolerance.unwrap_or(plan.tolerance);
+        plan.plain = self.plain;
         plan.turn(self.maximise.unwrap_or(plan.maximise));
     }
 }
@@ -99,8 +101,8 @@ At most 128 columns, 96 rows and 2,048 entries.
 
 The run begins with each column at the bound that its cost wants: below 0 the upper one, else the
 lower one; the other where that is infinite, 0 where both are. Where a row isn't kept there and a
-column has no bound on the side that its cost wants, the plan is refused with 7, though it may have
-a solution.
+column has no bound on the side that its cost wants, the plan is solved with costs 0 first, and with
+its own from there on; the budget holds for each of the two.
 
 formats: MPS, free or fixed, as GLPK, Clp and HiGHS write it; CPLEX-LP; the project's own text
          (docs/EXCHANGE.md); a plan that `tevalumi keep` wrote; each of them packed by gzip, where
@@ -113,6 +115,7 @@ options:
   --relax      allow fractions where the file wants whole numbers; without it they are refused
   --budget N   take at most N steps (0 to 10000; 10000 where the file says none)
   --tol X      the final check's tolerance (0 to 1; 1e-6 where the file says none)
+  --plain      never solve with costs 0 first: such a plan is refused with 7
   --max-size N read files of at most N MB, packed or not (64)
   --bits       print the 16 hex digits of each double too
   --json       print one JSON object a plan, on one line
@@ -143,7 +146,7 @@ exists, it says why, as `tevalumi why` does.
 
 limits: coefficients 4,096, costs 2^20, right sides 2^31, bounds and amounts 2^16, multipliers 1,024
 
-options: --format, --max, --min, --relax, --budget, --tol, --max-size, --json, --html as for
+options: --format, --max, --min, --relax, --budget, --tol, --plain, --max-size, --json, --html as for
          `tevalumi solve`
 
 exit status: 0 the sheet shows a gap; 4 it shows none; 1 refused (answers 1 to 7); 3 not solved
@@ -181,7 +184,7 @@ costs are kept with their signs turned.
 
 limits: as for `tevalumi audit`
 
-options: --format, --max, --min, --relax, --budget, --tol, --max-size, --json as for
+options: --format, --max, --min, --relax, --budget, --tol, --plain, --max-size, --json as for
          `tevalumi solve`
 
 exit status: 0 kept; 1 and 3 the plan isn't solved, as for `tevalumi solve`, and nothing is kept;
@@ -210,7 +213,7 @@ The sheet of a maximised plan minimises: its costs are those of the file with th
 Where a change is refused nothing is written. Columns of a kept plan are x0, x1, .. and its rows r0,
 r1, ..
 
-options: --format, --max, --min, --relax, --budget, --tol, --max-size, --json as for
+options: --format, --max, --min, --relax, --budget, --tol, --plain, --max-size, --json as for
          `tevalumi solve`
 
 exit status: 0 done, whatever the verdict; 1 a change is refused (11 to 16); 1 and 3 the plan isn't
@@ -273,7 +276,7 @@ options:
   --sheets     print the audit sheets in full, as `tevalumi audit` would
   --html FILE  write one page to keep or print
   --json       print one JSON object a plan, on one line
-  with FILE also --format, --max, --min, --relax, --budget, --tol and --max-size, as for
+  with FILE also --format, --max, --min, --relax, --budget, --tol, --plain and --max-size, as for
   `tevalumi solve`
 
 exit status: as for `tevalumi audit`; 4 too where the plan isn't in whole numbers; 2 too where no
@@ -423,6 +426,7 @@ fn request(args: &[OsString], own: &[&str]) -> Result<Request, Usage> {
             "--max" => request.maximise = Some(true),
             "--min" => request.maximise = Some(false),
             "--relax" => request.relax = true,
+            "--plain" => request.plain = true,
             "--json" => request.json = true,
             "--max-size" => request.most = max_size(&value()?)?,
             "--bits" if own.contains(&option) => request.bits = true,

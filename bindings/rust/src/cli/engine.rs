@@ -1,7 +1,8 @@
 //! Hands a plan to the library and keeps what it answers.
 
 use tevalumi::raw::{
-    fix_into, limits, sections, solve_lent, Answer, PlanRef, Status, Workspace, WorkspaceMut,
+    fix_into, limits, sections, solve_any_lent, solve_lent, Answer, PlanRef, Status, Way, Workspace,
+    WorkspaceMut,
 };
 
 use super::plan::Plan;
@@ -16,6 +17,8 @@ pub struct Solved {
     pub kept: Vec<usize>,
     /// What the run left.
     pub work: Box<Workspace>,
+    /// The steps that were taken with costs 0 before the plan's own costs were put in.
+    pub costless: Option<usize>,
     /// Where the call was a fix.
     pub fix: Option<Fix>,
 }
@@ -112,8 +115,14 @@ pub fn solve(plan: &Plan) -> Solved {
     for (&name, &length) in &plan.shorter {
         cut(plan, &mut memory, &mut values_lent, name, length);
     }
-    let answer = solve_lent(&lent(plan), &mut memory, values_lent);
-    after(plan, answer, values, work, None)
+    if plan.plain {
+        let answer = solve_lent(&lent(plan), &mut memory, values_lent);
+        return after(plan, answer, values, work, None);
+    }
+    let any = solve_any_lent(&lent(plan), &mut memory, values_lent);
+    let mut solved = after(plan, any.answer, values, work, None);
+    solved.costless = (any.way == Way::Repriced).then_some(any.costless_steps);
+    solved
 }
 
 /// Holds a column still, from where the call before it left off.
@@ -139,6 +148,7 @@ fn after(
             values: Vec::new(),
             kept: Vec::new(),
             work,
+            costless: None,
             fix,
         };
     }
@@ -152,6 +162,7 @@ fn after(
         values,
         kept,
         work,
+        costless: None,
         fix,
     }
 }

@@ -100,6 +100,8 @@ pub struct Plan {
     pub entries: usize,
     pub budget: usize,
     pub tolerance: f64,
+    /// Solved from its start alone, and refused with 7 where no step begins there.
+    pub plain: bool,
     pub costs: Vec<f64>,
     pub lowers: Vec<f64>,
     pub uppers: Vec<f64>,

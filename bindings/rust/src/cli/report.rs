@@ -57,7 +57,15 @@ pub fn head(plan: &Plan, solved: &Solved, with_bits: bool) -> String {
         return out;
     }
     out += &result(plan, solved, with_bits);
-    out + &format!("steps      {}\n", answer.steps)
+    out + &format!("steps      {}\n", steps(solved))
+}
+
+/// The steps, with those that were taken with costs 0.
+fn steps(solved: &Solved) -> String {
+    match solved.costless {
+        None => solved.answer.steps.to_string(),
+        Some(before) => format!("{}, after {before} with costs 0", solved.answer.steps),
+    }
 }
 
 /// The line of the objective.
@@ -100,7 +108,7 @@ pub fn page(plan: &Plan, solved: &Solved) -> Page {
     ];
     if !answer.status.is_refusal() {
         facts.push(("objective", number(plan.objective(answer.objective))));
-        facts.push(("steps", answer.steps.to_string()));
+        facts.push(("steps", steps(solved)));
     }
     page.facts(&facts);
     for note in &plan.notes {
@@ -286,6 +294,9 @@ pub fn as_json(file: &str, plan: &Plan, solved: &Solved, with_bits: bool, more: 
             json(objective),
             answer.steps
         );
+        if let Some(before) = solved.costless {
+            out += &format!(",\"costless_steps\":{before}");
+        }
         if with_bits {
             out += &format!(",\"objective_bits\":\"{}\"", bits(objective));
         }
@@ -398,7 +409,7 @@ pub fn sentence(plan: &Plan, solved: &Solved) -> String {
             compared(plan, 0.0, i)
         ),
         (Status::SlackOutside, _) => format!(
-            "refused: {}, and {}: this solver begins where every row is kept, or where every column has such a bound. There may be a plan all the same.",
+            "refused: {}, and {}: a plain solve begins where every row is kept, or where every column has such a bound. There may be a plan all the same.",
             broken_at_start(plan).unwrap_or_else(|| "a row isn't kept at the start".to_string()),
             unbounded_start(plan)
         ),

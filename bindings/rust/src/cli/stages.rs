@@ -491,7 +491,11 @@ const WHY: &str = "Why reports are cut";
 
 impl Shown {
     fn new(of: &Plan, figures: Figures, stage: Stage) -> Shown {
-        let plan = plan_of(of, &figures);
+        // The call keeps to a plain solve.
+        let plan = Plan {
+            plain: true,
+            ..plan_of(of, &figures)
+        };
         // The call opened it with the same numbers.
         let sheet = stage.sheet.as_ref().and_then(|kept| {
             let figures = Figures {

@@ -231,6 +231,13 @@ air       900  <=         900      0           2  at upper
     assert!(told.out.contains(wanted), "{}", told.out);
 }
 
+fn refused(words: &[&str], file: &[u8], wanted: &str) {
+    let told = run(words, file);
+    assert_eq!(told.exit, 1, "{}", told.out);
+    assert!(told.out.contains(&format!("\nstatus     {wanted}")), "{}", told.out);
+    assert!(!told.out.contains("objective"), "{}", told.out);
+}
+
 /// Every refusal that a file can reach, with its place by name.
 #[test]
 fn refusals() {
@@ -251,19 +258,20 @@ fn refusals() {
             mps(" L r\n L empty\n", column, " RHS empty -1\n", ""),
             "5, refused: row empty has no entries, and 0 <= -1 is false.",
         ),
+    ] {
+        refused(&["solve", "t.mps"], &file, wanted);
+    }
+    for (file, wanted) in [
         (
             mps(" G r\n", " x c -1 r 1\n", " RHS r 1\n", ""),
-            "7, refused: row r is broken at the start (0 >= 1), and column x has no upper bound, which its cost prefers: this solver begins where every row is kept, or where every column has such a bound. There may be a plan all the same.",
+            "7, refused: row r is broken at the start (0 >= 1), and column x has no upper bound, which its cost prefers: a plain solve begins where every row is kept, or where every column has such a bound. There may be a plan all the same.",
         ),
         (
             mps(" L r\n", " x c 0 r 1\n y c 1 r -1\n", " RHS r -1\n", " LO B x 2\n FR B y\n"),
             "7, refused: row r is broken at the start (2 <= -1), and column y has no lower bound, which its cost prefers: ",
         ),
     ] {
-        let told = run(&["solve", "t.mps"], &file);
-        assert_eq!(told.exit, 1, "{}", told.out);
-        assert!(told.out.contains(&format!("\nstatus     {wanted}")), "{}", told.out);
-        assert!(!told.out.contains("objective"), "{}", told.out);
+        refused(&["solve", "--plain", "t.mps"], &file, wanted);
     }
     let text = String::from_utf8_lossy(NIGHT).replace("cols 0\n", "cols 7\n");
     let told = run(&["solve", "t.txt"], text.as_bytes());
@@ -274,6 +282,34 @@ fn refusals() {
     let told = run(&["solve", "t.txt"], text.as_bytes());
     assert!(told.out.contains("1, refused: an array is too short"));
     assert_eq!(told.exit, 1);
+}
+
+/// A start that neither kind of step begins at: solved with costs 0 first, and from there on with its own. The same
+/// plan is refused by `--plain`.
+#[test]
+fn any_start() {
+    // Least -x + y with x + y >= 2 and x <= 5: x has no bound on the side that its cost prefers but by a row.
+    let rows = " G two\n L five\n";
+    let columns = " x c -1 two 1\n x five 1\n y c 1 two 1\n";
+    let file = mps(rows, columns, " RHS two 2 five 5\n", "");
+    refused(&["solve", "--plain", "t.mps"], &file, "7, refused: row two is broken at the start (0 >= 2)");
+    let told = run(&["solve", "t.mps"], &file);
+    let wanted = "objective  -5\nsteps      1, after 1 with costs 0\n";
+    assert!(told.out.contains(wanted), "{}", told.out);
+    assert_eq!(told.exit, 0);
+    let told = run(&["solve", "--json", "t.mps"], &file);
+    assert!(told.out.contains(",\"objective\":-5,\"steps\":1,\"costless_steps\":1,"), "{}", told.out);
+    let told = run(&["audit", "t.mps"], &file);
+    assert!(told.out.contains("\ngap        0.0\n"), "{}", told.out);
+    // Without the last row it has no end, and with x <= 1 there is none: the run with costs 0 says so.
+    let told = run(&["solve", "t.mps"], &mps(" G two\n", " x c -1 two 1\n", " RHS two 2\n", ""));
+    assert!(told.out.contains("\nstatus     20, Unbounded: "), "{}", told.out);
+    assert_eq!(told.exit, 3);
+    let columns = " x c -1 two 1\n x one 1\n";
+    let file = mps(" G two\n L one\n", columns, " RHS two 2 one 1\n", "");
+    let told = run(&["solve", "t.mps"], &file);
+    assert!(told.out.contains("\nstatus     26, Infeasible: "), "{}", told.out);
+    assert_eq!(told.exit, 3);
 }
 
 /// 02: "A broken probe sent a cost of 1e200". The message has the number and its line, in every format;

@@ -155,7 +155,7 @@ fn no_room() {
 fixed      north at 5, from 4.5
 status     26, Infeasible: the solver finds no column that could take up the move of north from 4.5 to 5: none that has room to move has a coefficient of at least 1e-8 in size in its row.
 objective  -27 after the last whole step, no result
-steps      0; a fresh solve is refused with 7
+steps      0; a fresh solve ends in 26 after 0 steps
 "
         ),
         "{}",

@@ -274,8 +274,8 @@ own: heat: 1 of 1 whole, 0 cut; pump: 0 of 1 whole, 1 cut.
 No plan, whole or fractional, has alarms worth more.
 These amounts are those of the alarms alone (6, the first stands), for the
 second stage gives no plan. Status 7, refused: row alarms is broken at the start
-(0 <= -15), and column odd has no upper bound, which its cost prefers: this
-solver begins where every row is kept, or where every column has such a bound.
+(0 <= -15), and column odd has no upper bound, which its cost prefers: a plain
+solve begins where every row is kept, or where every column has such a bound.
 There may be a plan all the same.
 
 unit  heat (got of wanted)     pump (got of wanted)

@@ -175,10 +175,10 @@ fn nights_without_an_audit() {
     );
     assert!(
         told.out
-            .starts_with("own: there is no plan to show.\nStatus 7, refused: row air is broken"),
+            .starts_with("own: there is no plan to show.\nStatus 26, Infeasible: "),
         "{}",
         told.out
     );
     assert!(told.out.lines().all(|line| line.len() <= 80));
-    assert_eq!(told.exit, 1);
+    assert_eq!(told.exit, 3);
 }

@@ -1,4 +1,4 @@
-//! A small seeded generator (splitmix64), the same on every machine.
+//! A small seeded generator (splitmix64), the same on every machine, and when two numbers are as good as equal.
 
 // Not every test file uses all of it.
 #![allow(dead_code)]
@@ -28,4 +28,9 @@ impl Rng {
     pub fn unit(&mut self) -> f64 {
         (self.bits() >> 11) as f64 / (1u64 << 53) as f64
     }
+}
+
+/// To 1e-9 of their size, or of 1.
+pub fn near(a: f64, b: f64) -> bool {
+    (a - b).abs() <= 1e-9 * (1.0 + a.abs().max(b.abs()))
 }

@@ -16,7 +16,8 @@ use Rattle.fix_gate.specs.Gate.{fixRefusal}
 use Rattle.fix_gate.specs.declared.Refusal.the-variants.{Nothing}
 use Rattle.fix_gate.proofs.Laws.{Known}
 use Rattle.fix_run.proofs.Parts.{fixed-part}
-use Rattle.fix.proofs.Laws.{fix-refuses, fix-known, keeps-asks, fronts-inside, front-inside, front-long, takes-asks, runs, no-steps, budget-most, close-asks, calls, fix-honest, fix-goes}
+use Rattle.fix_parts.proofs.Laws.{keeps-asks, fronts-inside, front-inside, front-long, takes-asks, no-steps, budget-most, close-asks, calls}
+use Rattle.fix.proofs.Laws.{fix-refuses, fix-known, runs, fix-fits, fix-goes}
 use Rattle.fix.proofs.fix.Statement.{statement}
 use Rattle.fix.proofs.fix.Tie as tie
 
@@ -120,42 +121,42 @@ keep-rows-requires : tie.Need-keep-rows-requires
 keep-rows-requires c κs =
     let t : tie.After-enum-told = search in
     let s = start t in
-    keeps-asks (p s) (v s) (N s) (D s) (F s) (G s) (s .args .column) (passed t .0)
+    keeps-asks (p s) (v s) (N s) (D s) (F s) (G s) (passed t .0 .memory)
 
 take-up-requires : tie.Need-take-up-requires
 take-up-requires c κs =
     let k : tie.After-keep-rows = search in
     let t = told k in
     let s = start t in
-    takes-asks (p s) (v s) (N s) (D s) (F s) (G s) (s .args .column) (passed t .0) _ _ _ (k .keep-rows .ensures) (k .keep-rows .kept .1 .1 .0)
+    takes-asks (p s) (v s) (N s) (D s) (F s) (G s) (passed t .0 .memory) _ _ _ (k .keep-rows .ensures) (k .keep-rows .kept .1 .1 .0)
 
 slice-relend-prefix-fixed : tie.Need-slice-relend-prefix-fixed
 slice-relend-prefix-fixed c =
     let u : tie.After-take-up = search in
     let t = told (kept u) in
     let s = start t in
-    fronts-inside (p s) (v s) (N s) (D s) (F s) (G s) (s .args .column) (passed t .0) .0
+    fronts-inside (p s) (v s) (N s) (D s) (F s) (G s) (passed t .0 .memory) .0
 
 slice-aggregate-fixed : tie.Need-slice-aggregate-fixed
 slice-aggregate-fixed c =
     let u : tie.After-take-up = search in
     let t = told (kept u) in
     let s = start t in
-    sym (length-take-le keptAt (N s) (fronts-inside (p s) (v s) (N s) (D s) (F s) (G s) (s .args .column) (passed t .0) .0))
+    sym (length-take-le keptAt (N s) (fronts-inside (p s) (v s) (N s) (D s) (F s) (G s) (passed t .0 .memory) .0))
 
 slice-relend-prefix-fixed-2 : tie.Need-slice-relend-prefix-fixed-2
 slice-relend-prefix-fixed-2 c =
     let u : tie.After-take-up = search in
     let t = told (kept u) in
     let s = start t in
-    fronts-inside (p s) (v s) (N s) (D s) (F s) (G s) (s .args .column) (passed t .0) .1
+    fronts-inside (p s) (v s) (N s) (D s) (F s) (G s) (passed t .0 .memory) .1
 
 slice-aggregate-fixed-2 : tie.Need-slice-aggregate-fixed-2
 slice-aggregate-fixed-2 c =
     let u : tie.After-take-up = search in
     let t = told (kept u) in
     let s = start t in
-    sym (length-take-le objectiveAt (D s) (fronts-inside (p s) (v s) (N s) (D s) (F s) (G s) (s .args .column) (passed t .0) .1))
+    sym (length-take-le objectiveAt (D s) (fronts-inside (p s) (v s) (N s) (D s) (F s) (G s) (passed t .0 .memory) .1))
 
 array-share-prefix-kept : tie.Need-array-share-prefix-kept
 array-share-prefix-kept c =
@@ -163,7 +164,7 @@ array-share-prefix-kept c =
     let k = kept u in
     let t = told k in
     let s = start t in
-    front-inside (p s) (v s) (N s) (D s) (F s) (G s) (s .args .column) (passed t .0) _ _ _ (k .keep-rows .ensures) (k .keep-rows .kept .1 .1 .0)
+    front-inside (p s) (v s) (N s) (D s) (F s) (G s) (passed t .0 .memory) _ _ _ (k .keep-rows .ensures) (k .keep-rows .kept .1 .1 .0)
 
 slice-aggregate-fixed-3 : tie.Need-slice-aggregate-fixed-3
 slice-aggregate-fixed-3 c =
@@ -171,7 +172,7 @@ slice-aggregate-fixed-3 c =
     let k = kept u in
     let t = told k in
     let s = start t in
-    front-long (p s) (v s) (N s) (D s) (F s) (G s) (s .args .column) (passed t .0) _ _ _ (k .keep-rows .ensures) (k .keep-rows .kept .1 .1 .0)
+    front-long (p s) (v s) (N s) (D s) (F s) (G s) (passed t .0 .memory) _ _ _ (k .keep-rows .ensures) (k .keep-rows .kept .1 .1 .0)
 
 fixed-requires : tie.Need-fixed-requires
 fixed-requires c κs =
@@ -179,7 +180,7 @@ fixed-requires c κs =
     let k = kept u in
     let t = told k in
     let s = start t in
-    (runs (p s) (v s) (N s) (D s) (F s) (G s) (s .args .column) (passed t .0) _ _ _ (k .keep-rows .ensures) (k .keep-rows .kept .1 .1 .0) (H u) (J u) (u .take-up .result) (u .take-up .ensures), no-steps (p s) (v s) (N s) (D s) (F s) (G s) (s .args .column) (passed t .0) _ _ _ (k .keep-rows .ensures) (k .keep-rows .kept .1 .1 .0) (H u) (J u) (u .take-up .result) (u .take-up .ensures), passed t .0 .column, budget-most (p s) (v s) (N s) (D s) (F s) (G s) (s .args .column) (passed t .0) _ _ _ (k .keep-rows .ensures) (k .keep-rows .kept .1 .1 .0) (H u) (J u) (u .take-up .result) (u .take-up .ensures))
+    (runs (p s) (v s) (N s) (D s) (F s) (G s) (s .args .column) (passed t .0) _ _ _ (k .keep-rows .ensures) (k .keep-rows .kept .1 .1 .0) (H u) (J u) (u .take-up .result) (u .take-up .ensures), no-steps (p s) (v s) (N s) (D s) (F s) (G s) (passed t .0 .memory) _ _ _ (k .keep-rows .ensures) (k .keep-rows .kept .1 .1 .0) (H u) (J u) (u .take-up .result) (u .take-up .ensures), passed t .0 .column, budget-most (p s) (v s) (N s) (D s) (F s) (G s) (passed t .0 .memory) _ _ _ (k .keep-rows .ensures) (k .keep-rows .kept .1 .1 .0) (H u) (J u) (u .take-up .result) (u .take-up .ensures))
 
 array-share-prefix-kept-2 : tie.Need-array-share-prefix-kept-2
 array-share-prefix-kept-2 c =
@@ -188,7 +189,7 @@ array-share-prefix-kept-2 c =
     let k = kept u in
     let t = told k in
     let s = start t in
-    front-inside (p s) (v s) (N s) (D s) (F s) (G s) (s .args .column) (passed t .0) _ _ _ (k .keep-rows .ensures) (k .keep-rows .kept .1 .1 .0)
+    front-inside (p s) (v s) (N s) (D s) (F s) (G s) (passed t .0 .memory) _ _ _ (k .keep-rows .ensures) (k .keep-rows .kept .1 .1 .0)
 
 slice-aggregate-close : tie.Need-slice-aggregate-close
 slice-aggregate-close c =
@@ -197,7 +198,7 @@ slice-aggregate-close c =
     let k = kept u in
     let t = told k in
     let s = start t in
-    front-long (p s) (v s) (N s) (D s) (F s) (G s) (s .args .column) (passed t .0) _ _ _ (k .keep-rows .ensures) (k .keep-rows .kept .1 .1 .0)
+    front-long (p s) (v s) (N s) (D s) (F s) (G s) (passed t .0 .memory) _ _ _ (k .keep-rows .ensures) (k .keep-rows .kept .1 .1 .0)
 
 close-requires : tie.Need-close-requires
 close-requires c κs =
@@ -207,8 +208,8 @@ close-requires c κs =
     let t = told k in
     let s = start t in
     let kn = passed t in
-    close-asks (p s) (v s) (N s) (D s) (F s) (G s) (s .args .column) (passed t .0) _ _ _ (k .keep-rows .ensures) (k .keep-rows .kept .1 .1 .0) (H u) (J u) (u .take-up .result) (u .take-up .ensures)
-    (λ (Q : Problem) (x : State). fixed Q x (s .args .column) (s .args .value)) (fix-honest (p s) (v s) (N s) (D s) (F s) (G s) (s .args .column) (kn .0) (s .args .value) (kn .1)) (λ x. fixed-part _ x (s .args .column) (s .args .value)) _ (fix-goes (p s) (v s) (N s) (D s) (F s) (G s) (s .args .column) (kn .0) (s .args .value) (ok t)) (r .fixed .result) (M r) (E r) (K r) (X r) (r .fixed .kept .0) (r .fixed .kept .1 .0) (r .fixed .ensures)
+    close-asks (p s) (v s) (N s) (D s) (F s) (G s) (passed t .0 .memory) _ _ _ (k .keep-rows .ensures) (k .keep-rows .kept .1 .1 .0) (H u) (J u) (u .take-up .result) (u .take-up .ensures)
+    (λ (Q : Problem) (x : State). fixed Q x (s .args .column) (s .args .value)) (fix-fits (p s) (v s) (N s) (D s) (F s) (G s) (s .args .column) (kn .0) (s .args .value) (kn .1)) _ (λ x. fixed-part _ x (s .args .column) (s .args .value)) _ (fix-goes (p s) (v s) (N s) (D s) (F s) (G s) (s .args .column) (kn .0) (s .args .value) (ok t)) (r .fixed .result) (M r) (E r) (K r) (X r) (r .fixed .kept .0) (r .fixed .kept .1 .0) (r .fixed .ensures)
 
 same-length-6 : tie.Need-same-length-6
 same-length-6 c = let e : tie.After-close = search in
@@ -255,8 +256,8 @@ returns-2 c =
     let t = told k in
     let s = start t in
     let kn = passed t in
-    calls (p s) (v s) (N s) (D s) (F s) (G s) (s .args .column) (passed t .0) _ _ _ (k .keep-rows .ensures) (k .keep-rows .kept .1 .1 .0) (H u) (J u) (u .take-up .result) (u .take-up .ensures)
-    (λ (Q : Problem) (x : State). fixed Q x (s .args .column) (s .args .value)) (fix-honest (p s) (v s) (N s) (D s) (F s) (G s) (s .args .column) (kn .0) (s .args .value) (kn .1)) (λ x. fixed-part _ x (s .args .column) (s .args .value)) _ (fix-goes (p s) (v s) (N s) (D s) (F s) (G s) (s .args .column) (kn .0) (s .args .value) (ok t)) (r .fixed .result) (M r) (E r) (K r) (X r) (r .fixed .kept .0) (r .fixed .kept .1 .0) (r .fixed .ensures) (e .close .ensures (K r) (X r))
+    calls (p s) (v s) (N s) (D s) (F s) (G s) (passed t .0 .memory) _ _ _ (k .keep-rows .ensures) (k .keep-rows .kept .1 .1 .0) (H u) (J u) (u .take-up .result) (u .take-up .ensures)
+    (λ (Q : Problem) (x : State). fixed Q x (s .args .column) (s .args .value)) (fix-fits (p s) (v s) (N s) (D s) (F s) (G s) (s .args .column) (kn .0) (s .args .value) (kn .1)) _ (λ x. fixed-part _ x (s .args .column) (s .args .value)) _ (fix-goes (p s) (v s) (N s) (D s) (F s) (G s) (s .args .column) (kn .0) (s .args .value) (ok t)) (r .fixed .result) (M r) (E r) (K r) (X r) (r .fixed .kept .0) (r .fixed .kept .1 .0) (r .fixed .ensures) (e .close .ensures (K r) (X r))
 
 pub fix-spec : {M : Type 1} → statement M
 fix-spec =
