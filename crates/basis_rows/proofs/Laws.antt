@@ -21,7 +21,7 @@ use Rattle.rules.specs.declared.VarState.the-variants.{Basic, NonBasic}
 use Rattle.rules.specs.Basis.{addEntry, addTurn, addRow}
 
 -- a non-basic variable's place is below n
-pub place-below : (n cell c : ℕ) → varStateOf n cell ≡ NonBasic c → c < n
+place-below : (n cell c : ℕ) → varStateOf n cell ≡ NonBasic c → c < n
 unfolding varStateOf
 place-below n cell c e = go (ltb cell n) refl
   where

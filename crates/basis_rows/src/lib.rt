@@ -1,22 +1,59 @@
 // Rows combined at the non-basic places, and the lists that the row solve starts from and is tested by.
 // From minilp 0.2.2, src/solver.rs, calc_row_coeffs, Apache-2.0, changed: the vectors are lent arrays, the row solve
-// is the caller's, and a slack has no entry of its own in the plan: its 1.0 comes last.
+// is the caller's, and a slack has no entry of its own in the plan: its 1.0 comes last. The sums go over wide arrays,
+// which have cells for basic variables too: which of a row's variables are basic follows no pattern, so a branch on it
+// would be guessed wrong again and again.
 ghost use mathlib.Core.Path.{_≡_};
-ghost use mathlib.Core.Bool.{Bool};
+ghost use mathlib.Core.Bool.{Bool, false};
 ghost use mathlib.Core.List.{List};
 ghost use Prim.Native.Nat.{_<_, _≤_};
-ghost use lib.ListN.{length};
-ghost use Rattle.doubles.specs.Limits.{places};
-ghost use Rattle.doubles.specs.Loop.{run};
-ghost use Rattle.sparse.specs.Scattered.{sv, Good, Within, Fresh};
+ghost use lib.ListN.{length, getD};
+ghost use Rattle.doubles.specs.Limits.{places, vars};
+ghost use Rattle.doubles.specs.Loop.{run, table};
+ghost use Rattle.doubles.specs.Lists.{_!_, over};
+ghost use Rattle.sparse.specs.Scattered.{sv, Wf, Good, Within, Fresh};
 ghost use Rattle.rules.specs.Parts.{rowed};
 ghost use Rattle.rules.specs.Basis.{addEntry, addTurn, addRow, combine};
 ghost use Rattle.basis_rows.specs.Lent.{RowLent, RowsLent};
+ghost use Rattle.basis_rows.specs.Wide.{narrow, narrowPat, touchedIn, cellIn};
+
+// A number that no wide array has a cell for is a basic variable's, and goes to the first cell that is no place.
+fn cell_in(cell: usize) -> usize
+    ensures { λ r. ⌜ r ≡ cellIn cell ⌝ }
+{
+    if cell < doubles::VARS {
+        return cell;
+    }
+    doubles::PLACES
+}
+
+// A place is listed at its first touch; a cell of a basic variable never is.
+fn touch(
+    marks: &mut [bool; doubles::VARS],
+    list: &mut [usize; doubles::PLACES],
+    count: usize,
+    n: usize,
+    c: usize,
+) -> usize
+    requires { ⌜ (c < vars) × (n ≤ places) × Wf places (narrowPat n (now marks) (now list) count) ⌝ }
+    ensures { λ r. ⌜ narrowPat n (now (marks .exit)) (now (list .exit)) r
+        ≡ touchedIn n (narrowPat n (now (marks .entry)) (now (list .entry)) count) c ⌝ }
+{
+    if marks[c] {
+        return count;
+    }
+    marks[c] = true;
+    if c < n {
+        list[count] = c;
+        return count + 1;
+    }
+    count
+}
 
 // x for the variable v, added at its place; a basic variable has none.
 fn add_entry(
-    values: &mut [f64; doubles::PLACES],
-    marks: &mut [bool; doubles::PLACES],
+    values: &mut [f64; doubles::VARS],
+    marks: &mut [bool; doubles::VARS],
     list: &mut [usize; doubles::PLACES],
     count: usize,
     n: usize,
@@ -24,22 +61,21 @@ fn add_entry(
     v: usize,
     x: f64,
 ) -> usize
-    requires { ⌜ Good places (sv (now values) (now marks) (now list) count) × (n ≤ places) ×
+    requires { ⌜ Good places (narrow n (now values) (now marks) (now list) count) × (n ≤ places) ×
         (v < length (now «var_states»)) ⌝ }
-    ensures { λ r. ⌜ sv (now (values .exit)) (now (marks .exit)) (now (list .exit)) r ≡ addEntry n
-        (now («var_states» .entry)) v x (sv (now (values .entry)) (now (marks .entry)) (now (list .entry)) count) ⌝ }
+    ensures { λ r. ⌜ narrow n (now (values .exit)) (now (marks .exit)) (now (list .exit)) r ≡ addEntry n
+        (now («var_states» .entry)) v x (narrow n (now (values .entry)) (now (marks .entry)) (now (list .entry)) count) ⌝ }
 {
-    let state = cells::var_state(n, var_states[v]);
-    match state {
-        rules::VarState::NonBasic(c) => sparse::add_at(values, marks, list, count, c, x),
-        rules::VarState::Basic(_) => count,
-    }
+    let c = cell_in(var_states[v]);
+    let k = touch(marks, list, count, n, c);
+    values[c] = values[c] + x;
+    k
 }
 
 // The entries of a row, each times y, in their order.
 fn add_entries(
-    values: &mut [f64; doubles::PLACES],
-    marks: &mut [bool; doubles::PLACES],
+    values: &mut [f64; doubles::VARS],
+    marks: &mut [bool; doubles::VARS],
     list: &mut [usize; doubles::PLACES],
     count: usize,
     n: usize,
@@ -48,12 +84,12 @@ fn add_entries(
     coeffs: &[f64],
     y: f64,
 ) -> usize
-    requires { ⌜ Good places (sv (now values) (now marks) (now list) count) × (n ≤ places) ⌝ }
+    requires { ⌜ Good places (narrow n (now values) (now marks) (now list) count) × (n ≤ places) ⌝ }
     requires { ⌜ (length (now cols) ≤ length (now coeffs)) × Within (length (now «var_states»)) (length (now cols))
         (now cols) ⌝ }
-    ensures { λ r. ⌜ sv (now (values .exit)) (now (marks .exit)) (now (list .exit)) r ≡ run
+    ensures { λ r. ⌜ narrow n (now (values .exit)) (now (marks .exit)) (now (list .exit)) r ≡ run
         (addTurn n (now («var_states» .entry)) (now (cols .entry)) (now (coeffs .entry)) y) (length (now (cols .entry)))
-        (sv (now (values .entry)) (now (marks .entry)) (now (list .entry)) count) ⌝ }
+        (narrow n (now (values .entry)) (now (marks .entry)) (now (list .entry)) count) ⌝ }
 {
     let mut c = count;
     let mut k = 0;
@@ -67,8 +103,8 @@ fn add_entries(
 
 // Kept row r times y: its entries, then its slack, whose coefficient is 1.0.
 fn add_row(
-    values: &mut [f64; doubles::PLACES],
-    marks: &mut [bool; doubles::PLACES],
+    values: &mut [f64; doubles::VARS],
+    marks: &mut [bool; doubles::VARS],
     list: &mut [usize; doubles::PLACES],
     count: usize,
     n: usize,
@@ -80,11 +116,11 @@ fn add_row(
     r: usize,
     y: f64,
 ) -> usize
-    requires { ⌜ Good places (sv (now values) (now marks) (now list) count) × (n ≤ places) ⌝ }
+    requires { ⌜ Good places (narrow n (now values) (now marks) (now list) count) × (n ≤ places) ⌝ }
     requires { ⌜ RowLent (rowed n (now starts) (now cols) (now coeffs) (now kept)) (length (now «var_states»)) r ⌝ }
-    ensures { λ c. ⌜ sv (now (values .exit)) (now (marks .exit)) (now (list .exit)) c ≡ addRow
+    ensures { λ c. ⌜ narrow n (now (values .exit)) (now (marks .exit)) (now (list .exit)) c ≡ addRow
         (rowed n (now (starts .entry)) (now (cols .entry)) (now (coeffs .entry)) (now (kept .entry)))
-        (now («var_states» .entry)) r y (sv (now (values .entry)) (now (marks .entry)) (now (list .entry)) count) ⌝ }
+        (now («var_states» .entry)) r y (narrow n (now (values .entry)) (now (marks .entry)) (now (list .entry)) count) ⌝ }
 {
     let i = kept[r];
     let row_cols = plan::row_cols(starts, cols, i);
@@ -101,6 +137,83 @@ fn add_row(
         y,
     );
     add_entry(values, marks, list, c, n, var_states, n + r, 1.0 * y)
+}
+
+// The rows that a vector lists, each times its value there, in listed order, onto fresh wide arrays.
+fn combine_wide(
+    values: &mut [f64; doubles::VARS],
+    marks: &mut [bool; doubles::VARS],
+    list: &mut [usize; doubles::PLACES],
+    from: &[f64; doubles::PLACES],
+    from_list: &[usize; doubles::PLACES],
+    from_count: usize,
+    n: usize,
+    var_states: &[usize],
+    starts: &[usize],
+    cols: &[usize],
+    coeffs: &[f64],
+    kept: &[usize],
+) -> usize
+    requires { ⌜ Fresh (narrow n (now values) (now marks) (now list) 0) × (length (now kept) ≤ places) ×
+        («from_count» ≤ places) × Within (length (now kept)) «from_count» (now «from_list») ⌝ }
+    requires { ⌜ RowsLent (rowed n (now starts) (now cols) (now coeffs) (now kept)) (length (now «var_states»)) ⌝ }
+    ensures { λ c. ⌜ ((m : List Bool) → narrow n (now (values .exit)) (now (marks .exit)) (now (list .exit)) c ≡ combine
+        (rowed n (now (starts .entry)) (now (cols .entry)) (now (coeffs .entry)) (now (kept .entry)))
+        (now («var_states» .entry)) (sv (now (from .entry)) m (now («from_list» .entry)) «from_count»)) ⌝ }
+{
+    let mut c = 0;
+    let mut k = 0;
+    while k < from_count {
+        let r = from_list[k];
+        c = add_row(
+            values,
+            marks,
+            list,
+            c,
+            n,
+            var_states,
+            starts,
+            cols,
+            coeffs,
+            kept,
+            r,
+            from[r],
+        );
+        k += 1;
+    }
+    c
+}
+
+// The first n cells are unmarked: with basic variables' cells marked no row is held up by a first touch of theirs.
+fn unmark(n: usize, marks: &mut [bool; doubles::VARS])
+    requires { ⌜ (n ≤ places) × (length (now marks) ≡ vars) ⌝ }
+    ensures { λ _. ⌜ now (marks .exit) ≡ over (table n (λ _. false)) (now (marks .entry)) ⌝ }
+{
+    let mut j = 0;
+    while j < n {
+        marks[j] = false;
+        j += 1;
+    }
+}
+
+// The first n cells of wide arrays over the front of a vector's own.
+fn copy_front(
+    n: usize,
+    from: &[f64; doubles::VARS],
+    from_marks: &[bool; doubles::VARS],
+    values: &mut [f64; doubles::PLACES],
+    marks: &mut [bool; doubles::PLACES],
+)
+    requires { ⌜ (n ≤ places) × (length (now values) ≡ places) × (length (now marks) ≡ places) ⌝ }
+    ensures { λ _. ⌜ (now (values .exit) ≡ over (table n (λ j. now (from .entry) ! j)) (now (values .entry))) ×
+        (now (marks .exit) ≡ over (table n (λ j. getD (now («from_marks» .entry)) j false)) (now (marks .entry))) ⌝ }
+{
+    let mut j = 0;
+    while j < n {
+        values[j] = from[j];
+        marks[j] = from_marks[j];
+        j += 1;
+    }
 }
 
 // The rows that a vector lists, each times its value there, in listed order, onto a fresh vector.
@@ -125,25 +238,23 @@ pub fn combine(
         (rowed n (now (starts .entry)) (now (cols .entry)) (now (coeffs .entry)) (now (kept .entry)))
         (now («var_states» .entry)) (sv (now (from .entry)) m (now («from_list» .entry)) «from_count»)) ⌝ }
 {
-    let mut c = 0;
-    let mut k = 0;
-    while k < from_count {
-        let r = from_list[k];
-        c = add_row(
-            values,
-            marks,
-            list,
-            c,
-            n,
-            var_states,
-            starts,
-            cols,
-            coeffs,
-            kept,
-            r,
-            from[r],
-        );
-        k += 1;
-    }
+    let mut wide = [0.0; doubles::VARS];
+    let mut wide_marks = [true; doubles::VARS];
+    unmark(n, &mut wide_marks);
+    let c = combine_wide(
+        &mut wide,
+        &mut wide_marks,
+        list,
+        from,
+        from_list,
+        from_count,
+        n,
+        var_states,
+        starts,
+        cols,
+        coeffs,
+        kept,
+    );
+    copy_front(n, &wide, &wide_marks, values, marks);
     c
 }

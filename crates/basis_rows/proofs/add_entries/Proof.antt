@@ -6,15 +6,16 @@ use lib.ListN.{length}
 use Rattle.doubles.specs.Limits.{places}
 use Rattle.doubles.specs.Loop.{run}
 use Rattle.doubles.proofs.Loops.{next, done}
-use Rattle.sparse.specs.Scattered.{sv, Good}
+use Rattle.sparse.specs.Scattered.{Good}
 use Rattle.rules.specs.Basis.{addTurn}
+use Rattle.basis_rows.specs.Wide.{narrow}
 use Rattle.basis_rows.proofs.Laws.{good-adding}
 use Rattle.basis_rows.proofs.add_entries.Statement.{statement}
 use Rattle.basis_rows.proofs.add_entries.Tie as tie
 
 abbrev Inv-loop : tie.InvT-loop
 Inv-loop values₀ marks₀ list₀ count n var-states cols coeffs y c₀ k₀ values marks list c k =
-    (k ≤ length cols) × (sv values marks list c ≡ run (addTurn n var-states cols coeffs y) k (sv values₀ marks₀ list₀ count))
+    (k ≤ length cols) × (narrow n values marks list c ≡ run (addTurn n var-states cols coeffs y) k (narrow n values₀ marks₀ list₀ count))
 
 abbrev μ-loop : tie.MeasureT-loop
 μ-loop values₀ marks₀ list₀ count n var-states cols coeffs y c₀ k₀ values marks list c k = length cols - k
@@ -23,7 +24,7 @@ abbrev entry : tie.At-loop Inv-loop μ-loop → tie.Start Inv-loop μ-loop
 entry a = search
 
 -- at the loop's head the vector is in order
-ok : (a : tie.At-loop Inv-loop μ-loop) → Good places (sv (a .loop .values) (a .loop .marks) (a .loop .list) (a .loop .c))
+ok : (a : tie.At-loop Inv-loop μ-loop) → Good places (narrow (entry a .args .n) (a .loop .values) (a .loop .marks) (a .loop .list) (a .loop .c))
 ok a =
     let s = entry a in
     subst (Good _) (sym (a .loop .inv .1)) (good-adding (s .args .n) (s .pre .0 .1) (s .args .var-states .now) (s .args .cols .now) (s .args .coeffs .now) (s .args .y) _ (s .pre .0 .0) (a .loop .k))

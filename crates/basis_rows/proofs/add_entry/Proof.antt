@@ -1,58 +1,63 @@
--- `basis_rows::add_entry` meets its contract: by where the variable stands. Assumes nothing.
+-- `basis_rows::add_entry` meets its contract: the variable's cell is touched, then x is added there. Assumes nothing.
 use borrow.Author.Needs.{needs}
-use mathlib.Core.Path.{sym, _∙_}
+use Prim.Native.Nat.{_<_}
 use native.Mathlib.Omega.{arith}
-use Rattle.rules.specs.Basis.{addEntry}
-use Rattle.basis_rows.proofs.Laws.{place-below}
+use Rattle.doubles.specs.Limits.{vars}
+use Rattle.doubles.specs.Lists.{_#_}
+use Rattle.basis_rows.proofs.Wide.{cell-within, entry-added}
 use Rattle.basis_rows.proofs.add_entry.Statement.{statement}
 use Rattle.basis_rows.proofs.add_entry.Tie as tie
 
-mul-var-state : tie.Need-mul-var-state
-mul-var-state c = search needs
-
-shared-slice-read-var-state : tie.Need-shared-slice-read-var-state
-shared-slice-read-var-state c = search needs
-
-var-state-requires : tie.Need-var-state-requires
-var-state-requires c κs = search needs
-
-enum-known-state : tie.Need-enum-known-state
-enum-known-state c = search needs
-
-add-at-requires : tie.Need-add-at-requires
-add-at-requires c κs =
+within : (d : tie.After-cell-in) → d .cell-in .result < vars
+within d =
     let s : tie.Start = search in
-    let d : tie.After-var-state = search in
-    let v : tie.After-state = search in
-    (omega (arith, s .pre, place-below _ _ _ (sym (d .var-state .ensures) ∙ v .state .given .1)), s .pre .0)
+    rw (d .cell-in .ensures) (cell-within (s .args .var-states .now # s .args .v))
 
-enum-told : tie.Need-enum-told
-enum-told c = search needs
+mul-cell-in : tie.Need-mul-cell-in
+mul-cell-in c = search needs
+
+shared-slice-read-cell-in : tie.Need-shared-slice-read-cell-in
+shared-slice-read-cell-in c = search needs
+
+cell-in-requires : tie.Need-cell-in-requires
+cell-in-requires c κs = search needs
+
+touch-requires : tie.Need-touch-requires
+touch-requires c κs =
+    let s : tie.Start = search in
+    let d : tie.After-cell-in = search in
+    (within d, s .pre .1, s .pre .0 .wf)
+
+mul-values : tie.Need-mul-values
+mul-values c = let d : tie.After-cell-in = search in omega (arith, within d)
+
+element-copy-out-values : tie.Need-element-copy-out-values
+element-copy-out-values c = let d : tie.After-cell-in = search in within d
+
+mul-values-2 : tie.Need-mul-values-2
+mul-values-2 c = let d : tie.After-cell-in = search in omega (arith, within d)
+
+element-write-values : tie.Need-element-write-values
+element-write-values c = let d : tie.After-cell-in = search in within d
 
 returns : tie.Need-returns
-unfolding addEntry
 returns c =
-    let d : tie.After-var-state = search in
-    let v : tie.After-state = search in
-    let e = sym (d .var-state .ensures) ∙ v .state .given .1 in
-    rw (e, addEntry) (c .add-at .ensures)
-
-returns-2 : tie.Need-returns-2
-unfolding addEntry
-returns-2 c =
-    let d : tie.After-var-state = search in
-    let e = sym (d .var-state .ensures) ∙ c .enum-told .given .1 in
-    rw (e, addEntry)
+    let s : tie.Start = search in
+    let d : tie.After-cell-in = search in
+    let t : tie.After-touch = search in
+    entry-added _ (s .pre .1) (s .args .var-states .now) (s .args .v) (s .args .x) (s .args .values .now) _ _ _
+    (s .pre .0) _ _ (d .cell-in .ensures) (t .touch .ensures)
 
 pub add-entry-spec : {M : Type 1} → statement M
 add-entry-spec =
     tie.close
     (tie.spec
-    mul-var-state
-    shared-slice-read-var-state
-    var-state-requires
-    enum-known-state
-    add-at-requires
-    enum-told
-    returns
-    returns-2)
+    mul-cell-in
+    shared-slice-read-cell-in
+    cell-in-requires
+    touch-requires
+    mul-values
+    element-copy-out-values
+    mul-values-2
+    element-write-values
+    returns)

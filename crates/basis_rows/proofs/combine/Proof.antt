@@ -1,92 +1,50 @@
--- `basis_rows::combine` meets its contract: after k turns the vector is the definition's after k turns, and so in order. Assumes nothing.
-use mathlib.Core.Path.{_≡_, sym, subst}
+-- `basis_rows::combine` meets its contract: the vector is the front of the wide arrays. Assumes nothing.
+use mathlib.Core.Path.{sym, ap, subst, _∙_}
+use mathlib.Core.Bool.{true, false}
 use mathlib.Core.List.{[]}
-use Prim.Native.Nat.{_-_, _<_, _≤_}
-use native.Mathlib.Omega.{arith}
-use lib.ListN.{length, getD}
-use Rattle.doubles.specs.Limits.{places}
-use Rattle.doubles.specs.Loop.{run}
-use Rattle.doubles.proofs.Loops.{next, done}
-use Rattle.sparse.specs.Scattered.{sv, blank, listed, listedVal, Good}
+use lib.ListN.{length, length-replicate}
+use Rattle.doubles.specs.Num.{f0}
+use Rattle.doubles.specs.Limits.{places, vars}
+use Rattle.sparse.specs.Scattered.{Sv, sv, Good}
 use Rattle.rules.specs.Parts.{rowed}
-use Rattle.rules.specs.Basis.{addRow, combine}
+use Rattle.rules.specs.Basis.{combine}
 use Rattle.basis_rows.proofs.Laws.{good-rows}
+use Rattle.basis_rows.proofs.Wide.{narrow-fresh, narrow-out}
 use Rattle.basis_rows.proofs.combine.Statement.{statement}
 use Rattle.basis_rows.proofs.combine.Tie as tie
 
-abbrev Inv-loop : tie.InvT-loop
-Inv-loop values₀ marks₀ list₀ from from-list from-count n var-states starts cols coeffs kept c₀ k₀ values marks list c k =
-    (k ≤ from-count) × (sv values marks list c ≡ run (λ k s. addRow (rowed n starts cols coeffs kept) var-states (listed (sv from [] from-list from-count) k) (listedVal (sv from [] from-list from-count) k) s) k blank)
+unmark-requires : tie.Need-unmark-requires
+unmark-requires c κs = let s : tie.Start = search in (s .pre .1 .columns, length-replicate vars true)
 
-abbrev μ-loop : tie.MeasureT-loop
-μ-loop values₀ marks₀ list₀ from from-list from-count n var-states starts cols coeffs kept c₀ k₀ values marks list c k = from-count - k
+combine-wide-requires : tie.Need-combine-wide-requires
+combine-wide-requires c κs =
+    let s : tie.Start = search in
+    let u : tie.After-unmark = search in
+    let p = s .pre .0 in
+    ((narrow-fresh _ (s .pre .1 .columns) _ _ _ (p .0) _ _ (u .unmark .ensures), p .1, p .2, p .3), s .pre .1)
 
-abbrev entry : tie.At-loop Inv-loop μ-loop → tie.Start Inv-loop μ-loop
-entry a = search
+copy-front-requires : tie.Need-copy-front-requires
+copy-front-requires c κs =
+    let s : tie.Start = search in
+    let e = s .pre .0 .0 .fresh in (
+      s .pre .1 .columns,
+      ap (λ (t : Sv). length (t .vals)) e ∙ length-replicate places f0,
+      ap (λ (t : Sv). length (t .pat .marks)) e ∙ length-replicate places false,
+    )
 
--- at the loop's head the vector is in order
-ok : (a : tie.At-loop Inv-loop μ-loop) → Good places (sv (a .loop .values) (a .loop .marks) (a .loop .list) (a .loop .c))
-ok a =
-    let s = entry a in
-    let x = s .args in
-    subst (Good _) (sym (a .loop .inv .1))
-    (good-rows (rowed (x .n) (x .starts .now) (x .cols .now) (x .coeffs .now) (x .kept .now)) (s .pre .1 .columns) (x .var-states .now) (sv (x .from .now) [] (x .from-list .now) (x .from-count)) (a .loop .k))
-
--- in a turn the listed place is a kept row
-place : (t : tie.In-loop Inv-loop μ-loop) → getD (entry (t .before) .args .from-list .now) (t .before .loop .k) 0 < length (entry (t .before) .args .kept .now)
-place t = entry (t .before) .pre .0 .3 .inside (t .before .loop .k) (t .loop-test .taken)
-
-loop-holds : tie.Need-loop-holds Inv-loop μ-loop
-unfolding run
-loop-holds c = let s : tie.Start Inv-loop μ-loop = search in (omega arith, s .pre .0 .0 .fresh)
-
-mul-r : tie.Need-mul-r Inv-loop μ-loop
-mul-r c = omega arith
-
-element-copy-out-r : tie.Need-element-copy-out-r Inv-loop μ-loop
-element-copy-out-r c = omega arith
-
-mul-add-row : tie.Need-mul-add-row Inv-loop μ-loop
-mul-add-row c = let t : tie.In-loop Inv-loop μ-loop = search in omega (arith, place t)
-
-element-copy-out-add-row : tie.Need-element-copy-out-add-row Inv-loop μ-loop
-element-copy-out-add-row c = let t : tie.In-loop Inv-loop μ-loop = search in omega (arith, place t)
-
-add-row-requires : tie.Need-add-row-requires Inv-loop μ-loop
-add-row-requires c κs =
-    let t : tie.In-loop Inv-loop μ-loop = search in
-    let s = entry (t .before) in
-    ((ok (t .before), s .pre .1 .columns), s .pre .1 .row _ (place t))
-
-add-k : tie.Need-add-k Inv-loop μ-loop
-add-k c = omega arith
-
-loop-less : tie.Need-loop-less Inv-loop μ-loop
-loop-less c = omega arith
-
-loop-again : tie.Need-loop-again Inv-loop μ-loop
-loop-again c =
-    let t : tie.In-loop Inv-loop μ-loop = search in
-    let d : tie.After-add-row Inv-loop μ-loop = search in
-    (omega arith, next _ _ (t .before .loop .k) (t .before .loop .inv .1) (d .add-row .ensures))
-
-returns : tie.Need-returns Inv-loop μ-loop
+returns : tie.Need-returns
 unfolding combine
-returns c = λ _. done _ _ _ _ (c .before .loop .inv .0) (c .loop-test .left) (c .before .loop .inv .1)
+returns c =
+    let s : tie.Start = search in
+    let w : tie.After-combine-wide = search in
+    let x = s .args in
+    let g =
+    subst (Good places) (sym (w .combine-wide .ensures []))
+    (good-rows (rowed (x .n) (x .starts .now) (x .cols .now) (x .coeffs .now) (x .kept .now)) (s .pre .1 .columns)
+    (x .var-states .now) (sv (x .from .now) [] (x .from-list .now) (x .from-count)) (x .from-count)) in
+    let e = c .copy-front .ensures in
+    λ m. narrow-out _ (s .pre .1 .columns) _ _ _ (s .pre .0 .0) _ _ _ _ _ _ g (e .0) (e .1)
+    ∙ w .combine-wide .ensures m
 
 pub combine-spec : {M : Type 1} → statement M
-combine-spec =
-    tie.close
-    (tie.spec
-    Inv-loop
-    μ-loop
-    loop-holds
-    mul-r
-    element-copy-out-r
-    mul-add-row
-    element-copy-out-add-row
-    add-row-requires
-    add-k
-    loop-less
-    loop-again
-    returns)
+combine-spec = tie.close (tie.spec unmark-requires combine-wide-requires copy-front-requires returns)

@@ -14,7 +14,7 @@ use Rattle.doubles.specs.Limits.{maxRows}
 use Rattle.doubles.specs.Loop.{run}
 use Rattle.doubles.specs.Lists.{_#_}
 use Rattle.doubles.proofs.Loops.{next}
-use Rattle.lu_walk.specs.Walk.{Mapped, mapped, graphIn, state, kidTurn, leftBy}
+use Rattle.lu_walk.specs.Walk.{Mapped, mapped, graphIn, state, kidTurn, leftBy, Walkable}
 use Rattle.lu_walk.proofs.Laws.{walk-old, opened, asks, closed, many-at}
 use Rattle.lu_walk.proofs.visit.Reads as visit
 use Rattle.lu_walk.proofs.visit.Kinds as visit-kinds
@@ -104,6 +104,13 @@ row-in t a =
     (child-many t a) in
     omega (arith, w .1, s .pre .1 .columns .ends _ (w .0), s .pre .1 .columns .rise _ (w .0))
 
+-- the child can be walked
+child : (t : ℕ) (a : Turn t) → Walkable (drawn t (entry t (a .before))) (graphIn (drawn t (entry t (a .before))) .kid
+    (entry t (a .before) .args .place) (a .before .loop .k)) (state (a .before .loop .marks) (a .before .loop .done)
+    (a .before .loop .n))
+child t a = asks (entry t (a .before) .pre .1) (new t (a .before)) (a .before .loop .inv .1) (kids-at t (a .before)) _
+    (child-many t a)
+
 visit-element-copy-out-if1 : (t : ℕ) → visit-lts.Need-element-copy-out-if1
     (many-reads.Asked, many-reads.Learnt, visit-below t, visit.Post) (visit-at t) visit.Post visit-Inv-loop visit-μ-loop
 visit-element-copy-out-if1 t c = let s : Start t = search in omega (arith, place-in t s)
@@ -171,27 +178,42 @@ visit-shared-slice-read-child-2 : (t : ℕ)
     (visit-at t) visit.Post visit-Inv-loop visit-μ-loop
 visit-shared-slice-read-child-2 t c = let a : Turn t = search in row-in t a
 
-visit-visit-requires : (t : ℕ) → visit-lts.Need-visit-requires
-    (many-reads.Asked, many-reads.Learnt, visit-below t, visit.Post) (visit-at t) visit.Post visit-Inv-loop visit-μ-loop
-visit-visit-requires t c κs =
-    let a : Turn t = search in
-    let s = entry t (a .before) in (
-      rw (← s .pre .0) (s .pre .1 .columns .falling .falls _ _ (s .pre .1 .place) (child-many t a)),
-      asks (s .pre .1)
-          (new t (a .before)) (a .before .loop .inv .1) (kids-at t (a .before)) _ (child-many t a),
-    )
-
 visit-add-k : (t : ℕ) → visit-lts.Need-add-k (many-reads.Asked, many-reads.Learnt, visit-below t, visit.Post)
     (visit-at t) visit.Post visit-Inv-loop visit-μ-loop
 visit-add-k t c = let a : Turn t = search in omega (arith, row-in t a, entry t (a .before) .good)
+
+visit-element-copy-out-if2 : (t : ℕ) → visit-lts.Need-element-copy-out-if2
+    (many-reads.Asked, many-reads.Learnt, visit-below t, visit.Post) (visit-at t) visit.Post visit-Inv-loop visit-μ-loop
+visit-element-copy-out-if2 t c = let a : Turn t = search in omega
+    (arith, child t a .place, entry t (a .before) .pre .1 .columns .falling .small)
 
 visit-loop-less : (t : ℕ) → visit-lts.Need-loop-less (many-reads.Asked, many-reads.Learnt, visit-below t, visit.Post)
     (visit-at t) visit.Post visit-Inv-loop visit-μ-loop
 visit-loop-less t c = let a : Turn t = search in omega (arith, a .loop-test .taken)
 
+-- a child that is marked is left
 visit-loop-again : (t : ℕ) → visit-lts.Need-loop-again (many-reads.Asked, many-reads.Learnt, visit-below t, visit.Post)
     (visit-at t) visit.Post visit-Inv-loop visit-μ-loop
 visit-loop-again t c =
+    let a : Turn t = search in (
+      omega (arith, a .loop-test .taken),
+      next _ _ (a .before .loop .k) (a .before .loop .inv .1) (sym (walk-old _ _ _ _ (c .if2 .taken))),
+    )
+
+visit-visit-requires : (t : ℕ) → visit-lts.Need-visit-requires
+    (many-reads.Asked, many-reads.Learnt, visit-below t, visit.Post) (visit-at t) visit.Post visit-Inv-loop visit-μ-loop
+visit-visit-requires t c κs =
+    let a : Turn t = search in
+    let s = entry t (a .before) in
+    (rw (← s .pre .0) (s .pre .1 .columns .falling .falls _ _ (s .pre .1 .place) (child-many t a)), child t a)
+
+visit-loop-less-2 : (t : ℕ) → visit-lts.Need-loop-less-2
+    (many-reads.Asked, many-reads.Learnt, visit-below t, visit.Post) (visit-at t) visit.Post visit-Inv-loop visit-μ-loop
+visit-loop-less-2 t c = let a : Turn t = search in omega (arith, a .loop-test .taken)
+
+visit-loop-again-2 : (t : ℕ) → visit-lts.Need-loop-again-2
+    (many-reads.Asked, many-reads.Learnt, visit-below t, visit.Post) (visit-at t) visit.Post visit-Inv-loop visit-μ-loop
+visit-loop-again-2 t c =
     let a : Turn t = search in
     let v : Called t = search in
     (omega (arith, a .loop-test .taken), next _ _ (a .before .loop .k) (a .before .loop .inv .1) (v .visit .ensures))
@@ -244,10 +266,13 @@ pub +visit-spec : {M : Type 1} → statement M
     (visit-add-child t)
     (visit-mul-child-2 t)
     (visit-shared-slice-read-child-2 t)
-    (visit-visit-requires t)
     (visit-add-k t)
+    (visit-element-copy-out-if2 t)
     (visit-loop-less t)
     (visit-loop-again t)
+    (visit-visit-requires t)
+    (visit-loop-less-2 t)
+    (visit-loop-again-2 t)
     (visit-mul-done t)
     (visit-element-write-done t)
     (visit-add-result t)
