@@ -5,13 +5,13 @@ use mathlib.Core.Logic.{_↔_}
 use Prim.Native.Nat.{ℕ, zero, suc, _+_, _*_, _^_, _<_}
 use native.Mathlib.Nat.{zero-mul, mul-pos, pow-suc}
 use native.Mathlib.Omega.{arith}
-use borrow.Author.Tests.{eq-eqb, ltb-true, ltb-false, eqb-true}
+use borrow.Author.Tests.{eq-eqb, ltb-false, eqb-true}
 use lib.Dec.{T, eqb, eqb→eq}
 use lib.Pow.{pow-pos}
 use lib.IntN.{pos, negsuc}
 use lib.Ieee.{Float, nan, inf, fin, binary64, neg, lt, eq, ne, isNan, fits, up, down}
-use lib.Ieee.Fits.{up-pos}
-use Rattle.doubles.specs.Num.{finite, infinite, size}
+use lib.Ieee.Fits.{up-pos, down-pos}
+use Rattle.doubles.specs.Num.{finite, infinite, larger, size}
 
 pub below-infinity : (x : Float) → lt (neg (inf false)) x ≡ true → lt x (inf false) ≡ finite x
 unfolding lt neg finite infinite size
@@ -58,13 +58,13 @@ differs (fin false m e) = rw (eq-eqb (m * up e * down e) (m * up e * down e) ref
 abbrev z : Float
 z = fin false 0 (pos 0)
 
-pub size-neg : (x : Float) → lt x z ≡ true → neg x ≡ size x
-unfolding lt neg finite infinite size
+size-neg : (x : Float) → lt x (neg x) ≡ true → neg x ≡ size x
+unfolding lt neg size
 size-neg nan h = cc
 size-neg (inf true) h = refl
 size-neg (inf false) h = cc
 size-neg (fin true m e) h = refl
-size-neg (fin false m e) h = absurd (omega (arith, ltb-true (m * up e * 1) (0 * 1 * down e) h, zero-mul (down e)))
+size-neg (fin false m e) h = cc
 
 pub size-zero : (x : Float) → T (fits binary64 x) → eq x z ≡ true → z ≡ size x
 unfolding eq fits size
@@ -77,18 +77,26 @@ size-zero (fin s (suc m) e) f h =
     let some : 0 < suc m = omega arith in
     absurd (omega (arith, eqb-true (suc m * up e * 1) (0 * 1 * down e) (and-left _ _ h), zero-mul (down e), mul-pos some (up-pos e)))
 
-pub size-pos : (x : Float) → lt x z ≡ false → eq x z ≡ false → x ≡ size x
-unfolding lt eq size
+size-pos : (x : Float) → lt x (neg x) ≡ false → eq x z ≡ false → x ≡ size x
+unfolding lt eq neg size
 size-pos nan h g = refl
 size-pos (inf true) h g = cc
 size-pos (inf false) h g = refl
 size-pos (fin false m e) h g = refl
-size-pos (fin true m e) h g =
-    let a : ℕ = m * up e * 1 in
-    let b : ℕ = 0 * 1 * down e in
-    let a0 : a ≡ 0 = omega (arith, ltb-false 0 (a + b) h) in
-    let b0 : b ≡ 0 = zero-mul (down e) in
-    absurd (both a b a0 b0 g)
+size-pos (fin true zero e) h g = absurd (both (0 * up e * 1) (0 * 1 * down e) (omega (arith, zero-mul (up e))) (zero-mul (down e)) g)
+size-pos (fin true (suc m) e) h g =
+    let a : ℕ = suc m * up e * down e in
+    let some : 0 < suc m = omega arith in
+    absurd (omega (arith, ltb-false 0 (a + a) h, mul-pos (mul-pos some (up-pos e)) (down-pos e)))
+
+-- the larger of x and its negative
+pub size-larger : (x : Float) → eq x z ≡ false → larger x (neg x) ≡ size x
+unfolding larger
+size-larger x g = go (lt x (neg x)) refl
+  where
+    go : (b : Bool) → lt x (neg x) ≡ b → elim b [ true ↦ neg x | false ↦ x ] ≡ size x
+    go true h = size-neg x h
+    go false h = size-pos x h g
 
 pub equals-inf : (s : Bool) (x : Float) → (eq x (inf s) ≡ true) ↔ (x ≡ inf s)
 unfolding eq
