@@ -74,6 +74,7 @@ pub fn gone_on(
             }
             let why = ran.why;
             let last = ran.at;
+            let factorings = last.factorings + 1;
             return Ran {
                 why,
                 at: state::Tally {
@@ -81,7 +82,7 @@ pub fn gone_on(
                     objective: last.objective,
                     steps: last.steps,
                     factored: last.factored,
-                    factorings: last.factorings + 1,
+                    factorings,
                 },
             };
         }

@@ -119,8 +119,8 @@ returns-2 c =
     let s = entry m in
     none-counted (P s) (S s) _ (left m _ (chosen g .own2 .given .1)) (s .pre .no-steps) _ (g .go-on .ensures) (eq-eqb _ _ (i .if1 .taken))
 
-add-t39 : tie.Need-add-t39
-add-t39 c =
+add-factorings : tie.Need-add-factorings
+add-factorings c =
     let g : tie.After-go-on = search in
     let m = before g in
     let s = entry m in
@@ -173,7 +173,7 @@ gone-on-spec =
     same-length-7
     same-length-8
     returns-2
-    add-t39
+    add-factorings
     same-length-9
     same-length-10
     same-length-11
