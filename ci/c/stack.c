@@ -208,8 +208,8 @@ int main(void) {
     measure("tevalumi_solve with a factor", factor, 512 << 10);
     measure("tevalumi_fix with a factor", fix, 512 << 10);
     measure("tevalumi_unfix with a factor", unfix, 512 << 10);
-    measure("tevalumi_reprice with a factor", reprice, 512 << 10);
-    measure("tevalumi_solve_any", any, 512 << 10);
+    measure("tevalumi_reprice with a factor", reprice, 640 << 10);
+    measure("tevalumi_solve_any", any, 640 << 10);
     measure("tevalumi_night", night, 512 << 10);
     measure("tevalumi_lower_sparse", triangle, 24 << 10);
     measure("tevalumi_open and tevalumi_edit", edit, 8 << 10);

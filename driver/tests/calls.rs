@@ -65,9 +65,10 @@ fn a_written_array_too_short_gives_1() {
         for cut in cuts {
             let mut lengths = Lengths::needed(&plan);
             cut(&mut lengths);
-            for line in called(&plan, &lengths) {
+            for (k, line) in called(&plan, &lengths).iter().enumerate() {
                 let (_, answer) = line.split_once(' ').expect("a line has its answer");
-                assert_eq!(answer, "1 - 0000000000000000 0 0", "{line}");
+                let way = if plan.any && k == 0 { " way 0 0" } else { "" };
+                assert_eq!(answer, format!("1 - 0000000000000000 0 0{way}"), "{line}");
             }
         }
     }

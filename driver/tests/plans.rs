@@ -27,7 +27,8 @@ fn told(plan: &Plan) -> String {
 }
 
 fn refused(plan: &Plan) -> String {
-    format!("{} 1 - 0000000000000000 0 0", plan.id)
+    let way = if plan.any { " way 0 0" } else { "" };
+    format!("{} 1 - 0000000000000000 0 0{way}", plan.id)
 }
 
 fn needed(plan: &Plan, name: &str) -> usize {

@@ -167,6 +167,8 @@ fn errors_by_name() {
 
     let mut outside = problem.clone();
     outside.add_constraint(&[(x, 1.0), (y, 1.0)], ComparisonOp::Ge, 3.0);
+    assert_eq!(named(&outside), "solved");
+    outside.set_plain(true);
     assert_eq!(named(&outside), "7");
     let mut none = Problem::new(OptimizationDirection::Minimize);
     let z = none.add_var(1.0, (0.0, f64::INFINITY));

@@ -146,8 +146,8 @@ exists, it says why, as `tevalumi why` does.
 
 limits: coefficients 4,096, costs 2^20, right sides 2^31, bounds and amounts 2^16, multipliers 1,024
 
-options: --format, --max, --min, --relax, --budget, --tol, --plain, --max-size, --json, --html as for
-         `tevalumi solve`
+options: --format, --max, --min, --relax, --budget, --tol, --plain, --max-size, --json, --html as
+         for `tevalumi solve`
 
 exit status: 0 the sheet shows a gap; 4 it shows none; 1 refused (answers 1 to 7); 3 not solved
              (answers 20 to 26); 2 the command line or the file is wrong, or the plan isn't in

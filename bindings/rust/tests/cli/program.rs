@@ -81,7 +81,8 @@ fn exit_statuses() {
     let endless = N2.replace(" L air", " G air").replace("air 4", "air 0");
     for (words, input, status) in [
         (&["solve", "-"][..], N2, 0),
-        (&["solve", "-"], &refused, 1),
+        (&["solve", "-", "--plain"], &refused, 1),
+        (&["solve", "-"], &refused, 3),
         (&["solve", "-"], &endless, 3),
         (&["solve", "-", "--budget", "1"], N2, 3),
         (&["audit", "-", "--budget", "1"], N2, 3),
