@@ -20,10 +20,11 @@ tevalumi: target/staticlib/libtevalumi.a
 	ci/linked cargo build --release --offline --manifest-path bindings/rust/Cargo.toml --bin tevalumi
 	ci/linked program tevalumi
 
-# The proved library. It is proved again only where a crate has changed. What it needs is proved first, since `rt check` uses every core.
-target/staticlib/libtevalumi.a: $(shell find crates crates.txt)
-	rt check $(shell sed -n 's/^tevalumi://p' crates.txt)
-	rt staticlib tevalumi
+# The proved library. What it needs is proved again only where a crate has changed.
+.PHONY: library
+library: target/staticlib/libtevalumi.a
+target/staticlib/libtevalumi.a: $(shell find crates crates.txt) ci/library
+	ci/library
 
 # The shared library, with the calls of include/tevalumi.h and no others; and the one for this machine's Python.
 SHARED = -shared -Wl,-soname,libtevalumi.so.0 -Wl,--no-undefined -Wl,--version-script=packaging/exports -Wl,--whole-archive

@@ -1,4 +1,4 @@
-//! Links the proved library. It is looked for where `rt staticlib tevalumi` writes it, or in the
+//! Links the proved library. It is looked for where `make library` writes it, or in the
 //! folder that `TEVALUMI_LIB_DIR` names.
 
 use std::env;
@@ -16,7 +16,7 @@ fn main() {
     // Only a warning: pages and lints need no library.
     if !library.is_file() {
         println!(
-            "cargo:warning={} isn't there: run `rt staticlib tevalumi`, or set TEVALUMI_LIB_DIR",
+            "cargo:warning={} isn't there: run `make library`, or set TEVALUMI_LIB_DIR",
             library.display()
         );
     }

@@ -95,7 +95,7 @@ stand in one module of the source, `ffi`, with the reason for each.
 # Linking
 
 The static library `libtevalumi.a` is looked for in `target/staticlib` of the repository, where
-`rt staticlib tevalumi` writes it, or in the folder that the environment variable
+`make library` writes it, or in the folder that the environment variable
 `TEVALUMI_LIB_DIR` names when the crate is built. It is code for x86-64 Linux.
 */
 
