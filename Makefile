@@ -104,16 +104,33 @@ driver: oracle target/staticlib/libtevalumi.a
 checks:
 	ci/checks
 
-# The proved library beside the oracle's solver on 200 plans and 100 longer ones: a line for each, then the ratios of medians. With GLPK too, through its C library, which Debian
-# has as libglpk-dev. And where the library's instructions go.
+# The proved library beside the oracles on the 200 plans, longer ones, dual starts, fixes, sheets, files, journals and nights: a table with a row for each
+# set. With GLPK, Clp and lp_solve too, through their C libraries, which Debian has as libglpk-dev, coinor-libclp-dev and liblpsolve55-dev.
 bench: target/staticlib/libtevalumi.a
 	bench/run
 
 bench-peers: target/staticlib/libtevalumi.a
 	bench/run --peers
 
+# The executed instructions of every set and side, which repeat; lent memory and stack of each call; where a solve's instructions go.
+.PHONY: bench-counts bench-memory
+bench-counts: target/staticlib/libtevalumi.a
+	bench/run --counts
+
+bench-memory: target/staticlib/libtevalumi.a
+	bench/run --memory
+
 bench-profile: target/staticlib/libtevalumi.a
 	bench/run --profile
+
+# docs/growth.svg: what a solve takes by rows, columns, density and steps.
+.PHONY: growth
+growth: target/staticlib/libtevalumi.a
+	bench/run --growth
+
+# All that docs/BENCHMARKS.md shows of solves and calls, in some six minutes on a machine with nothing else to do.
+.PHONY: bench-all
+bench-all: bench-peers bench-counts bench-memory growth
 
 # The samples that Debian ships with GLPK and COIN, each through the program and through glpsol: a line for each within the limits.
 .PHONY: foreign

@@ -1,10 +1,13 @@
 //! The solvers, each behind one call on memory that is prepared beforehand.
 
-use oracle::answer::{Answer, Outcome};
+use oracle::answer::Answer;
 use oracle::gate::{self, Session};
 use oracle::plan::{Call, Plan};
 use oracle::shown::Options;
-use tevalumi::raw::{fix_into, sections, solve_into, PlanRef, Status, Workspace};
+use tevalumi::raw::{
+    fix_into, limits, sections, solve_into, unfix_into, PlanRef, Status, Workspace,
+};
+use tevalumi::wholes::propose_into;
 
 /// What is compared and shown of an answer.
 #[derive(Clone, Copy, Debug, PartialEq)]
@@ -17,6 +20,12 @@ pub struct Seen {
 impl Seen {
     pub fn optimal(self) -> bool {
         self.number == Status::Optimal.number()
+    }
+
+    /// Whether the objectives agree to this part of their size.
+    pub fn near(self, other: Seen, part: f64) -> bool {
+        let size = self.objective.abs().max(1.0);
+        (self.objective - other.objective).abs() <= part * size
     }
 
     fn library(answer: tevalumi::raw::Answer) -> Seen {
@@ -44,13 +53,22 @@ pub struct Library {
     work: Box<Workspace>,
 }
 
-struct Arrays {
-    starts: Vec<usize>,
-    cols: Vec<usize>,
-    ops: Vec<u8>,
+/// A plan's whole numbers in the library's types.
+pub struct Arrays {
+    pub starts: Vec<usize>,
+    pub cols: Vec<usize>,
+    pub ops: Vec<u8>,
 }
 
 impl Arrays {
+    pub fn of(plan: &Plan) -> Arrays {
+        Arrays {
+            starts: plan.starts.iter().map(|&at| at as usize).collect(),
+            cols: plan.cols.iter().map(|&col| col as usize).collect(),
+            ops: plan.ops.iter().map(|&op| op as u8).collect(),
+        }
+    }
+
     fn lent<'a>(&'a self, plan: &'a Plan) -> PlanRef<'a> {
         PlanRef {
             columns: plan.columns as usize,
@@ -73,11 +91,7 @@ impl Arrays {
 impl Library {
     pub fn new(plan: &Plan) -> Library {
         Library {
-            arrays: Arrays {
-                starts: plan.starts.iter().map(|&at| at as usize).collect(),
-                cols: plan.cols.iter().map(|&col| col as usize).collect(),
-                ops: plan.ops.iter().map(|&op| op as u8).collect(),
-            },
+            arrays: Arrays::of(plan),
             values: vec![0.0; (plan.columns + plan.rows) as usize],
             work: Box::default(),
         }
@@ -93,6 +107,30 @@ impl Library {
         let lent = self.arrays.lent(plan);
         let (work, values) = (&mut self.work, &mut self.values);
         Seen::library(fix_into(&lent, work, values, column, value))
+    }
+
+    /// Goes on from what the last call left, with the plan's costs, which may be others.
+    #[cfg(feature = "reprice")]
+    pub fn reprice(&mut self, plan: &Plan) -> Seen {
+        let lent = self.arrays.lent(plan);
+        let (work, values) = (&mut self.work, &mut self.values);
+        Seen::library(tevalumi::raw::reprice_into(&lent, work, values))
+    }
+
+    /// Lets a column go that is held still.
+    pub fn unfix(&mut self, plan: &Plan, column: usize) -> Seen {
+        let lent = self.arrays.lent(plan);
+        let (work, values) = (&mut self.work, &mut self.values);
+        Seen::library(unfix_into(&lent, work, values, column))
+    }
+
+    /// Whole numbers from what the last call left, into memory of its own.
+    pub fn propose(&self, plan: &Plan) {
+        let lent = self.arrays.lent(plan);
+        let (mut amounts, mut mults) = ([0; limits::COLUMNS], [0; limits::ROWS]);
+        let (work, values) = (&self.work, &self.values);
+        // Whether all of them are whole makes no difference here.
+        let _ = propose_into(&lent, values, work, &mut amounts, &mut mults);
     }
 
     /// The same memory, as another's calls left it.
@@ -120,7 +158,7 @@ impl Library {
 }
 
 /// The oracle's solver, without the copies by which it undoes a step.
-fn options() -> Options {
+pub fn options() -> Options {
     let mut options = Options::default();
     options.no_copies = true;
     options
@@ -137,17 +175,9 @@ pub fn oracle_solved(plan: &Plan) -> Session {
     session
 }
 
-/// The oracle's fix, over the memory that it keeps.
-pub fn oracle_fix(session: &mut Session, column: usize, value: f64) -> (Seen, Vec<f64>) {
-    let column = column as u64;
-    let answer = session.call(&Call::Fix { column, value });
-    Seen::oracle(answer.expect("a fix has an answer"))
-}
-
-/// Whether the oracle would need its copies: it answers 23 or 25.
-pub fn needs_copies(plan: &Plan) -> bool {
-    let outcome = gate::solve(plan, Options::default()).outcome;
-    matches!(outcome, Outcome::NotFinite { .. } | Outcome::Singular)
+/// The oracle's call, over the memory that it keeps.
+pub fn oracle_call(session: &mut Session, call: &Call) -> (Seen, Vec<f64>) {
+    Seen::oracle(session.call(call).expect("these calls have an answer"))
 }
 
 pub fn bits(values: &[f64]) -> Vec<u64> {
