@@ -128,9 +128,10 @@ bench-profile: target/staticlib/libtevalumi.a
 growth: target/staticlib/libtevalumi.a
 	bench/run --growth
 
-# All that docs/BENCHMARKS.md shows of solves and calls, in some six minutes on a machine with nothing else to do.
-.PHONY: bench-all
-bench-all: bench-peers bench-counts bench-memory growth
+# The tables of docs/BENCHMARKS.md and docs/growth.svg, measured anew in some six minutes. The machine should have nothing else to do.
+.PHONY: bench-docs
+bench-docs: target/staticlib/libtevalumi.a
+	bench/docs
 
 # The samples that Debian ships with GLPK and COIN, each through the program and through glpsol: a line for each within the limits.
 .PHONY: foreign

@@ -94,7 +94,10 @@ fn plan_calls() -> Vec<Seen> {
     let mut fix = Seen::new("fix", PLAN, VALUES + STATE);
     let mut unfix = Seen::new("unfix", PLAN, VALUES + STATE);
     #[cfg(feature = "reprice")]
-    let mut reprice = Seen::new("reprice", PLAN, VALUES + STATE);
+    let (mut reprice, mut any) = (
+        Seen::new("reprice", PLAN, VALUES + STATE),
+        Seen::new("solve_any", PLAN, VALUES + STATE),
+    );
     for plans in [plans::gateway(), plans::long(), plans::dual()] {
         for plan in &plans {
             let mut library = Library::new(plan);
@@ -110,6 +113,7 @@ fn plan_calls() -> Vec<Seen> {
                 reprice.call(|| {
                     memory.reprice(&other);
                 });
+                any.call(|| memory.solve_any(plan));
             }
             let basic = (0..plan.columns as usize).find(|&column| library.stands(column).1);
             if let Some(column) = basic {
@@ -129,6 +133,8 @@ fn plan_calls() -> Vec<Seen> {
         unfix,
         #[cfg(feature = "reprice")]
         reprice,
+        #[cfg(feature = "reprice")]
+        any,
     ]
 }
 

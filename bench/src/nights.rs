@@ -10,7 +10,7 @@ use tevalumi::raw::{sections, Workspace};
 use crate::ffi::{self, tevalumi_night};
 use crate::plans::SEED;
 use crate::race::{Case, Made, Repeated, Set, Side, LIBRARY, ORACLE};
-use crate::sides::{bits, options};
+use crate::sides::bits;
 
 const COUNT: usize = 50;
 /// The second stage's amounts are handed out.
@@ -190,7 +190,7 @@ pub fn set(nights: &[Night]) -> Made<'_> {
     for (at, night) in nights.iter().enumerate() {
         let (mut lent, mut memory) = (Lent::new(night), blank(night));
         let ours = lent.run(night);
-        let told = oracle_night(night, options(), &mut memory);
+        let told = oracle_night(night, &mut memory);
         let how = differs(&ours, &lent, &told, &memory);
         differ.extend(how.map(|how| format!("night.{at}: {how}")));
         let steps = ours.first.run.steps + ours.second.run.steps;
@@ -198,7 +198,7 @@ pub fn set(nights: &[Night]) -> Made<'_> {
             std::hint::black_box(lent.run(night));
         });
         let oracle = Repeated(move || {
-            std::hint::black_box(oracle_night(night, options(), &mut memory));
+            std::hint::black_box(oracle_night(night, &mut memory));
         });
         set.cases.push(Case {
             id: format!("night.{at}"),

@@ -117,6 +117,14 @@ impl Library {
         Seen::library(tevalumi::raw::reprice_into(&lent, work, values))
     }
 
+    /// Solves from any start.
+    #[cfg(feature = "reprice")]
+    pub fn solve_any(&mut self, plan: &Plan) {
+        let lent = self.arrays.lent(plan);
+        let (work, values) = (&mut self.work, &mut self.values);
+        tevalumi::raw::solve_any_into(&lent, work, values);
+    }
+
     /// Lets a column go that is held still.
     pub fn unfix(&mut self, plan: &Plan, column: usize) -> Seen {
         let lent = self.arrays.lent(plan);
@@ -157,20 +165,13 @@ impl Library {
     }
 }
 
-/// The oracle's solver, without the copies by which it undoes a step.
-pub fn options() -> Options {
-    let mut options = Options::default();
-    options.no_copies = true;
-    options
-}
-
 pub fn oracle(plan: &Plan) -> (Seen, Vec<f64>) {
-    Seen::oracle(gate::solve(plan, options()))
+    Seen::oracle(gate::solve(plan, Options::default()))
 }
 
 /// The oracle with the memory of the plan's run.
 pub fn oracle_solved(plan: &Plan) -> Session {
-    let mut session = Session::new(plan, options());
+    let mut session = Session::new(plan, Options::default());
     session.solve();
     session
 }

@@ -17,7 +17,7 @@ pub enum Beside {
 fn case(plan: &Plan, beside: Beside) -> Result<Case<'_>, String> {
     let mut library = Library::new(plan);
     let seen = library.solve(plan);
-    // On 23 and 25 the oracle would need the copies that it is asked to leave out.
+    // On 23 and 25 the oracle would need the copies that its feature `plain` leaves out.
     if !seen.optimal() {
         return Err(format!("{seen:?}: not a plan for the benchmark"));
     }

@@ -6,7 +6,6 @@ mod promises;
 pub mod reference;
 
 use oracle::rng::Rng;
-use oracle::shown::Options;
 use oracle_sheet::file_cases::Tried;
 use oracle_sheet::reference::Verdict;
 
@@ -36,7 +35,7 @@ pub fn run(asked: Asked, seed: u64) -> Tried {
     cases::nights(seed, &mut |night| {
         let before = blank(&night);
         let mut memory = before.clone();
-        let told = reference::night(&night, Options::default(), &mut memory);
+        let told = reference::night(&night, &mut memory);
         cases::count(&night, &told, &memory, &mut tried);
         let mut whole = memory.whole.clone();
         if asked == Asked::Both {

@@ -360,12 +360,11 @@ fn audited(plan: &Sheet, doubles: &Plan, run: &Answer) -> (Audit, Option<Sheet>)
 fn stage(
     night: &Night,
     plan: &Sheet,
-    options: Options,
     memory: &mut Memory,
     solved: &mut Vec<Plan>,
 ) -> (Stage, Option<Sheet>) {
     let doubles = in_doubles(plan, night.budget, night.tolerance);
-    let run = solve(&doubles, options);
+    let run = solve(&doubles, Options::default());
     memory.store(doubles.columns as usize, &run);
     let (audit, sheet) = audited(plan, &doubles, &run);
     solved.push(doubles);
@@ -455,7 +454,7 @@ fn second_plan(night: &Night, found: i64) -> Sheet {
 }
 
 /// The night, and what it leaves in the memory.
-pub fn night(night: &Night, options: Options, memory: &mut Memory) -> Told {
+pub fn night(night: &Night, memory: &mut Memory) -> Told {
     let mut told = Told {
         short: false,
         kind: 0,
@@ -470,7 +469,7 @@ pub fn night(night: &Night, options: Options, memory: &mut Memory) -> Told {
         told.short = true;
         return told;
     }
-    let (first, opened) = stage(night, plan, options, memory, &mut told.solved);
+    let (first, opened) = stage(night, plan, memory, &mut told.solved);
     if let Some(sheet) = &opened {
         put(&mut memory.whole, FIRST..FIRST + STAGE, &section(sheet));
     }
@@ -484,7 +483,7 @@ pub fn night(night: &Night, options: Options, memory: &mut Memory) -> Told {
     let found = i64::try_from(first.kept.c).expect("within 2^31");
     let next = second_plan(night, found);
     put(&mut memory.whole, COEFS..WHOLE, &next.coef);
-    let (second, opened) = stage(night, &next, options, memory, &mut told.solved);
+    let (second, opened) = stage(night, &next, memory, &mut told.solved);
     if let Some(sheet) = &opened {
         put(&mut memory.whole, SECOND..SECOND + STAGE, &section(sheet));
     }
