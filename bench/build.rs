@@ -1,4 +1,4 @@
-//! Compiles `stack.c`, and with the features `glpk`, `clp` and `lpsolve` the shims over these C libraries, and links them.
+//! Compiles `stack.c`, with the feature `counts` also `counts.c`, and with the features `glpk`, `clp` and `lpsolve` the shims over these C libraries, and links them.
 //! With the feature `sums`: links the two sides of the sum behind R.
 
 use std::env;
@@ -20,6 +20,9 @@ fn main() {
         println!("cargo:rustc-link-lib=static=sums");
     }
     shim("stack");
+    if has("counts") {
+        shim("counts");
+    }
     for (peer, libraries) in PEERS {
         if has(peer) {
             shim(peer);

@@ -109,9 +109,9 @@ impl Book {
         self.lend().undo(journal).expect("the journal has entries");
     }
 
-    pub fn feed(&mut self, file: &[u8]) {
-        let mut feed = Feed::new();
-        let fed = self.lend().feed(file, &mut feed);
+    /// A whole journal's file, with a feed that begins.
+    pub fn feed(&mut self, file: &[u8], feed: &mut Feed) {
+        let fed = self.lend().feed(file, feed);
         fed.and_then(|()| feed.close()).expect("a whole journal");
     }
 
@@ -390,7 +390,7 @@ fn journaling(sheet: &Sheet, what: Journaled) -> (Case<'_>, Option<String>) {
                 .iter()
                 .for_each(|&edit| book.edit_journaled(edit, bytes)),
             Journaled::Undo => ours.iter().for_each(|_| book.undo(bytes)),
-            Journaled::Feed => book.feed(&bytes[..end]),
+            Journaled::Feed => book.feed(&bytes[..end], &mut Feed::new()),
         },
     };
     let oracle = Prepared {

@@ -5,9 +5,9 @@
 //! |---|---|
 //! | `bench [--rounds N] [--lines FILE]` | alternating rounds; a table with a row for each set, and one with a row for each side; into FILE a line for each case |
 //! | `bench --check` | only compares the answers |
-//! | `bench --count` | each call once, under a tool that counts what `bench_counted` executes up to each `bench_mark` |
+//! | `bench --count` | each call once, under callgrind, which counts what it executes; with the feature `counts` |
 //! | `bench --growth [--rounds N]` | plans by rows, columns, density and steps: a line for each point |
-//! | `bench --growth --count` | the same points under the tool |
+//! | `bench --growth --count` | the same points under callgrind |
 //! | `bench --memory` | what each call of the library is lent, and the stack that it touches |
 //!
 //! Each ends with status 1 where the sides don't answer alike.
@@ -43,6 +43,7 @@ use times::ROUNDS;
 enum Mode {
     Time,
     Check,
+    #[cfg(feature = "counts")]
     Count,
 }
 
@@ -81,6 +82,7 @@ fn asked() -> Result<Asked, String> {
     while let Some(arg) = args.next() {
         match arg.as_str() {
             "--check" => asked.mode = Mode::Check,
+            #[cfg(feature = "counts")]
             "--count" => asked.mode = Mode::Count,
             "--growth" => asked.growth = true,
             "--memory" => asked.memory = true,
@@ -142,6 +144,7 @@ fn run(asked: Asked) -> usize {
         passed += set.cases.len();
         match asked.mode {
             Mode::Check => {}
+            #[cfg(feature = "counts")]
             Mode::Count => set.count(),
             Mode::Time => {
                 set.time(asked.rounds);

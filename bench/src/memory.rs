@@ -2,7 +2,7 @@
 
 use std::ffi::c_void;
 
-use tevalumi::raw::{begin_journal, limits, sections};
+use tevalumi::raw::{begin_journal, limits, sections, Feed};
 
 use crate::books::{self, Book};
 use crate::ffi;
@@ -101,9 +101,7 @@ fn plan_calls() -> Vec<Seen> {
     for plans in [plans::gateway(), plans::long(), plans::dual()] {
         for plan in &plans {
             let mut library = Library::new(plan);
-            solve.call(|| {
-                library.solve(plan);
-            });
+            solve.call(|| assert!(library.solve(plan).optimal()));
             #[cfg(feature = "reprice")]
             {
                 let mut other = plan.clone();
@@ -118,12 +116,11 @@ fn plan_calls() -> Vec<Seen> {
             let basic = (0..plan.columns as usize).find(|&column| library.stands(column).1);
             if let Some(column) = basic {
                 let value = (library.stands(column).0 / 2.0).floor();
-                fix.call(|| {
-                    library.fix(plan, column, value.max(plan.lower[column]));
-                });
-                unfix.call(|| {
-                    library.unfix(plan, column);
-                });
+                let held = value.max(plan.lower[column]);
+                fix.call(|| assert!(!library.fix(plan, column, held).refused()));
+                if library.solved() {
+                    unfix.call(|| assert!(!library.unfix(plan, column).refused()));
+                }
             }
         }
     }
@@ -169,8 +166,8 @@ fn sheet_calls() -> Vec<Seen> {
             let one = books::edits(kind, kind)[kind - 1];
             journaled.call(|| book.edit_journaled(one, &mut journal));
         }
-        let mut fed = before.clone();
-        feed.call(|| fed.feed(&journal[..2 * limits::BLOCK]));
+        let (mut fed, mut cells) = (before.clone(), Box::new(Feed::new()));
+        feed.call(|| fed.feed(&journal[..2 * limits::BLOCK], &mut cells));
         for _ in 1..=9 {
             undo.call(|| book.undo(&mut journal));
         }
@@ -204,27 +201,33 @@ fn triangle_calls() -> Vec<Seen> {
     let mut list = vec![0; ROWS];
     let mut b = vec![1.0; ROWS];
     lower_sparse.call(|| {
-        ffi::tevalumi_lower_sparse(
+        let told = ffi::tevalumi_lower_sparse(
             ROWS, entries, &below, &down, &coeffs, 0, &none, &mut list, 1, &mut b,
         );
+        assert_eq!(told.status, 0, "a triangle");
     });
     list[0] = ROWS - 1;
     upper_sparse.call(|| {
-        ffi::tevalumi_upper_sparse(
+        let told = ffi::tevalumi_upper_sparse(
             ROWS, entries, &above, &up, &coeffs, 0, &none, &mut list, 1, &mut b,
         );
+        assert_eq!(told.status, 0, "a triangle");
     });
     lower_dense.call(|| {
-        ffi::tevalumi_lower_dense(ROWS, entries, &below, &down, &coeffs, 0, &none, &mut b);
+        let told =
+            ffi::tevalumi_lower_dense(ROWS, entries, &below, &down, &coeffs, 0, &none, &mut b);
+        assert_eq!(told.status, 0, "a triangle");
     });
     upper_dense.call(|| {
-        ffi::tevalumi_upper_dense(ROWS, entries, &above, &up, &coeffs, 0, &none, &mut b);
+        let told = ffi::tevalumi_upper_dense(ROWS, entries, &above, &up, &coeffs, 0, &none, &mut b);
+        assert_eq!(told.status, 0, "a triangle");
     });
     both.call(|| {
-        ffi::tevalumi_solve_dense(
+        let told = ffi::tevalumi_solve_dense(
             ROWS, entries, &below, &down, &coeffs, 0, &none, entries, &above, &up, &coeffs, 0,
             &none, &mut b,
         );
+        assert_eq!(told.status, 0, "a triangle");
     });
     vec![lower_sparse, upper_sparse, lower_dense, upper_dense, both]
 }
@@ -246,12 +249,13 @@ fn whole_calls() -> Vec<Seen> {
     for plan in &plans::gateway() {
         let mut library = Library::new(plan);
         library.solve(plan);
-        propose.call(|| library.propose(plan));
+        let (mut amounts, mut mults) = (vec![0; COLUMNS], vec![0; ROWS]);
+        propose.call(|| assert!(library.propose(plan, &mut amounts, &mut mults)));
     }
     for one in &nights::all() {
         let mut lent = nights::Lent::new(one);
         night.call(|| {
-            lent.run(one);
+            assert_eq!(lent.run(one).status, 0, "every array is long enough");
         });
     }
     vec![amount, multiplier, propose, night]

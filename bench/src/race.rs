@@ -1,5 +1,6 @@
 //! Sets of cases, each with the sides that do the same work: the library first, then those that it is compared with.
 
+#[cfg(feature = "counts")]
 use std::hint::black_box;
 use std::time::Instant;
 
@@ -98,26 +99,21 @@ impl<'a> Side<'a> {
         }
         nanos as f64 / self.repeats as f64
     }
-
-    /// The call once, for a tool that counts what `bench_counted` executes.
-    fn count(&mut self) {
-        self.call.prepare();
-        bench_counted(self.call.as_mut());
-    }
 }
 
-/// The tool's window. The name is what `bench/run` tells it.
+/// Callgrind looks at the code between these two (`counts.c`).
+#[cfg(feature = "counts")]
+extern "C" {
+    fn bench_counts_begin();
+    fn bench_counts_end();
+}
+
+/// Callgrind's window within. The name is what `bench/run` tells it.
+#[cfg(feature = "counts")]
 #[no_mangle]
 #[inline(never)]
 fn bench_counted(call: &mut (dyn Called + '_)) {
     black_box(call).call();
-}
-
-/// Ends what is counted of one side of one set.
-#[no_mangle]
-#[inline(never)]
-fn bench_mark() {
-    black_box(());
 }
 
 /// A case, with a side for each name of its set.
@@ -179,13 +175,19 @@ impl<'a> Set<'a> {
         }
     }
 
-    /// Every call once under a counting tool, side by side; a line tells which.
+    /// Every call once under callgrind, side by side; a line tells which.
+    #[cfg(feature = "counts")]
     pub fn count(&mut self) {
         for (at, name) in self.sides.iter().enumerate() {
-            for case in &mut self.cases {
-                case.sides[at].count();
-            }
-            bench_mark();
+            let calls = self.cases.iter_mut().map(|case| &mut case.sides[at].call);
+            let mut calls: Vec<_> = calls.collect();
+            calls.iter_mut().for_each(|call| call.prepare());
+            // SAFETY: both only make requests to the tool.
+            unsafe { bench_counts_begin() };
+            calls
+                .iter_mut()
+                .for_each(|call| bench_counted(call.as_mut()));
+            unsafe { bench_counts_end() };
             println!("{}|{name}|{}", self.name, self.cases.len() * self.each);
         }
     }

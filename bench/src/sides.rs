@@ -4,9 +4,7 @@ use oracle::answer::Answer;
 use oracle::gate::{self, Session};
 use oracle::plan::{Call, Plan};
 use oracle::shown::Options;
-use tevalumi::raw::{
-    fix_into, limits, sections, solve_into, unfix_into, PlanRef, Status, Workspace,
-};
+use tevalumi::raw::{fix_into, sections, solve_into, unfix_into, PlanRef, Status, Workspace};
 use tevalumi::wholes::propose_into;
 
 /// What is compared and shown of an answer.
@@ -20,6 +18,11 @@ pub struct Seen {
 impl Seen {
     pub fn optimal(self) -> bool {
         self.number == Status::Optimal.number()
+    }
+
+    /// Whether nothing was done: 1 to 7, 41 to 44.
+    pub fn refused(self) -> bool {
+        Status::from_number(self.number.into()).is_none_or(Status::is_refusal)
     }
 
     /// Whether the objectives agree to this part of their size.
@@ -132,13 +135,10 @@ impl Library {
         Seen::library(unfix_into(&lent, work, values, column))
     }
 
-    /// Whole numbers from what the last call left, into memory of its own.
-    pub fn propose(&self, plan: &Plan) {
+    /// Whether the last call's numbers are whole ones of a sheet, which are written then.
+    pub fn propose(&self, plan: &Plan, amounts: &mut [i64], mults: &mut [i64]) -> bool {
         let lent = self.arrays.lent(plan);
-        let (mut amounts, mut mults) = ([0; limits::COLUMNS], [0; limits::ROWS]);
-        let (work, values) = (&self.work, &self.values);
-        // Whether all of them are whole makes no difference here.
-        let _ = propose_into(&lent, values, work, &mut amounts, &mut mults);
+        propose_into(&lent, &self.values, &self.work, amounts, mults).is_ok()
     }
 
     /// The same memory, as another's calls left it.
@@ -152,6 +152,11 @@ impl Library {
             true => &self.values[..self.work.kept_rows() + self.columns()],
             false => &[],
         }
+    }
+
+    /// Whether the last call ended in 0.
+    pub fn solved(&self) -> bool {
+        self.work.numbers[sections::COUNTS][4] == 0
     }
 
     /// The value of a column after an Optimal call, and whether it is basic.

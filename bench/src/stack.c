@@ -30,8 +30,11 @@ size_t bench_touched(void (*call)(void *), void *memory) {
         abort();
     pthread_join(thread, NULL);
     pthread_attr_destroy(&attr);
+    /* By words, since a byte of the paint's value may have been written. */
+    unsigned char word[8];
+    memset(word, PAINT, sizeof word);
     size_t left = 0;
-    while (left < STACK && stack[left] == PAINT)
-        left++;
+    while (left < STACK && memcmp(stack + left, word, sizeof word) == 0)
+        left += sizeof word;
     return STACK - left;
 }
