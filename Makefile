@@ -105,16 +105,34 @@ driver: oracle target/staticlib/libtevalumi.a
 checks:
 	ci/checks
 
-# The proved library beside the oracle's solver on 200 plans and 100 longer ones: a line for each, then the ratios of medians. With GLPK too, through its C library, which Debian
-# has as libglpk-dev. And where the library's instructions go.
+# The proved library beside the oracles on the 200 plans, longer ones, dual starts, fixes, sheets, files, journals and nights: a table with a row for each
+# set. With GLPK, Clp and lp_solve too, through their C libraries, which Debian has as libglpk-dev, coinor-libclp-dev and liblpsolve55-dev.
 bench: target/staticlib/libtevalumi.a
 	bench/run
 
 bench-peers: target/staticlib/libtevalumi.a
 	bench/run --peers
 
+# The executed instructions of every set and side, which repeat; lent memory and stack of each call; where a solve's instructions go.
+.PHONY: bench-counts bench-memory
+bench-counts: target/staticlib/libtevalumi.a
+	bench/run --counts
+
+bench-memory: target/staticlib/libtevalumi.a
+	bench/run --memory
+
 bench-profile: target/staticlib/libtevalumi.a
 	bench/run --profile
+
+# docs/growth.svg: what a solve takes by rows, columns, density and steps.
+.PHONY: growth
+growth: target/staticlib/libtevalumi.a
+	bench/run --growth
+
+# The tables of docs/BENCHMARKS.md and docs/growth.svg, measured anew in some six minutes. The machine should have nothing else to do.
+.PHONY: bench-docs
+bench-docs: target/staticlib/libtevalumi.a
+	bench/docs
 
 # The samples that Debian ships with GLPK and COIN, each through the program and through glpsol: a line for each within the limits.
 .PHONY: foreign

@@ -1,56 +1,63 @@
-/* GLPK's primal or dual simplex from the slack basis, with nothing around it. */
+/* GLPK's primal or dual simplex, with nothing around it. */
+#include "peer.h"
 #include <glpk.h>
-#include <stddef.h>
 
-/* The plan as a problem object; ops are 0 Le, 1 Eq, 2 Ge. */
-void *bench_glpk_new(size_t columns, size_t rows, const double *costs, const double *lowers,
-                     const double *uppers, const size_t *starts, const size_t *cols,
-                     const double *coeffs, const unsigned char *ops, const double *rhs,
-                     double infinity) {
-    glp_prob *prob = glp_create_prob();
-    if (columns > 0)
-        glp_add_cols(prob, (int)columns);
-    if (rows > 0)
-        glp_add_rows(prob, (int)rows);
-    for (size_t j = 0; j < columns; j++) {
-        int low = lowers[j] != -infinity, up = uppers[j] != infinity;
-        int kind = low && up ? (lowers[j] == uppers[j] ? GLP_FX : GLP_DB)
-                   : low     ? GLP_LO
-                   : up      ? GLP_UP
-                             : GLP_FR;
-        glp_set_obj_coef(prob, (int)j + 1, costs[j]);
-        glp_set_col_bnds(prob, (int)j + 1, kind, lowers[j], uppers[j]);
+typedef struct {
+    glp_prob *prob;
+    int columns, *stats;
+} Glpk;
+
+void *bench_glpk_new(const Plan *plan) {
+    Glpk *glpk = malloc(sizeof *glpk);
+    glp_prob *prob = glpk->prob = glp_create_prob();
+    glpk->columns = (int)plan->columns;
+    glpk->stats = malloc((plan->columns + 1) * sizeof *glpk->stats);
+    glp_add_cols(prob, (int)plan->columns);
+    glp_add_rows(prob, (int)plan->rows);
+    for (size_t j = 0; j < plan->columns; j++) {
+        int low = !isinf(plan->lowers[j]), up = !isinf(plan->uppers[j]);
+        int fixed = low && plan->lowers[j] == plan->uppers[j];
+        int kind = fixed ? GLP_FX : low && up ? GLP_DB : low ? GLP_LO : up ? GLP_UP : GLP_FR;
+        glp_set_obj_coef(prob, (int)j + 1, plan->costs[j]);
+        glp_set_col_bnds(prob, (int)j + 1, kind, plan->lowers[j], plan->uppers[j]);
+        glpk->stats[j] = fixed ? GLP_NS : starts_up(plan, j) ? GLP_NU : low ? GLP_NL : GLP_NF;
     }
-    for (size_t i = 0; i < rows; i++) {
+    int *index = malloc((plan->columns + 1) * sizeof *index);
+    for (size_t i = 0; i < plan->rows; i++) {
         static const int kinds[] = {GLP_UP, GLP_FX, GLP_LO};
-        int index[1 + 2048], count = 0;
-        double value[1 + 2048];
-        for (size_t k = starts[i]; k < starts[i + 1]; k++) {
-            count++;
-            index[count] = (int)cols[k] + 1;
-            value[count] = coeffs[k];
-        }
-        glp_set_row_bnds(prob, (int)i + 1, kinds[ops[i]], rhs[i], rhs[i]);
-        glp_set_mat_row(prob, (int)i + 1, count, index, value);
+        size_t start = plan->starts[i], count = plan->starts[i + 1] - start;
+        for (size_t k = 0; k < count; k++)
+            index[k + 1] = (int)plan->cols[start + k] + 1;
+        glp_set_row_bnds(prob, (int)i + 1, kinds[plan->ops[i]], plan->rhs[i], plan->rhs[i]);
+        /* Its arrays begin at 1. */
+        glp_set_mat_row(prob, (int)i + 1, (int)count, index, plan->coeffs + start - 1);
     }
-    return prob;
+    free(index);
+    return glpk;
 }
 
-/* Solves from the slack basis, by the dual simplex where that is asked for; answers whether it is optimal. */
+/* Whether it is optimal. */
 int bench_glpk_solve(void *problem, int dual, double *objective, size_t *steps) {
-    glp_prob *prob = problem;
+    Glpk *glpk = problem;
     glp_smcp parm;
     glp_init_smcp(&parm);
     parm.msg_lev = GLP_MSG_OFF;
     parm.meth = dual ? GLP_DUALP : GLP_PRIMAL;
     parm.presolve = GLP_OFF;
-    glp_std_basis(prob);
-    glp_set_it_cnt(prob, 0);
-    if (glp_simplex(prob, &parm) != 0)
+    glp_std_basis(glpk->prob);
+    for (int j = 0; j < glpk->columns; j++)
+        glp_set_col_stat(glpk->prob, j + 1, glpk->stats[j]);
+    glp_set_it_cnt(glpk->prob, 0);
+    if (glp_simplex(glpk->prob, &parm) != 0)
         return 0;
-    *objective = glp_get_obj_val(prob);
-    *steps = (size_t)glp_get_it_cnt(prob);
-    return glp_get_status(prob) == GLP_OPT;
+    *objective = glp_get_obj_val(glpk->prob);
+    *steps = (size_t)glp_get_it_cnt(glpk->prob);
+    return glp_get_status(glpk->prob) == GLP_OPT;
 }
 
-void bench_glpk_delete(void *problem) { glp_delete_prob(problem); }
+void bench_glpk_delete(void *problem) {
+    Glpk *glpk = problem;
+    glp_delete_prob(glpk->prob);
+    free(glpk->stats);
+    free(glpk);
+}

@@ -8,7 +8,7 @@ use oracle::rng::Rng;
 pub const COUNT: usize = 200;
 pub const LONG_COUNT: usize = 100;
 pub const DUAL_COUNT: usize = 100;
-const SEED: u64 = 2_026;
+pub const SEED: u64 = 2_026;
 
 /// 10 to 64 rows, 20 to 128 columns, 5 to 20 % dense.
 pub fn gateway() -> Vec<Plan> {
@@ -110,7 +110,7 @@ fn sized(id: String, rows: usize, columns: usize) -> Plan {
     }
 }
 
-fn plan(id: String, rows: usize, columns: usize, percent: usize, rng: &mut Rng) -> Plan {
+pub fn plan(id: String, rows: usize, columns: usize, percent: usize, rng: &mut Rng) -> Plan {
     let mut plan = sized(id, rows, columns);
     let mut start = vec![];
     for _ in 0..columns {

@@ -64,7 +64,7 @@ fn run(rounds: usize) -> Result<(), String> {
         println!("{}", race.line());
     }
     println!();
-    println!("{rounds} rounds; a sample is repeated calls of about 1 ms; medians of the rounds; sums and kept numbers are the same on both sides");
+    println!("{rounds} rounds; a sample is repeated calls of about 0.5 ms; medians of the rounds; sums and kept numbers are the same on both sides");
     println!(
         "noise: each side against its own second samples, from the same rounds: sums {}, opening {}",
         noise(&races, 0),

@@ -5,7 +5,7 @@ use std::time::Instant;
 
 pub const ROUNDS: usize = 15;
 /// A sample repeats its call until it takes about this long.
-pub const SAMPLE_NANOS: f64 = 1_000_000.0;
+pub const SAMPLE_NANOS: f64 = 500_000.0;
 
 /// Nanoseconds for one call, over so many in a row. A call before them isn't counted: it finds the
 /// caches full of the other side.

@@ -82,9 +82,6 @@ impl Correction {
 #[derive(Clone, Copy, Debug, Default)]
 pub struct Options {
     shown: [bool; Correction::ALL.len()],
-    /// No copy of the whole solver before each step, by which a 23 is undone. Only for plans that
-    /// are known not to answer 23: the benchmark would measure the copies.
-    pub no_copies: bool,
 }
 
 impl Options {
@@ -108,7 +105,7 @@ impl Options {
     }
 
     pub fn shows(&self, correction: Correction) -> bool {
-        self.shown[correction as usize]
+        !cfg!(feature = "plain") && self.shown[correction as usize]
     }
 }
 

@@ -470,7 +470,7 @@ impl Solver {
     // whole step", so a step with a number that isn't finite is undone, and so is one whose new basis
     // has no factor.
     fn take_step(&mut self, pivot_info: &PivotInfo) -> Result<(), Outcome> {
-        let before = (!self.options.no_copies).then(|| self.clone());
+        let before = (!cfg!(feature = "plain")).then(|| self.clone());
         if let Err(outcome) = self.pivot(pivot_info) {
             *self = before.expect("a plan that answers 23 or 25 is run with copies");
             return Err(outcome);
