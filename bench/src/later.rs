@@ -25,7 +25,6 @@ pub enum Kind {
     /// The column of `Halved` is let go again.
     LetGo,
     /// One column in four has another cost, by up to a third.
-    #[cfg_attr(not(feature = "reprice"), allow(dead_code))]
     Repriced,
 }
 
@@ -35,7 +34,6 @@ impl Kind {
         Kind::Stopped,
         Kind::NonBasic,
         Kind::LetGo,
-        #[cfg(feature = "reprice")]
         Kind::Repriced,
     ];
 
@@ -87,7 +85,6 @@ fn library(memory: &mut Library, plan: &Plan, target: &Plan, call: &Call) -> See
     match *call {
         Call::Fix { column, value } => memory.fix(plan, column as usize, value),
         Call::Unfix { column } => memory.unfix(plan, column as usize),
-        #[cfg(feature = "reprice")]
         Call::Reprice { .. } => memory.reprice(target),
         _ => unreachable!("no kind of {target:?} has such a call"),
     }

@@ -93,7 +93,6 @@ fn plan_calls() -> Vec<Seen> {
     let mut solve = Seen::new("solve", PLAN, VALUES + STATE);
     let mut fix = Seen::new("fix", PLAN, VALUES + STATE);
     let mut unfix = Seen::new("unfix", PLAN, VALUES + STATE);
-    #[cfg(feature = "reprice")]
     let (mut reprice, mut any) = (
         Seen::new("reprice", PLAN, VALUES + STATE),
         Seen::new("solve_any", PLAN, VALUES + STATE),
@@ -102,7 +101,6 @@ fn plan_calls() -> Vec<Seen> {
         for plan in &plans {
             let mut library = Library::new(plan);
             solve.call(|| assert!(library.solve(plan).optimal()));
-            #[cfg(feature = "reprice")]
             {
                 let mut other = plan.clone();
                 other.cost.reverse();
@@ -124,15 +122,7 @@ fn plan_calls() -> Vec<Seen> {
             }
         }
     }
-    vec![
-        solve,
-        fix,
-        unfix,
-        #[cfg(feature = "reprice")]
-        reprice,
-        #[cfg(feature = "reprice")]
-        any,
-    ]
+    vec![solve, fix, unfix, reprice, any]
 }
 
 /// Every sheet of the benchmark, with an edit of each kind.

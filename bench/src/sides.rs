@@ -113,7 +113,6 @@ impl Library {
     }
 
     /// Goes on from what the last call left, with the plan's costs, which may be others.
-    #[cfg(feature = "reprice")]
     pub fn reprice(&mut self, plan: &Plan) -> Seen {
         let lent = self.arrays.lent(plan);
         let (work, values) = (&mut self.work, &mut self.values);
@@ -121,7 +120,6 @@ impl Library {
     }
 
     /// Solves from any start.
-    #[cfg(feature = "reprice")]
     pub fn solve_any(&mut self, plan: &Plan) {
         let lent = self.arrays.lent(plan);
         let (work, values) = (&mut self.work, &mut self.values);
