@@ -101,7 +101,7 @@ impl<'a> Side<'a> {
     }
 }
 
-/// Callgrind looks at the code between these two (`counts.c`).
+// Callgrind looks at the code between these two (`counts.c`).
 #[cfg(feature = "counts")]
 extern "C" {
     fn bench_counts_begin();
