@@ -85,15 +85,16 @@ module _ (p : Plan) (m : Memory) where
   any-never-7 = way-not-7 any-ways
 
   way-26 : {r : AnyCalled} → AnyWays p m r → number r ≡ 26
-      → (numberOf (first .answer) ≡ 26) ⊎ (numberOf (second .answer) ≡ 26)
+      → (numberOf (first .answer) ≡ 26) ⊎ ((numberOf (first .answer) ≡ 7) × (numberOf (second .answer) ≡ 26))
   unfolding asAnyRow
   way-26 (by-solve n) q = inl q
-  way-26 (by-costless z n) q = inr q
+  way-26 (by-costless z n) q = inr (z, q)
   way-26 (by-reprice z o) q = absurd (never-26 p (second .memory) q)
 
   -- "26 only where `solve` or the run with costs 0 gave it"
   pub any-26 : asAnyRow (anyPlan p m .answer) .number ≡ 26
-      → (numberOf (solvePlan p m .answer) ≡ 26) ⊎ (numberOf (solvePlan (costless p) m .answer) ≡ 26)
+      → (numberOf (solvePlan p m .answer) ≡ 26)
+      ⊎ ((numberOf (solvePlan p m .answer) ≡ 7) × (numberOf (solvePlan (costless p) m .answer) ≡ 26))
   any-26 = way-26 any-ways
 
   -- ---- behind 7 and an Optimal run with costs 0 the call with the plan's own costs isn't refused
