@@ -12,10 +12,10 @@ use Rattle.rules.specs.declared.VarState.{VarState}
 use Rattle.rules.specs.declared.VarState.the-variants.{Basic, NonBasic}
 use Rattle.rules.specs.declared.Stop.the-variants.{Spent, NotFinite}
 use Rattle.run.proofs.Primal.{run-part}
-use Rattle.run.proofs.Turn.{both-part}
+use Rattle.run_dual.proofs.Turn.{both-part}
 use Rattle.fix_rules.specs.Fix.{marked, unmarked, shiftFinite, shifted, fixNonBasic, fixStep, afterFixStep, fixBasic, fixed, unfixed}
-use Rattle.fix_run.specs.Lent.{calledOf}
-use Rattle.fix_run.proofs.Laws.{fix-step-part, unmark-part}
+use Rattle.fix_basic.specs.Lent.{calledOf}
+use Rattle.fix_basic.proofs.Laws.{fix-step-part, unmark-part}
 
 abbrev pub calledFor : Problem → Problem
 calledFor P =

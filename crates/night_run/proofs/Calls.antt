@@ -42,7 +42,7 @@ use Rattle.night_rules.proofs.Arrays.{refused-is}
 use Rattle.night_second.specs.Costed.{costed}
 use Rattle.night_second.proofs.Laws.{no-gap, rows-full}
 use Rattle.night_rules.proofs.Shaped.{Shaped, stage-shaped}
-use Rattle.night_run.proofs.Sections.{front-amounts, front-found}
+use Rattle.night_handing.proofs.Sections.{front-amounts, front-found}
 
 -- ---- sizes over their limits are the solver's 1
 sizes-off : (c r e b x y z : Bool) → r && c ≡ false → (c && r && e && b) && x && y && z ≡ false

@@ -1,7 +1,7 @@
 -- What a stage's calls ask, and each way through it. No contract cites this file. Assumes nothing.
 use mathlib.Core.Path.{_≡_, refl, ap, _∙_}
 use mathlib.Core.Bool.{Bool, true, false, _&&_}
-use mathlib.Core.List.{List, []}
+use mathlib.Core.List.{List}
 use Prim.Native.Nat.{ℕ, _+_, _<_, _≤_}
 use lib.ListN.{length, replicate}
 use native.Mathlib.Omega.{arith}
@@ -10,10 +10,8 @@ use lib.IntN.{ℤ}
 use lib.Ieee.{Float}
 use borrow.Author.Tests.{lt-leb, eq-eqb, ne-eqb}
 use Rattle.doubles.specs.Limits.{maxRows, maxColumns, maxEntries, maxBudget}
-use Rattle.doubles.specs.Num.{f0}
-use Rattle.sheet_rules.specs.Sheet.{Plan, planOf}
+use Rattle.sheet_rules.specs.Sheet.{Plan}
 use Rattle.rules.specs.Plan as Rules
-use Rattle.rules.specs.Parts as Parts
 use Rattle.rules.specs.Refusals.{sizesFit}
 use Rattle.rules.specs.Answers.{asRow, numberOf}
 use Rattle.rules.specs.declared.Answer.{Answer}
@@ -22,15 +20,15 @@ use Rattle.whole_propose.specs.Propose.{lentOf}
 use Rattle.rules.proofs.Lists.{over-long}
 use Rattle.start_gate.proofs.Gate.{size-over}
 use Rattle.solve.proofs.Laws.{refuses}
-use Rattle.night_rules.specs.Doubles.{startAt, entriesTo, entryCount, doublesPlan}
+use Rattle.night_rules.specs.Doubles.{startAt, entryCount, doublesPlan}
 use Rattle.night_rules.specs.Arrays.{Arrays, memory, Ran, ran, runOn}
 use Rattle.night_rules.specs.Stage.{Lends, zeros, lentFrom, proposedAudit, auditOf, isJudged, stageSays, stageAfter}
 use Rattle.night_rules.specs.Stage.{stageOf, sectionInto, Left, left, leaves}
 use Rattle.night_rules.specs.declared.Audit.{Audit}
 use Rattle.night_rules.specs.declared.Audit.the-variants.{NotRun}
 use Rattle.night_rules.proofs.Arrays.{ran-is}
-use Rattle.night_doubles.specs.Laid.{cellsOf}
-use Rattle.night_doubles.specs.Converted.{Converts, converted}
+use Rattle.night_doubles.specs.Converted.{Converts}
+use Rattle.night_solve.proofs.Laws.{converts, entriesIn}
 use Rattle.night_sheet.specs.Audited.{Audited, audited, auditLeft, auditBy}
 
 pub not-bad : numberOf BadSize ≡ 0 → ⊥
@@ -40,14 +38,6 @@ not-bad e = omega (arith, e)
 past-it : (a b : Bool) → a && false && b ≡ false
 past-it true b = refl
 past-it false b = refl
-
--- the comparisons aside
-abbrev pub converts : Plan → Plan
-converts p = planOf (p .rows) (p .cols) (p .coefs) (p .costs) (p .lowers) (p .uppers) (p .lowerMarks) (p .upperMarks)
-    (p .rhs) [] [] []
-
-abbrev pub entriesIn : Plan → ℕ
-entriesIn p = entryCount (cellsOf (p .rows) (p .cols) (p .coefs))
 
 module _ (p : Plan) where
   pub convert-asks : Lends p → entriesIn p ≤ maxEntries → Converts (converts p)
@@ -68,16 +58,6 @@ module _ (p : Plan) where
   module _ (budget : ℕ) (tolerance : Float) where
     abbrev q : Rules.Plan
     q = doublesPlan budget tolerance p
-
-    -- the plan as solve is lent it
-    pub plan-is : {k : ℕ} {c l u : List Float} {s v : List ℕ} {x r : List Float} → k ≡ entriesIn p
-        → converted (p .cols) (p .rows) (entriesIn p) c l u s v x r ≡ doublesPlan 0 f0 (converts p)
-        → Parts.planOf (p .cols) (p .rows) k budget tolerance c l u s v x (p .ops) r ≡ q
-    unfolding doublesPlan entryCount startAt entriesTo
-    plan-is {k} {c} {l} {u} {s} {v} {x} {r} e f =
-        ap (λ (i : ℕ). Parts.planOf (p .cols) (p .rows) i budget tolerance c l u s v x (p .ops) r) e
-        ∙ ap (λ (g : Rules.Plan). Parts.planOf (g .columns) (g .rows) (g .entries) budget tolerance (g .costs)
-        (g .lowers) (g .uppers) (g .starts) (g .cols) (g .coeffs) (p .ops) (g .rhs)) f
 
     pub starts-long : p .rows ≤ maxRows → {s : List ℕ} → s ≡ q .starts → length s ≡ maxRows + 1
     unfolding doublesPlan

@@ -25,7 +25,7 @@ use Rattle.start.proofs.Start.{still-long, start-is}
 use Rattle.step.proofs.Laws.{steppedOf}
 use Rattle.run.specs.Lent.{Running}
 use Rattle.run.proofs.Primal.{run-part}
-use Rattle.run.proofs.Turn.{both-part}
+use Rattle.run_dual.proofs.Turn.{both-part}
 use Rattle.run_launch.specs.Launched.{launchedOf, firstState, goneOn, launched, Launches}
 
 -- ---- `go_on`

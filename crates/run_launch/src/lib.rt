@@ -51,7 +51,7 @@ pub fn go_on(
         &mut ccoeffs,
     );
     if dual {
-        return run::both(
+        return run_dual::both(
             numbers,
             doubles,
             factor_numbers,
@@ -126,7 +126,7 @@ pub fn launch(
         (packed (now (numbers .entry)) (now (doubles .entry))) (now («factor_numbers» .entry))
         (now («factor_coeffs» .entry))) ⌝ }
 {
-    start::write_start(
+    start_write::write_start(
         n,
         kept.len(),
         costs,

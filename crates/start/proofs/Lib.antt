@@ -1,4 +1,3 @@
 -- Laws of the start, for the proofs of this crate and of its callers.
-pub mod Written
 pub mod Parts
 pub mod Start

@@ -93,7 +93,7 @@ pub extern "C" fn tevalumi_unfix(
         (now (doubles .entry)) (now («factor_numbers» .entry)) (now («factor_coeffs» .entry))))
         (pastOf (now (numbers .entry)) (now (doubles .entry)))) ⌝ }
 {
-    let a = fix::unfix(
+    let a = unfix::unfix(
         columns,
         rows,
         entries,

@@ -5,7 +5,7 @@ use borrow.Author.Tests.{not-true, not-false}
 use Rattle.sheet_rules.specs.Sheet.{Sheet, planOf, keptOf, sheetOf}
 use Rattle.file_journal_rules.specs.Feed.{feedFine}
 use Rattle.file_journal_cells.proofs.Laws.{fine-so}
-use Rattle.file_journal_feed.proofs.Laws.{feeds-bad, feeds}
+use Rattle.file_journal_piece.proofs.Laws.{feeds-bad, feeds}
 use Rattle.file_journal_feed.proofs.feed.Statement.{statement}
 use Rattle.file_journal_feed.proofs.feed.Tie as tie
 

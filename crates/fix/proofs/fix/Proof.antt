@@ -17,7 +17,7 @@ use Rattle.fix_gate.specs.declared.Refusal.the-variants.{Nothing}
 use Rattle.fix_gate.proofs.Laws.{Known}
 use Rattle.fix_run.proofs.Parts.{fixed-part}
 use Rattle.fix_parts.proofs.Laws.{keeps-asks, fronts-inside, front-inside, front-long, takes-asks, no-steps, budget-most, close-asks, calls}
-use Rattle.fix.proofs.Laws.{fix-refuses, fix-known, runs, fix-fits, fix-goes}
+use Rattle.fix_calls.proofs.Laws.{fix-refuses, fix-known, runs, fix-fits, fix-goes}
 use Rattle.fix.proofs.fix.Statement.{statement}
 use Rattle.fix.proofs.fix.Tie as tie
 

@@ -10,8 +10,8 @@ use Rattle.state.specs.Packed.{stateIn}
 use Rattle.step_refactor.specs.Left.{leftBy}
 use Rattle.step_refactor.specs.declared.Went.{Went}
 use Rattle.fix_move.specs.Shift.{shiftLeft}
-use Rattle.fix_run.specs.Lent.{calledOf}
-use Rattle.fix_run.proofs.Laws.{moves-asks, shift-runs, non-basic-stops, non-basic-goes}
+use Rattle.fix_basic.specs.Lent.{calledOf}
+use Rattle.fix_basic.proofs.Laws.{moves-asks, shift-runs, non-basic-stops, non-basic-goes}
 use Rattle.fix_run.proofs.fix_non_basic.Statement.{statement}
 use Rattle.fix_run.proofs.fix_non_basic.Tie as tie
 

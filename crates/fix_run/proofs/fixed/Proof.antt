@@ -9,8 +9,8 @@ use Rattle.state.specs.Packed.{stateIn, varStatesAt}
 use Rattle.doubles.specs.Lists.{_#_}
 use Rattle.check_final.proofs.Laws.{place-cell}
 use Rattle.run_launch.proofs.Laws.{transposes}
-use Rattle.fix_run.specs.Lent.{calledOf}
-use Rattle.fix_run.proofs.Laws.{column-below, cell-is, stands-in, fixed-by}
+use Rattle.fix_basic.specs.Lent.{calledOf}
+use Rattle.fix_basic.proofs.Laws.{column-below, cell-is, stands-in, fixed-by}
 use Rattle.fix_run.proofs.fixed.Statement.{statement}
 use Rattle.fix_run.proofs.fixed.Tie as tie
 

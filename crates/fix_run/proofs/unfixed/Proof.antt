@@ -6,8 +6,8 @@ use Rattle.rules.specs.Plan.{Problem, State}
 use Rattle.state.specs.Packed.{stateIn}
 use Rattle.cells.proofs.Parts.{boundsOf}
 use Rattle.fix_rules.specs.Fix.{unmarked}
-use Rattle.fix_run.specs.Lent.{calledOf}
-use Rattle.fix_run.proofs.Laws.{column-below, cell-is, unmark-asks, unmarked-runs, unfixed-by}
+use Rattle.fix_basic.specs.Lent.{calledOf}
+use Rattle.fix_basic.proofs.Laws.{column-below, cell-is, unmark-asks, unmarked-runs, unfixed-by}
 use Rattle.fix_run.proofs.unfixed.Statement.{statement}
 use Rattle.fix_run.proofs.unfixed.Tie as tie
 
