@@ -1,23 +1,26 @@
 -- The vector in the front of wide arrays: what a touch, a store and a whole addition leave of it. Assumes nothing.
 use mathlib.Core.Path.{_≡_, refl, sym, ap, _∙_, subst}
-use mathlib.Core.Bool.{Bool, true, false}
+use mathlib.Core.Bool.{Bool, true, false, not, _&&_}
 use mathlib.Core.List.{List, _++_}
-use Prim.Native.Nat.{ℕ, _+_, _-_, _<_, _≤_}
+use Prim.Native.Nat.{ℕ, suc, _+_, _-_, _<_, _≤_}
+use native.Mathlib.Nat.{add-zero, le-refl}
+use native.Mathlib.Numerals.{add-one}
 use native.Mathlib.Omega.{arith}
 use lib.Dec.{ltb}
-use lib.ListN.{length, getD, set, take, drop, replicate, length-append, length-drop, length-replicate, getD-replicate}
+use lib.ListN.{length, getD, set, take, drop, replicate, length-append, length-drop, length-replicate}
 use lib.ListN.{take-append-drop, replicate-append-replicate, List·getD-append}
-use lib.Seq.{getD-take, set-append-left, take-set-lt, take-set-le, take-append-le, take-at, length-take-le, ext-getD}
+use lib.Seq.{getD-take, set-append-left, take-set-lt, take-set-le, take-append-le, length-take-le, ext-getD}
+use lib.Seq.{take-suc-set, append-snoc, drop-cons, set-at, set-getD}
 use lib.Ieee.{Float}
 use borrow.Author.Tests.{ltb-true, ltb-false, lt-ltb, le-ltb}
 use Rattle.doubles.specs.Num.{_⊕_, f0}
 use Rattle.doubles.specs.Limits.{places, vars, maxRows}
 use Rattle.doubles.specs.Loop.{table}
 use Rattle.doubles.specs.Lists.{_!_, _#_, over}
-use Rattle.doubles.proofs.Loops.{length-tab, getD-table, table-same}
+use Rattle.doubles.proofs.Loops.{length-tab, getD-table}
 use Rattle.sparse.specs.Scattered.{Pat, pat, Sv, sv, svOf, touched, touchedBy, putAt, Wf, Good, Fresh}
 use Rattle.sparse.proofs.Laws.{wf-room}
-use Rattle.rules.specs.Plan.{varStateOf}
+use Rattle.rules.specs.Plan.{varStateOf, bit}
 use Rattle.rules.specs.declared.VarState.the-variants.{Basic, NonBasic}
 use Rattle.rules.specs.Basis.{addEntry}
 use Rattle.basis_rows.specs.Wide.{front, narrow, narrowPat, touchedIn, cellIn}
@@ -59,26 +62,18 @@ module _ (n : ℕ) (h : n ≤ places) where
     whole-long = length-replicate places x
 
     -- fresh wide arrays hold a fresh vector
-    pub front-whole : front n (replicate vars x) whole ≡ whole
+    front-whole : front n (replicate vars x) whole ≡ whole
     front-whole =
         ap (λ (t : List A). t ++ drop n whole)
         (ap (take n) (sym (replicate-append-replicate places maxRows x))
         ∙ take-append-le n whole (replicate maxRows x) (omega (arith, whole-long)))
         ∙ take-append-drop n whole
 
-    pub front-over : (l : List A) → front n (over (table n (λ _. x)) l) whole ≡ whole
-    front-over l =
-        ap (λ (t : List A). t ++ drop n whole)
-        (take-at (table n (λ _. x)) _ n (length-tab n 0 (λ _. x))
-        ∙ table-same (λ _. x) (λ j. getD whole j x) n (λ k g. sym (getD-replicate places k x x (omega arith)))
-        ∙ table-take n whole x (omega (arith, whole-long)))
-        ∙ take-append-drop n whole
-
     module _ (l : List A) (e : length (front n l whole) ≡ places) where
       taken-long : length (take n l) ≡ n
       taken-long = omega (arith, e, length-append (take n l) (drop n whole), length-drop n whole, whole-long)
 
-      pub front-within : n ≤ length l
+      front-within : n ≤ length l
       front-within = omega (arith, taken-long, ap length (take-append-drop n l), length-append (take n l) (drop n l))
 
       front-get : (c : ℕ) (d : A) → c < n → getD (front n l whole) c d ≡ getD l c d
@@ -108,26 +103,61 @@ module _ (n : ℕ) (h : n ≤ places) where
     unfolding touched
     marked b g e = ap (λ (t : Bool). touchedBy t told c) (front-get false m (w .marks-long) c false g ∙ e)
 
-    pub touch-room : c < n → getD m c false ≡ false → k < places
+    touch-room : c < n → getD m c false ≡ false → k < places
     touch-room g e = wf-room told w c (omega arith) (front-get false m (w .marks-long) c false g ∙ e)
 
-    pub touch-old : getD m c false ≡ true → told ≡ touchedIn n told c
-    touch-old e = go (ltb c n) refl
+    -- what is written behind the list doesn't count
+    stay : (x : List Bool) → narrowPat n x (set l k c) (k + 0) ≡ narrowPat n x l k
+    stay x =
+        ap (narrowPat n x (set l k c)) (add-zero k)
+        ∙ ap (λ (y : List ℕ). pat (front n x (replicate places false)) (y ++ drop k (replicate places 0)) k)
+        (take-set-le k l k c (le-refl k))
+
+    grow : k < length l → k < places
+        → front (k + 1) (set l k c) (replicate places 0) ≡ set (front k l (replicate places 0)) k c
+    grow g e =
+        let zs : List ℕ = replicate places 0 in
+        ap (λ (j : ℕ). front j (set l k c) zs) (add-one k)
+        ∙ ap (λ (y : List ℕ). y ++ drop (suc k) zs) (take-suc-set l k c g)
+        ∙ append-snoc (take k l) c (drop (suc k) zs)
+        ∙ sym (ap (λ (y : List ℕ). set (take k l ++ y) k c)
+        (drop-cons zs k 0 (omega (arith, length-replicate {A = ℕ} places 0)))
+        ∙ set-at (take k l) (getD zs k 0) (drop (suc k) zs) c k (length-take-le k l (omega arith)))
+
+    touch-old : getD m c false ≡ true → narrowPat n (set m c true) (set l k c) (k + 0) ≡ touchedIn n told c
+    touch-old e =
+        stay (set m c true)
+        ∙ ap (λ (x : List Bool). narrowPat n x l k) (ap (set m c) (sym e) ∙ set-getD m c false)
+        ∙ go (ltb c n) refl
       where
         go : (b : Bool) → ltb c n ≡ b → told ≡ elim b [ true ↦ touched told c | false ↦ told ]
         go true f = sym (marked true (ltb-true c n f) e)
         go false f = refl
 
-    pub touch-new : c < n → getD m c false ≡ false → narrowPat n (set m c true) (set l k c) (k + 1) ≡ touchedIn n told c
-    touch-new g e =
-        ap (λ (t : List Bool). pat t (set l k c) (k + 1)) (front-set false m (w .marks-long) c true g)
+    touch-new : k < length l → c < n → getD m c false ≡ false
+        → narrowPat n (set m c true) (set l k c) (k + 1) ≡ touchedIn n told c
+    touch-new f g e =
+        ap (λ (t : List Bool). pat t (front (k + 1) (set l k c) (replicate places 0)) (k + 1))
+        (front-set false m (w .marks-long) c true g)
+        ∙ ap (λ (t : List ℕ). pat (set (told .marks) c true) t (k + 1)) (grow f (touch-room g e))
         ∙ sym (marked false g e)
         ∙ sym (in-place told c g)
 
-    pub touch-past : n ≤ c → narrowPat n (set m c true) l k ≡ touchedIn n told c
+    touch-past : n ≤ c → narrowPat n (set m c true) (set l k c) (k + 0) ≡ touchedIn n told c
     touch-past g =
-        ap (λ (t : List Bool). pat t l k) (front-past false m c true g)
+        stay (set m c true)
+        ∙ ap (λ (t : List Bool). pat t (told .list) k) (front-past false m c true g)
         ∙ sym (in-past told c g)
+
+    pub touch-told : (d : ℕ) → length l ≡ vars → d ≡ bit (not (getD m c false) && ltb c n)
+        → narrowPat n (set m c true) (set l k c) (k + d) ≡ touchedIn n told c
+    touch-told d e q = rw q (go (getD m c false) (ltb c n) refl refl)
+      where
+        go : (b t : Bool) → getD m c false ≡ b → ltb c n ≡ t
+            → narrowPat n (set m c true) (set l k c) (k + bit (not b && t)) ≡ touchedIn n told c
+        go true t f g = touch-old f
+        go false true f g = touch-new (omega (arith, w .within)) (ltb-true c n g) f
+        go false false f g = touch-past (ltb-false c n g)
 
   -- ---- an addition: the cell is touched, then x is added there
 
@@ -188,21 +218,21 @@ module _ (n : ℕ) (h : n ≤ places) where
             at-past (cellIn (vs # i)) a (cell-basic (vs # i) a)
 
   -- ---- fresh arrays hold a fresh vector, and the front of wide ones over a fresh vector's is the vector that they hold
-  module _ (v₀ : List Float) (m₀ : List Bool) (l₀ : List ℕ) (r : Fresh (sv v₀ m₀ l₀ 0)) where
-    pub narrow-fresh : (m t : List Bool) → m ≡ over (table n (λ _. false)) t → Fresh (narrow n (replicate vars f0) m l₀ 0)
-    narrow-fresh m t e =
-        let b : front n m (replicate places false) ≡ replicate places false =
-        ap (λ (k : List Bool). front n k (replicate places false)) e ∙ front-over false t in
-        let d : l₀ ≡ replicate places 0 = ap (λ (s : Sv). s .pat .list) (r .fresh) in
-        record { fresh = rw (front-whole f0, b, d) }
 
-    pub narrow-out : (v w : List Float) (m a : List Bool) (l : List ℕ) (k : ℕ) → Good places (narrow n v m l k)
-        → w ≡ over (table n (λ j. v ! j)) v₀ → a ≡ over (table n (λ j. getD m j false)) m₀ → sv w a l k ≡ narrow n v m l k
-    narrow-out v w m a l k g e f =
+  pub narrow-fresh : (l : List ℕ) → Fresh (narrow n (replicate vars f0) (replicate vars false) l 0)
+  narrow-fresh l = record { fresh = rw (front-whole f0, front-whole false) }
+
+  module _ (v₀ : List Float) (m₀ : List Bool) (l₀ : List ℕ) (r : Fresh (sv v₀ m₀ l₀ 0)) where
+    pub narrow-out : (v w : List Float) (m a : List Bool) (l b : List ℕ) (k : ℕ) → Good places (narrow n v m l k)
+        → length l ≡ vars → w ≡ over (table n (λ j. v ! j)) v₀ → a ≡ over (table n (λ j. getD m j false)) m₀
+        → b ≡ over (table k (λ j. l # j)) l₀ → sv w a b k ≡ narrow n v m l k
+    narrow-out v w m a l b k g h e f d =
         let p : w ≡ front n v (replicate places f0) =
         e ∙ over-front n v v₀ _ (front-within f0 v (g .vals-long)) ∙ ap (λ (s : Sv). front n v (s .vals)) (r .fresh) in
         let q : a ≡ front n m (replicate places false) =
         f
         ∙ over-front n m m₀ false (front-within false m (g .wf .marks-long))
         ∙ ap (λ (s : Sv). front n m (s .pat .marks)) (r .fresh) in
-        rw (p, q)
+        let o : b ≡ front k l (replicate places 0) =
+        d ∙ over-front k l l₀ 0 (omega (arith, g .wf .within)) ∙ ap (λ (s : Sv). front k l (s .pat .list)) (r .fresh) in
+        rw (p, q, o)

@@ -1,5 +1,5 @@
 -- Wide arrays: a cell for each place, then cells for basic variables, whose numbers start at n. A vector is their first n
--- cells; all that stands behind them is as in a fresh vector. Assumes nothing.
+-- cells and as much of the list as counts; all that stands behind is as in a fresh vector. Assumes nothing.
 use mathlib.Core.Bool.{Bool, true, false}
 use mathlib.Core.List.{List, _++_}
 use Prim.Native.Nat.{ℕ}
@@ -15,7 +15,7 @@ abbrev pub front : {A : Type 0} → ℕ → List A → List A → List A
 front n l b = take n l ++ drop n b
 
 abbrev pub narrowPat : ℕ → List Bool → List ℕ → ℕ → Pat
-narrowPat n m l k = pat (front n m (replicate places false)) l k
+narrowPat n m l k = pat (front n m (replicate places false)) (front k l (replicate places 0)) k
 
 abbrev pub narrow : ℕ → List Float → List Bool → List ℕ → ℕ → Sv
 narrow n v m l k = svOf (front n v (replicate places f0)) (narrowPat n m l k)

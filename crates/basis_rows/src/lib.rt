@@ -1,8 +1,8 @@
 // Rows combined at the non-basic places, and the lists that the row solve starts from and is tested by.
 // From minilp 0.2.2, src/solver.rs, calc_row_coeffs, Apache-2.0, changed: the vectors are lent arrays, the row solve
 // is the caller's, and a slack has no entry of its own in the plan: its 1.0 comes last. The sums go over wide arrays,
-// which have cells for basic variables too: which of a row's variables are basic follows no pattern, so a branch on it
-// would be guessed wrong again and again.
+// which have cells for basic variables too: which of a row's variables are basic, and which are new, follows no pattern,
+// so a branch on either would be guessed wrong again and again.
 ghost use mathlib.Core.Path.{_≡_};
 ghost use mathlib.Core.Bool.{Bool, false};
 ghost use mathlib.Core.List.{List};
@@ -10,7 +10,7 @@ ghost use Prim.Native.Nat.{_<_, _≤_};
 ghost use lib.ListN.{length, getD};
 ghost use Rattle.doubles.specs.Limits.{places, vars};
 ghost use Rattle.doubles.specs.Loop.{run, table};
-ghost use Rattle.doubles.specs.Lists.{_!_, over};
+ghost use Rattle.doubles.specs.Lists.{_!_, _#_, over};
 ghost use Rattle.sparse.specs.Scattered.{sv, Wf, Good, Within, Fresh};
 ghost use Rattle.rules.specs.Parts.{rowed};
 ghost use Rattle.rules.specs.Basis.{addEntry, addTurn, addRow, combine};
@@ -27,34 +27,32 @@ fn cell_in(cell: usize) -> usize
     doubles::PLACES
 }
 
-// A place is listed at its first touch; a cell of a basic variable never is.
+// A place is listed at its first touch; a cell of a basic variable never is. What is written behind the list doesn't
+// count.
 fn touch(
     marks: &mut [bool; doubles::VARS],
-    list: &mut [usize; doubles::PLACES],
+    list: &mut [usize; doubles::VARS],
     count: usize,
     n: usize,
     c: usize,
 ) -> usize
-    requires { ⌜ (c < vars) × (n ≤ places) × Wf places (narrowPat n (now marks) (now list) count) ⌝ }
-    ensures { λ r. ⌜ narrowPat n (now (marks .exit)) (now (list .exit)) r
-        ≡ touchedIn n (narrowPat n (now (marks .entry)) (now (list .entry)) count) c ⌝ }
+    requires { ⌜ (c < vars) × (n ≤ places) × Wf places (narrowPat n (now marks) (now list) count) ×
+        (length (now list) ≡ vars) ⌝ }
+    ensures { λ r. ⌜ (narrowPat n (now (marks .exit)) (now (list .exit)) r
+        ≡ touchedIn n (narrowPat n (now (marks .entry)) (now (list .entry)) count) c) ×
+        (length (now (list .exit)) ≡ vars) ⌝ }
 {
-    if marks[c] {
-        return count;
-    }
+    let new = cells::bit(!marks[c] & (c < n));
     marks[c] = true;
-    if c < n {
-        list[count] = c;
-        return count + 1;
-    }
-    count
+    list[count] = c;
+    count + new
 }
 
 // x for the variable v, added at its place; a basic variable has none.
 fn add_entry(
     values: &mut [f64; doubles::VARS],
     marks: &mut [bool; doubles::VARS],
-    list: &mut [usize; doubles::PLACES],
+    list: &mut [usize; doubles::VARS],
     count: usize,
     n: usize,
     var_states: &[usize],
@@ -62,9 +60,10 @@ fn add_entry(
     x: f64,
 ) -> usize
     requires { ⌜ Good places (narrow n (now values) (now marks) (now list) count) × (n ≤ places) ×
-        (v < length (now «var_states»)) ⌝ }
-    ensures { λ r. ⌜ narrow n (now (values .exit)) (now (marks .exit)) (now (list .exit)) r ≡ addEntry n
-        (now («var_states» .entry)) v x (narrow n (now (values .entry)) (now (marks .entry)) (now (list .entry)) count) ⌝ }
+        (length (now list) ≡ vars) × (v < length (now «var_states»)) ⌝ }
+    ensures { λ r. ⌜ (narrow n (now (values .exit)) (now (marks .exit)) (now (list .exit)) r ≡ addEntry n
+        (now («var_states» .entry)) v x (narrow n (now (values .entry)) (now (marks .entry)) (now (list .entry)) count)) ×
+        (length (now (list .exit)) ≡ vars) ⌝ }
 {
     let c = cell_in(var_states[v]);
     let k = touch(marks, list, count, n, c);
@@ -76,7 +75,7 @@ fn add_entry(
 fn add_entries(
     values: &mut [f64; doubles::VARS],
     marks: &mut [bool; doubles::VARS],
-    list: &mut [usize; doubles::PLACES],
+    list: &mut [usize; doubles::VARS],
     count: usize,
     n: usize,
     var_states: &[usize],
@@ -84,12 +83,14 @@ fn add_entries(
     coeffs: &[f64],
     y: f64,
 ) -> usize
-    requires { ⌜ Good places (narrow n (now values) (now marks) (now list) count) × (n ≤ places) ⌝ }
+    requires { ⌜ Good places (narrow n (now values) (now marks) (now list) count) × (n ≤ places) ×
+        (length (now list) ≡ vars) ⌝ }
     requires { ⌜ (length (now cols) ≤ length (now coeffs)) × Within (length (now «var_states»)) (length (now cols))
         (now cols) ⌝ }
-    ensures { λ r. ⌜ narrow n (now (values .exit)) (now (marks .exit)) (now (list .exit)) r ≡ run
+    ensures { λ r. ⌜ (narrow n (now (values .exit)) (now (marks .exit)) (now (list .exit)) r ≡ run
         (addTurn n (now («var_states» .entry)) (now (cols .entry)) (now (coeffs .entry)) y) (length (now (cols .entry)))
-        (narrow n (now (values .entry)) (now (marks .entry)) (now (list .entry)) count) ⌝ }
+        (narrow n (now (values .entry)) (now (marks .entry)) (now (list .entry)) count)) ×
+        (length (now (list .exit)) ≡ vars) ⌝ }
 {
     let mut c = count;
     let mut k = 0;
@@ -105,7 +106,7 @@ fn add_entries(
 fn add_row(
     values: &mut [f64; doubles::VARS],
     marks: &mut [bool; doubles::VARS],
-    list: &mut [usize; doubles::PLACES],
+    list: &mut [usize; doubles::VARS],
     count: usize,
     n: usize,
     var_states: &[usize],
@@ -116,11 +117,13 @@ fn add_row(
     r: usize,
     y: f64,
 ) -> usize
-    requires { ⌜ Good places (narrow n (now values) (now marks) (now list) count) × (n ≤ places) ⌝ }
+    requires { ⌜ Good places (narrow n (now values) (now marks) (now list) count) × (n ≤ places) ×
+        (length (now list) ≡ vars) ⌝ }
     requires { ⌜ RowLent (rowed n (now starts) (now cols) (now coeffs) (now kept)) (length (now «var_states»)) r ⌝ }
-    ensures { λ c. ⌜ narrow n (now (values .exit)) (now (marks .exit)) (now (list .exit)) c ≡ addRow
+    ensures { λ c. ⌜ (narrow n (now (values .exit)) (now (marks .exit)) (now (list .exit)) c ≡ addRow
         (rowed n (now (starts .entry)) (now (cols .entry)) (now (coeffs .entry)) (now (kept .entry)))
-        (now («var_states» .entry)) r y (narrow n (now (values .entry)) (now (marks .entry)) (now (list .entry)) count) ⌝ }
+        (now («var_states» .entry)) r y (narrow n (now (values .entry)) (now (marks .entry)) (now (list .entry)) count)) ×
+        (length (now (list .exit)) ≡ vars) ⌝ }
 {
     let i = kept[r];
     let row_cols = plan::row_cols(starts, cols, i);
@@ -143,7 +146,7 @@ fn add_row(
 fn combine_wide(
     values: &mut [f64; doubles::VARS],
     marks: &mut [bool; doubles::VARS],
-    list: &mut [usize; doubles::PLACES],
+    list: &mut [usize; doubles::VARS],
     from: &[f64; doubles::PLACES],
     from_list: &[usize; doubles::PLACES],
     from_count: usize,
@@ -154,12 +157,14 @@ fn combine_wide(
     coeffs: &[f64],
     kept: &[usize],
 ) -> usize
-    requires { ⌜ Fresh (narrow n (now values) (now marks) (now list) 0) × (length (now kept) ≤ places) ×
-        («from_count» ≤ places) × Within (length (now kept)) «from_count» (now «from_list») ⌝ }
+    requires { ⌜ Fresh (narrow n (now values) (now marks) (now list) 0) × (length (now list) ≡ vars) ×
+        (length (now kept) ≤ places) × («from_count» ≤ places) × Within (length (now kept)) «from_count»
+        (now «from_list») ⌝ }
     requires { ⌜ RowsLent (rowed n (now starts) (now cols) (now coeffs) (now kept)) (length (now «var_states»)) ⌝ }
     ensures { λ c. ⌜ ((m : List Bool) → narrow n (now (values .exit)) (now (marks .exit)) (now (list .exit)) c ≡ combine
         (rowed n (now (starts .entry)) (now (cols .entry)) (now (coeffs .entry)) (now (kept .entry)))
-        (now («var_states» .entry)) (sv (now (from .entry)) m (now («from_list» .entry)) «from_count»)) ⌝ }
+        (now («var_states» .entry)) (sv (now (from .entry)) m (now («from_list» .entry)) «from_count»)) ×
+        (length (now (list .exit)) ≡ vars) ⌝ }
 {
     let mut c = 0;
     let mut k = 0;
@@ -184,18 +189,6 @@ fn combine_wide(
     c
 }
 
-// The first n cells are unmarked: with basic variables' cells marked no row is held up by a first touch of theirs.
-fn unmark(n: usize, marks: &mut [bool; doubles::VARS])
-    requires { ⌜ (n ≤ places) × (length (now marks) ≡ vars) ⌝ }
-    ensures { λ _. ⌜ now (marks .exit) ≡ over (table n (λ _. false)) (now (marks .entry)) ⌝ }
-{
-    let mut j = 0;
-    while j < n {
-        marks[j] = false;
-        j += 1;
-    }
-}
-
 // The first n cells of wide arrays over the front of a vector's own.
 fn copy_front(
     n: usize,
@@ -212,6 +205,18 @@ fn copy_front(
     while j < n {
         values[j] = from[j];
         marks[j] = from_marks[j];
+        j += 1;
+    }
+}
+
+// And the list.
+fn copy_list(count: usize, from: &[usize; doubles::VARS], list: &mut [usize; doubles::PLACES])
+    requires { ⌜ (count ≤ places) × (length (now list) ≡ places) ⌝ }
+    ensures { λ _. ⌜ now (list .exit) ≡ over (table count (λ j. now (from .entry) # j)) (now (list .entry)) ⌝ }
+{
+    let mut j = 0;
+    while j < count {
+        list[j] = from[j];
         j += 1;
     }
 }
@@ -239,12 +244,12 @@ pub fn combine(
         (now («var_states» .entry)) (sv (now (from .entry)) m (now («from_list» .entry)) «from_count»)) ⌝ }
 {
     let mut wide = [0.0; doubles::VARS];
-    let mut wide_marks = [true; doubles::VARS];
-    unmark(n, &mut wide_marks);
+    let mut wide_marks = [false; doubles::VARS];
+    let mut wide_list = [0usize; doubles::VARS];
     let c = combine_wide(
         &mut wide,
         &mut wide_marks,
-        list,
+        &mut wide_list,
         from,
         from_list,
         from_count,
@@ -256,5 +261,6 @@ pub fn combine(
         kept,
     );
     copy_front(n, &wide, &wide_marks, values, marks);
+    copy_list(c, &wide_list, list);
     c
 }

@@ -94,7 +94,7 @@ pub fn pack_flags(f: rules::NonBasicVarState) -> usize
     at_min + 2 * at_max + 4 * fixed
 }
 
-fn bit(b: bool) -> usize
+pub fn bit(b: bool) -> usize
     ensures { λ r. ⌜ (r ≡ bit b) × (r < 2) ⌝ }
 {
     if b {

@@ -3,7 +3,7 @@ use mathlib.Core.Path.{_≡_, refl, sym, subst}
 use Prim.Native.Nat.{_-_, _≤_}
 use native.Mathlib.Omega.{arith}
 use lib.ListN.{length}
-use Rattle.doubles.specs.Limits.{places}
+use Rattle.doubles.specs.Limits.{places, vars}
 use Rattle.doubles.specs.Loop.{run}
 use Rattle.doubles.proofs.Loops.{next, done}
 use Rattle.sparse.specs.Scattered.{Good}
@@ -15,7 +15,7 @@ use Rattle.basis_rows.proofs.add_entries.Tie as tie
 
 abbrev Inv-loop : tie.InvT-loop
 Inv-loop values₀ marks₀ list₀ count n var-states cols coeffs y c₀ k₀ values marks list c k =
-    (k ≤ length cols) × (narrow n values marks list c ≡ run (addTurn n var-states cols coeffs y) k (narrow n values₀ marks₀ list₀ count))
+    (k ≤ length cols) × (narrow n values marks list c ≡ run (addTurn n var-states cols coeffs y) k (narrow n values₀ marks₀ list₀ count)) × (length list ≡ vars)
 
 abbrev μ-loop : tie.MeasureT-loop
 μ-loop values₀ marks₀ list₀ count n var-states cols coeffs y c₀ k₀ values marks list c k = length cols - k
@@ -31,7 +31,7 @@ ok a =
 
 loop-holds : tie.Need-loop-holds Inv-loop μ-loop
 unfolding run
-loop-holds c = (omega arith, refl)
+loop-holds c = let s : tie.Start Inv-loop μ-loop = search in (omega arith, refl, s .pre .0 .2)
 
 mul-v : tie.Need-mul-v Inv-loop μ-loop
 mul-v c = omega arith
@@ -49,7 +49,7 @@ add-entry-requires : tie.Need-add-entry-requires Inv-loop μ-loop
 add-entry-requires c κs =
     let t : tie.In-loop Inv-loop μ-loop = search in
     let s = entry (t .before) in
-    (ok (t .before), s .pre .0 .1, s .pre .1 .1 .inside _ (t .loop-test .taken))
+    (ok (t .before), s .pre .0 .1, t .before .loop .inv .2, s .pre .1 .1 .inside _ (t .loop-test .taken))
 
 add-k : tie.Need-add-k Inv-loop μ-loop
 add-k c = omega arith
@@ -61,10 +61,11 @@ loop-again : tie.Need-loop-again Inv-loop μ-loop
 loop-again c =
     let t : tie.In-loop Inv-loop μ-loop = search in
     let d : tie.After-add-entry Inv-loop μ-loop = search in
-    (omega arith, next _ _ (t .before .loop .k) (t .before .loop .inv .1) (d .add-entry .ensures))
+    let e = d .add-entry .ensures in
+    (omega arith, next _ _ (t .before .loop .k) (t .before .loop .inv .1) (e .0), e .1)
 
 returns : tie.Need-returns Inv-loop μ-loop
-returns c = done _ _ _ _ (c .before .loop .inv .0) (c .loop-test .left) (c .before .loop .inv .1)
+returns c = let i = c .before .loop .inv in (done _ _ _ _ (i .0) (c .loop-test .left) (i .1), i .2)
 
 pub add-entries-spec : {M : Type 1} → statement M
 add-entries-spec =

@@ -26,7 +26,7 @@ touch-requires : tie.Need-touch-requires
 touch-requires c κs =
     let s : tie.Start = search in
     let d : tie.After-cell-in = search in
-    (within d, s .pre .1, s .pre .0 .wf)
+    (within d, s .pre .1, s .pre .0 .wf, s .pre .2)
 
 mul-values : tie.Need-mul-values
 mul-values c = let d : tie.After-cell-in = search in omega (arith, within d)
@@ -45,8 +45,10 @@ returns c =
     let s : tie.Start = search in
     let d : tie.After-cell-in = search in
     let t : tie.After-touch = search in
+    let e =
     entry-added _ (s .pre .1) (s .args .var-states .now) (s .args .v) (s .args .x) (s .args .values .now) _ _ _
-    (s .pre .0) _ _ (d .cell-in .ensures) (t .touch .ensures)
+    (s .pre .0) _ _ (d .cell-in .ensures) (t .touch .ensures .0) in
+    (e, t .touch .ensures .1)
 
 pub add-entry-spec : {M : Type 1} → statement M
 add-entry-spec =

@@ -39,7 +39,7 @@ add-entry-requires c κs =
     let d : tie.After-add-entries = search in
     let cols = a .row-cols .result .now in
     let g = good-adding _ (s .pre .0 .1) _ cols (b .row-coeffs .result .now) (s .args .y) _ (s .pre .0 .0) (length cols) in
-    (subst (Good _) (sym (d .add-entries .ensures)) g, s .pre .0 .1, s .pre .1 .slack)
+    (subst (Good _) (sym (d .add-entries .ensures .0)) g, s .pre .0 .1, d .add-entries .ensures .1, s .pre .1 .slack)
 
 returns : tie.Need-returns
 unfolding addRow
@@ -47,7 +47,8 @@ returns c =
     let a : tie.After-row-cols = search in
     let b : tie.After-row-coeffs = search in
     let d : tie.After-add-entries = search in
-    rw (c .add-entry .ensures, d .add-entries .ensures, a .row-cols .ensures, b .row-coeffs .ensures)
+    let e = c .add-entry .ensures in
+    (rw (e .0, d .add-entries .ensures .0, a .row-cols .ensures, b .row-coeffs .ensures), e .1)
 
 pub add-row-spec : {M : Type 1} → statement M
 add-row-spec =

@@ -4,7 +4,7 @@ use mathlib.Core.List.{[]}
 use Prim.Native.Nat.{_-_, _<_, _≤_}
 use native.Mathlib.Omega.{arith}
 use lib.ListN.{length, getD}
-use Rattle.doubles.specs.Limits.{places}
+use Rattle.doubles.specs.Limits.{places, vars}
 use Rattle.doubles.specs.Loop.{run}
 use Rattle.doubles.proofs.Loops.{next, done}
 use Rattle.sparse.specs.Scattered.{sv, blank, listed, listedVal, Good}
@@ -17,7 +17,7 @@ use Rattle.basis_rows.proofs.combine_wide.Tie as tie
 
 abbrev Inv-loop : tie.InvT-loop
 Inv-loop values₀ marks₀ list₀ from from-list from-count n var-states starts cols coeffs kept c₀ k₀ values marks list c k =
-    (k ≤ from-count) × (narrow n values marks list c ≡ run (λ k s. addRow (rowed n starts cols coeffs kept) var-states (listed (sv from [] from-list from-count) k) (listedVal (sv from [] from-list from-count) k) s) k blank)
+    (k ≤ from-count) × (narrow n values marks list c ≡ run (λ k s. addRow (rowed n starts cols coeffs kept) var-states (listed (sv from [] from-list from-count) k) (listedVal (sv from [] from-list from-count) k) s) k blank) × (length list ≡ vars)
 
 abbrev μ-loop : tie.MeasureT-loop
 μ-loop values₀ marks₀ list₀ from from-list from-count n var-states starts cols coeffs kept c₀ k₀ values marks list c k = from-count - k
@@ -35,11 +35,11 @@ ok a =
 
 -- in a turn the listed place is a kept row
 place : (t : tie.In-loop Inv-loop μ-loop) → getD (entry (t .before) .args .from-list .now) (t .before .loop .k) 0 < length (entry (t .before) .args .kept .now)
-place t = entry (t .before) .pre .0 .3 .inside (t .before .loop .k) (t .loop-test .taken)
+place t = entry (t .before) .pre .0 .4 .inside (t .before .loop .k) (t .loop-test .taken)
 
 loop-holds : tie.Need-loop-holds Inv-loop μ-loop
 unfolding run
-loop-holds c = let s : tie.Start Inv-loop μ-loop = search in (omega arith, s .pre .0 .0 .fresh)
+loop-holds c = let s : tie.Start Inv-loop μ-loop = search in (omega arith, s .pre .0 .0 .fresh, s .pre .0 .1)
 
 mul-r : tie.Need-mul-r Inv-loop μ-loop
 mul-r c = omega arith
@@ -57,7 +57,7 @@ add-row-requires : tie.Need-add-row-requires Inv-loop μ-loop
 add-row-requires c κs =
     let t : tie.In-loop Inv-loop μ-loop = search in
     let s = entry (t .before) in
-    ((ok (t .before), s .pre .1 .columns), s .pre .1 .row _ (place t))
+    ((ok (t .before), s .pre .1 .columns, t .before .loop .inv .2), s .pre .1 .row _ (place t))
 
 add-k : tie.Need-add-k Inv-loop μ-loop
 add-k c = omega arith
@@ -69,11 +69,12 @@ loop-again : tie.Need-loop-again Inv-loop μ-loop
 loop-again c =
     let t : tie.In-loop Inv-loop μ-loop = search in
     let d : tie.After-add-row Inv-loop μ-loop = search in
-    (omega arith, next _ _ (t .before .loop .k) (t .before .loop .inv .1) (d .add-row .ensures))
+    let e = d .add-row .ensures in
+    (omega arith, next _ _ (t .before .loop .k) (t .before .loop .inv .1) (e .0), e .1)
 
 returns : tie.Need-returns Inv-loop μ-loop
 unfolding combine
-returns c = λ _. done _ _ _ _ (c .before .loop .inv .0) (c .loop-test .left) (c .before .loop .inv .1)
+returns c = let i = c .before .loop .inv in (λ _. done _ _ _ _ (i .0) (c .loop-test .left) (i .1), i .2)
 
 pub combine-wide-spec : {M : Type 1} → statement M
 combine-wide-spec =

@@ -1,59 +1,46 @@
--- `basis_rows::touch` meets its contract: by the mark, then by whether the cell is a place. Assumes nothing.
+-- `basis_rows::touch` meets its contract: by the mark and by whether the cell is a place. Assumes nothing.
 use native.Mathlib.Omega.{arith}
 use borrow.Author.Needs.{needs}
-use Rattle.basis_rows.proofs.Wide.{touch-room, touch-old, touch-new, touch-past}
+use lib.ListN.{length-set}
+use Rattle.basis_rows.proofs.Wide.{touch-told}
 use Rattle.basis_rows.proofs.touch.Statement.{statement}
 use Rattle.basis_rows.proofs.touch.Tie as tie
 
-element-copy-out-if1 : tie.Need-element-copy-out-if1
-element-copy-out-if1 c = search needs
+element-copy-out-bit : tie.Need-element-copy-out-bit
+element-copy-out-bit c = search needs
 
-returns : tie.Need-returns
-returns c = let s : tie.Start = search in touch-old _ (s .pre .1) _ _ _ _ (s .pre .2) (c .if1 .taken)
+bit-requires : tie.Need-bit-requires
+bit-requires c κs = search needs
 
 element-write-marks : tie.Need-element-write-marks
 element-write-marks c = search needs
 
 mul-list : tie.Need-mul-list
-mul-list c =
-    let s : tie.Start = search in
-    let e : tie.Else1 = search in
-    let t : tie.Then2 = search in
-    omega (arith, touch-room _ (s .pre .1) _ _ _ _ (s .pre .2) (t .if2 .taken) (e .if1 .left))
+mul-list c = let s : tie.Start = search in omega (arith, s .pre .2 .within)
 
 element-write-list : tie.Need-element-write-list
-element-write-list c =
-    let s : tie.Start = search in
-    let e : tie.Else1 = search in
-    let t : tie.Then2 = search in
-    touch-room _ (s .pre .1) _ _ _ _ (s .pre .2) (t .if2 .taken) (e .if1 .left)
+element-write-list c = let s : tie.Start = search in omega (arith, s .pre .2 .within)
 
 add-result : tie.Need-add-result
 add-result c =
     let s : tie.Start = search in
-    let e : tie.Else1 = search in
-    let t : tie.Then2 = search in
-    omega (arith, touch-room _ (s .pre .1) _ _ _ _ (s .pre .2) (t .if2 .taken) (e .if1 .left))
+    let b : tie.After-bit = search in
+    omega (arith, s .pre .2 .within, b .bit .ensures .1)
 
-returns-2 : tie.Need-returns-2
-returns-2 c =
+returns : tie.Need-returns
+returns c =
     let s : tie.Start = search in
-    let e : tie.Else1 = search in
-    let t : tie.Then2 = search in
-    touch-new _ (s .pre .1) _ _ _ _ (s .pre .2) (t .if2 .taken) (e .if1 .left)
-
-returns-3 : tie.Need-returns-3
-returns-3 c = let s : tie.Start = search in touch-past _ (s .pre .1) _ _ _ _ (s .pre .2) (c .if2 .left)
+    let b : tie.After-bit = search in
+    (touch-told _ (s .pre .1) _ _ _ _ (s .pre .2) _ (s .pre .3) (b .bit .ensures .0), simp length-set (s .pre .3))
 
 pub touch-spec : {M : Type 1} → statement M
 touch-spec =
     tie.close
     (tie.spec
-    element-copy-out-if1
-    returns
+    element-copy-out-bit
+    bit-requires
     element-write-marks
     mul-list
     element-write-list
     add-result
-    returns-2
-    returns-3)
+    returns)
