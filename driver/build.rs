@@ -1,4 +1,4 @@
-//! Links the proved library, which `rt staticlib tevalumi` writes, or the one in the folder that `TEVALUMI_LIB_DIR` names.
+//! Links the proved library, which `make library` writes, or the one in the folder that `TEVALUMI_LIB_DIR` names.
 use std::env;
 
 fn main() {
