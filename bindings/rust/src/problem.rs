@@ -7,8 +7,7 @@ use std::fmt;
 
 use crate::raw::{
     fix_into, limits, ops, reprice_into, sections, solve_any_into, solve_into, unfix_into, Answer,
-    Place, PlanRef, Status, Way,
-    Workspace,
+    Place, PlanRef, Status, Way, Workspace,
 };
 
 /// An enum indicating whether to minimize or maximize objective function.

@@ -143,7 +143,10 @@ fn the_raw_calls() {
     let any = solve_any_into(&problem.plan(), &mut work, &mut values);
     assert_eq!((any.way, any.costless_steps), (Way::Repriced, 1));
     assert_eq!((any.answer.status, any.answer.steps), (Status::Optimal, 1));
-    assert_eq!((values, any.answer.objective), ([5.0, 0.0, -3.0, 0.0], -5.0));
+    assert_eq!(
+        (values, any.answer.objective),
+        ([5.0, 0.0, -3.0, 0.0], -5.0)
+    );
     // Not even one step: the run with costs 0 spends the budget.
     let any = solve_any_into(&plan(0, 5.0, -1.0).plan(), &mut work, &mut values);
     assert_eq!((any.way, any.costless_steps), (Way::Halted, 0));

@@ -1,8 +1,8 @@
 //! Hands a plan to the library and keeps what it answers.
 
 use tevalumi::raw::{
-    fix_into, limits, sections, solve_any_lent, solve_lent, Answer, PlanRef, Status, Way, Workspace,
-    WorkspaceMut,
+    fix_into, limits, sections, solve_any_lent, solve_lent, Answer, PlanRef, Status, Way,
+    Workspace, WorkspaceMut,
 };
 
 use super::plan::Plan;

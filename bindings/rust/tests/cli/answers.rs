@@ -234,7 +234,11 @@ air       900  <=         900      0           2  at upper
 fn refused(words: &[&str], file: &[u8], wanted: &str) {
     let told = run(words, file);
     assert_eq!(told.exit, 1, "{}", told.out);
-    assert!(told.out.contains(&format!("\nstatus     {wanted}")), "{}", told.out);
+    assert!(
+        told.out.contains(&format!("\nstatus     {wanted}")),
+        "{}",
+        told.out
+    );
     assert!(!told.out.contains("objective"), "{}", told.out);
 }
 
@@ -245,11 +249,26 @@ fn refusals() {
     let column = " x c 1 r 1\n";
     let many: String = (0..129).map(|j| format!(" x{j} c 1 r 1\n")).collect();
     for (file, wanted) in [
-        (mps(row, &many, "", ""), "1, refused: 129 columns are more than 128."),
-        (mps(row, " x c 1e400 r 1\n", "", ""), "2, refused: the cost of column x is inf (line 6)."),
-        (mps(row, column, " RHS r nan\n", ""), "2, refused: the right side of row r is NaN (line 8)."),
-        (mps(row, " x c 1 r inf\n", "", ""), "2, refused: the coefficient of column x in row r is inf (line 6)."),
-        (mps(row, column, "", " LO B x 1e99\n"), "2, refused: the lower bound of column x is inf (line 9)."),
+        (
+            mps(row, &many, "", ""),
+            "1, refused: 129 columns are more than 128.",
+        ),
+        (
+            mps(row, " x c 1e400 r 1\n", "", ""),
+            "2, refused: the cost of column x is inf (line 6).",
+        ),
+        (
+            mps(row, column, " RHS r nan\n", ""),
+            "2, refused: the right side of row r is NaN (line 8).",
+        ),
+        (
+            mps(row, " x c 1 r inf\n", "", ""),
+            "2, refused: the coefficient of column x in row r is inf (line 6).",
+        ),
+        (
+            mps(row, column, "", " LO B x 1e99\n"),
+            "2, refused: the lower bound of column x is inf (line 9).",
+        ),
         (
             mps(row, column, "", " LO B x 3\n UP B x 2\n"),
             "4, refused: column x has the lower bound 3 above the upper bound 2.",
@@ -292,23 +311,43 @@ fn any_start() {
     let rows = " G two\n L five\n";
     let columns = " x c -1 two 1\n x five 1\n y c 1 two 1\n";
     let file = mps(rows, columns, " RHS two 2 five 5\n", "");
-    refused(&["solve", "--plain", "t.mps"], &file, "7, refused: row two is broken at the start (0 >= 2)");
+    refused(
+        &["solve", "--plain", "t.mps"],
+        &file,
+        "7, refused: row two is broken at the start (0 >= 2)",
+    );
     let told = run(&["solve", "t.mps"], &file);
     let wanted = "objective  -5\nsteps      1, after 1 with costs 0\n";
     assert!(told.out.contains(wanted), "{}", told.out);
     assert_eq!(told.exit, 0);
     let told = run(&["solve", "--json", "t.mps"], &file);
-    assert!(told.out.contains(",\"objective\":-5.0,\"steps\":1,\"costless_steps\":1,"), "{}", told.out);
+    assert!(
+        told.out
+            .contains(",\"objective\":-5.0,\"steps\":1,\"costless_steps\":1,"),
+        "{}",
+        told.out
+    );
     let told = run(&["audit", "t.mps"], &file);
     assert!(told.out.contains("\ngap        0.0\n"), "{}", told.out);
     // Without the last row it has no end, and with x <= 1 there is none: the run with costs 0 says so.
-    let told = run(&["solve", "t.mps"], &mps(" G two\n", " x c -1 two 1\n", " RHS two 2\n", ""));
-    assert!(told.out.contains("\nstatus     20, Unbounded: "), "{}", told.out);
+    let told = run(
+        &["solve", "t.mps"],
+        &mps(" G two\n", " x c -1 two 1\n", " RHS two 2\n", ""),
+    );
+    assert!(
+        told.out.contains("\nstatus     20, Unbounded: "),
+        "{}",
+        told.out
+    );
     assert_eq!(told.exit, 3);
     let columns = " x c -1 two 1\n x one 1\n";
     let file = mps(" G two\n L one\n", columns, " RHS two 2 one 1\n", "");
     let told = run(&["solve", "t.mps"], &file);
-    assert!(told.out.contains("\nstatus     26, Infeasible: "), "{}", told.out);
+    assert!(
+        told.out.contains("\nstatus     26, Infeasible: "),
+        "{}",
+        told.out
+    );
     assert_eq!(told.exit, 3);
 }
 
