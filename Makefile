@@ -23,7 +23,7 @@ tevalumi: target/staticlib/libtevalumi.a
 # The proved library. What it needs is proved again only where a crate has changed.
 .PHONY: library
 library: target/staticlib/libtevalumi.a
-target/staticlib/libtevalumi.a: $(shell find crates crates.txt) ci/library
+target/staticlib/libtevalumi.a: $(shell find crates crates.txt -name out -prune -o -print) ci/library
 	ci/library
 
 # The shared library, with the calls of include/tevalumi.h and no others; and the one for this machine's Python.

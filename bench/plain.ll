@@ -4,12 +4,8 @@
 ;         r += row[j] * amounts[j];
 ;         j += 1;
 ;     }
-define internal noundef i64 @"sheet_terms::activity"(ptr noundef %row, ptr noundef %amounts) #0 {
+define internal noundef i64 @"sheet_terms::activity"(ptr noundef %coefs, i64 noundef %len, ptr noundef %xs, i64 noundef %xs.len) #0 {
 start:
-  %coefs = load ptr, ptr %row, align 8
-  %len.at = getelementptr i8, ptr %row, i64 8
-  %len = load i64, ptr %len.at, align 8
-  %xs = load ptr, ptr %amounts, align 8
   br label %test
 
 test:

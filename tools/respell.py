@@ -16,6 +16,7 @@ DECL = re.compile(r"^[ \t]*(?:(?:abbrev|unfoldable|pub|private|ruleset|irreducib
 MADE = re.compile(r"^[ \t]*(?:(?:abbrev|pub) )*([^\s(){}.;,:@\"«»`]+) :\s+tie\.", re.M)
 # A name that would meet another in some file gets this spelling.
 OTHER = {
+    "C-still": "cost_still",
     "at-least": "at_least_holds",
     "blockSize": "size_of_block",
     "colCoeffs": "column_coeffs",
@@ -40,7 +41,7 @@ def snake(name):
     for p in name.split("-"):
         p = re.sub(r"(?<=[a-z0-9])(?=[A-Z])", "_", p)
         p = re.sub(r"(?<=[A-Z])(?=[A-Z][a-z])", "_", p)
-        parts.append(p.lower() if re.search("[a-z]", p) or len(parts) else p)
+        parts.append(p.lower())
     return "_".join(parts)
 
 
@@ -68,7 +69,7 @@ def table():
         text = read(p)
         made = set(MADE.findall(text)) | {"invariant-loop", "decreases-loop"} if p.endswith("/Proof.antt") else set()
         for n in DECL.findall(text):
-            if n in made or not re.match(r"[a-z]", n) or "◌" in n or not re.fullmatch(r"[\w'-]+", n):
+            if n in made or not re.match(r"[a-z]|[A-Z]\d?-", n) or "◌" in n or not re.fullmatch(r"[\w'-]+", n):
                 continue
             if p.endswith("/Proof.antt") and n.endswith("-spec"):
                 continue

@@ -11,27 +11,12 @@ pub enum Side {
     Plain,
 }
 
-/// A slice, as the library's functions hand it to each other.
-#[repr(C)]
-struct Slice {
-    cells: *const i64,
-    len: usize,
-}
-
-impl Slice {
-    fn of(cells: &[i64]) -> Slice {
-        Slice {
-            cells: cells.as_ptr(),
-            len: cells.len(),
-        }
-    }
-}
-
-/// A side's two calls: `sheet_terms::activity`, and `tevalumi_open` as in include/tevalumi.h.
+/// A side's two calls: `sheet_terms::activity`, which has a slice as its place and its length, and
+/// `tevalumi_open` as in include/tevalumi.h.
 macro_rules! side {
     ($activity:ident, $open:ident) => {
         extern "C" {
-            fn $activity(row: &Slice, amounts: &Slice) -> i64;
+            fn $activity(row: *const i64, _: usize, amounts: *const i64, _: usize) -> i64;
             fn $open(
                 rows: usize,
                 columns: usize,
@@ -73,13 +58,13 @@ side!(library_activity, library_open);
 side!(plain_activity, plain_open);
 
 pub fn activity(side: Side, row: &[i64], amounts: &[i64]) -> i64 {
-    let call: unsafe extern "C" fn(&Slice, &Slice) -> i64 = match side {
+    let call = match side {
         Side::Library => library_activity,
         Side::Plain => plain_activity,
     };
     // SAFETY: both slices are borrowed for the call with their own lengths. What the sum asks of its
     // caller, that it is a sheet's row, holds of the rows that `sheets` makes.
-    unsafe { call(&Slice::of(row), &Slice::of(amounts)) }
+    unsafe { call(row.as_ptr(), row.len(), amounts.as_ptr(), amounts.len()) }
 }
 
 /// Opens the sheet; the answer is 01's number.

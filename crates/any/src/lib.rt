@@ -1,5 +1,7 @@
 // A solve from any start: `solve`; on 7, `solve` with costs 0, and where that is Optimal `reprice` with the plan's own
 // costs. The answer says which way it took.
+#![tactic(auto)]
+
 ghost use Rattle.std.specs.Prelude.{◌≡◌};
 ghost use Rattle.rules.specs.Parts.{plan_of};
 ghost use Rattle.rules.specs.Solve.{solve_plan};

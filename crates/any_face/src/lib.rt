@@ -1,4 +1,6 @@
 // The answer of a solve from any start, as the numbers that the face hands out.
+#![tactic(auto)]
+
 ghost use Rattle.std.specs.Prelude.{◌≡◌};
 ghost use Rattle.any_face.specs.Numbers.{any_face, any_numbers};
 
@@ -6,7 +8,7 @@ ghost use Rattle.any_face.specs.Numbers.{any_face, any_numbers};
 // which isn't 0, 2 the basis that the run with costs 0 left was priced anew. The steps of the run with costs 0, 0 where
 // there was none.
 #[repr(C)]
-#[derive(Drop)]
+#[derive(Clone, Copy)]
 pub struct TevalumiAnyAnswer {
     pub answer: face::TevalumiAnswer,
     pub way: usize,

@@ -27,7 +27,7 @@ module _ (n : ℕ) (starts cols : List ℕ) (coeffs : List Float) (kept zeros : 
     pub sums_fit : sum counts n ≤ max_entries
     sums_fit = subst (λ (l : List ℕ). sum l n ≤ max_entries) (sym counts_are) (counted_few P f zeros z.long z.zero_at)
 
-    module _ (free R : List ℕ) (X : List Float) (free-long : length free ≡ max_columns) (R-long : length R ≡ max_entries) (X-long : length X ≡ max_entries) (next : List ℕ) (g : next ≡ over (table n (sum counts)) free) where
+    module _ (free R : List ℕ) (X : List Float) (free-long : length free ≡ max_columns) (r_long : length R ≡ max_entries) (X-long : length X ≡ max_entries) (next : List ℕ) (g : next ≡ over (table n (sum counts)) free) where
       first_next : (j : ℕ) → j < n → next # j ≡ sum (counted P zeros) j
       first_next j h = ap (λ (l : List ℕ). l # j) g ∙ over_at n (sum counts) free 0 j h ∙ ap (λ (l : List ℕ). sum l j) counts_are
 
@@ -39,7 +39,7 @@ module _ (n : ℕ) (starts cols : List ℕ) (coeffs : List Float) (kept zeros : 
           record {
             cols_in = λ r h. (f.row r h).cols_in;
             coeffs_in = v.coeffs_in;
-            placing = rows_placing P f zeros z.long z.zero_at (cells next R X) first_next next_long R-long X-long v;
+            placing = rows_placing P f zeros z.long z.zero_at (cells next R X) first_next next_long r_long X-long v;
           }
 
       module _ (first laid : List ℕ) (h : laid ≡ over (table (n + 1) (sum counts)) first) (s : Cells) (i : s ≡ placed (rowed 0 starts cols coeffs kept) (cells next R X)) where
@@ -47,7 +47,7 @@ module _ (n : ℕ) (starts cols : List ℕ) (coeffs : List Float) (kept zeros : 
         unfolding placed
         all_columns =
             subst (λ (t : Cells). ByColumns P laid t.rows t.coeffs) (sym i)
-            (laid_out P f zeros z.long z.zero_at (cells next R X) first_next next_long R-long X-long laid
+            (laid_out P f zeros z.long z.zero_at (cells next R X) first_next next_long r_long X-long laid
             (λ j l. ap (λ (t : List ℕ). t # j) h ∙ over_at (n + 1) (sum counts) first 0 j (omega arith) ∙ ap (λ (t : List ℕ). sum t j) counts_are))
 
 -- the starts keep their length

@@ -2,6 +2,8 @@
 // the rows' entries placed in turn. 01 has no text for transpose: the order is that of its columns.
 // Then a variable's column on a vector. From minilp 0.2.2, src/solver.rs, calc_col_coeffs, Apache-2.0, changed:
 // the vector is lent, fresh at entry, and a slack has no entry of its own in the matrix.
+#![tactic(auto)]
+
 ghost use Rattle.std.specs.Prelude.{◌≡◌, [], ◌≤◌, ◌+◌, length};
 ghost use Rattle.doubles.specs.Limits.{max_columns, max_entries};
 ghost use Rattle.doubles.specs.Loop.{table};

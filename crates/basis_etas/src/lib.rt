@@ -1,6 +1,8 @@
 // The eta matrices' part of the column solve and of the row solve.
 // From minilp 0.2.2, src/solver.rs, EtaMatrices and BasisSolver, Apache-2.0, changed: the vector and the store are lent
 // arrays, and the vector is loaded by the caller.
+#![tactic(auto)]
+
 ghost use Rattle.std.specs.Prelude.{◌≡◌};
 ghost use Rattle.doubles.specs.Limits.{places};
 ghost use Rattle.sparse.specs.Scattered.{sv, Good, dot};

@@ -1,5 +1,7 @@
 // The factor of a basis: L and U by columns, column by column, with row pivots.
 // From minilp 0.2.2, src/lu.rs (lu_factorize), Apache-2.0, changed: columns in their order, lent arrays.
+#![tactic(auto)]
+
 ghost use Rattle.std.specs.Prelude.{◌≡◌, ◌<◌, ◌≤◌, ◌+◌, length, set};
 ghost use Rattle.doubles.specs.Limits.{max_rows};
 ghost use Rattle.sparse.specs.Scattered.{sv};

@@ -3,6 +3,8 @@
 // is the caller's, and a slack has no entry of its own in the plan: its 1.0 comes last. The sums go over wide arrays,
 // which have cells for basic variables too: which of a row's variables are basic, and which are new, follows no pattern,
 // so a branch on either would be guessed wrong again and again.
+#![tactic(auto)]
+
 ghost use Rattle.std.specs.Prelude.{◌≡◌, Bool, false, List, ◌<◌, ◌≤◌, length, get_or};
 ghost use Rattle.doubles.specs.Limits.{places, vars};
 ghost use Rattle.doubles.specs.Loop.{run, table};

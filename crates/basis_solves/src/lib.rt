@@ -2,6 +2,8 @@
 // From minilp 0.2.2, src/solver.rs, BasisSolver, calc_col_coeffs, calc_row_coeffs, update_primal_sq_norms and
 // update_dual_sq_norms, Apache-2.0, changed: the vectors are lent arrays, fresh at entry, the factor and the etas are lent arrays too, and no
 // factor stands for the identity.
+#![tactic(auto)]
+
 ghost use Rattle.std.specs.Prelude.{◌≡◌, Bool, List, [], ℕ, ◌<◌, ◌≤◌, length};
 ghost use Rattle.doubles.specs.Num.{f1};
 ghost use Rattle.doubles.specs.Limits.{places};

@@ -1,5 +1,7 @@
 // The store's room, and a new eta column, written into its unused tail. From minilp 0.2.2, src/solver.rs,
 // push_eta_matrix and EtaMatrices, Apache-2.0, changed: the store is sections of the lent arrays.
+#![tactic(auto)]
+
 ghost use Rattle.std.specs.Prelude.{◌≡◌, Bool, List, [], ◌≤◌, length, Float};
 ghost use Rattle.doubles.specs.Limits.{places, eta_columns, eta_entries};
 ghost use Rattle.doubles.specs.Lists.{◌#◌};

@@ -1,6 +1,8 @@
 // The bounds of a variable, and the cells that hold more than a number: a place, and flags.
 // From minilp 0.2.2, src/solver.rs, Apache-2.0, changed: orig_var_mins, orig_var_maxs, VarState and
 // NonBasicVarState are read from the plan's arrays and from one number each.
+#![tactic(auto)]
+
 ghost use Rattle.std.specs.Prelude.{◌≡◌, [], ◌<◌, ◌+◌, ◌^◌, length};
 ghost use Rattle.rules.specs.Plan.{slack_min, slack_max, var_min, var_max, flags_of, flags_cell, var_state_of, var_cell, bit};
 ghost use Rattle.rules.specs.Parts.{bounded};

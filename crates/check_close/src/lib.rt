@@ -1,4 +1,6 @@
 // The end of a solve: the final check, the answer, and what is written of the lent arrays outside the workspace.
+#![tactic(auto)]
+
 ghost use Rattle.std.specs.Prelude.{◌≡◌, true, false, List, [], ◌∷◌, ℕ, ◌≤◌, eqb, length, Float};
 ghost use Rattle.doubles.specs.Limits.{vars, count_cells};
 ghost use Rattle.doubles.specs.Loop.{table};

@@ -1,5 +1,7 @@
 // The values of a state, and the final check, which reads them alone. From minilp 0.2.2, src/solver.rs, get_value,
 // Apache-2.0, changed: "get_value's reference a value". The final check is ours.
+#![tactic(auto)]
+
 ghost use Rattle.std.specs.Prelude.{◌≡◌, ◌<◌, ◌≤◌, ◌+◌, length};
 ghost use Rattle.doubles.specs.Limits.{vars};
 ghost use Rattle.doubles.specs.Loop.{table};

@@ -87,6 +87,10 @@ fraction : (q k l x : ℕ) → k ≤ l → q * 1 < 2 ^ x * 2 ^ k → q * 2 ^ (l 
 fraction q k l x b h = rw (pow-add 2 l x, cut k l b) (omega (arith, mul-lt-mul_of_pos_right h (pow_pos (l - k))))
 
 four : (a b c d : Bool) → T (a && b && c && d) → T a × T b × T c × T d
+four false b c d t = elim t [ ]
+four true false c d t = elim t [ ]
+four true true false d t = elim t [ ]
+four true true true false t = elim t [ ]
 four true true true true t = (tt, tt, tt, tt)
 
 -- the digits, the lowest place and the size of a value of the format

@@ -1,4 +1,6 @@
 // The tests of a double that Rust has as methods, from comparisons, and the limits of 01.
+#![tactic(auto)]
+
 ghost use Rattle.std.specs.Prelude.{◌≡◌};
 ghost use Rattle.std.specs.Float.Ieee.{lt, is_nan};
 ghost use Rattle.doubles.specs.Num.{finite, infinite, larger, size, eps, +inf};

@@ -1,11 +1,13 @@
 // An answer as the numbers that the face hands out: an enum can't be returned by an exported call.
+#![tactic(auto)]
+
 ghost use Rattle.std.specs.Prelude.{◌≡◌};
 ghost use Rattle.sheet_rules.specs.Verdict.{verdict_numbers};
 ghost use Rattle.face.specs.Face.{tri_answer, sheet_numbers, answer, answer_numbers};
 
 // 01's number of a triangle solve, and how many places are listed afterwards.
 #[repr(C)]
-#[derive(Drop)]
+#[derive(Clone, Copy)]
 pub struct TriAnswer {
     pub status: usize,
     pub places: usize,
@@ -36,7 +38,7 @@ pub fn tri_answer(a: lu::Answer) -> TriAnswer
 
 // 01's number of a verdict, its kind (0 not a plan, 1 no floor, 2 gap, 3 none exists), and the gap.
 #[repr(C)]
-#[derive(Drop)]
+#[derive(Clone, Copy)]
 pub struct SheetVerdict {
     pub status: usize,
     pub kind: usize,
@@ -78,7 +80,7 @@ pub fn sheet_verdict(v: sheet_rules::Verdict) -> SheetVerdict
 // 01's answer of a solve. `place` says what `at` is: 0 nothing, 1 the row of an entry, whose place in that row is
 // `within`, 2 a column, 3 a row, 4 a value, 5 a kept row. `excess` is the final check's, 0.0 where it wasn't asked.
 #[repr(C)]
-#[derive(Drop)]
+#[derive(Clone, Copy)]
 pub struct TevalumiAnswer {
     pub status: usize,
     pub objective: f64,

@@ -1,5 +1,7 @@
 // Plans in a file: the public calls. They ask nothing: whatever is lent, the answer and every lent cell afterwards are
 // settled. 02, Ask 1.
+#![tactic(auto)]
+
 ghost use Rattle.sheet_rules.specs.Sheet.{plan_of};
 ghost use Rattle.file_rules.specs.Calls.{Writes, Reads};
 

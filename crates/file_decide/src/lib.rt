@@ -1,4 +1,6 @@
 // What a write refuses and what a read answers, by & alone, before anything is stored. 02, Ask 1.
+#![tactic(auto)]
+
 ghost use Rattle.std.specs.Prelude.{◌≡◌, ◌≤◌, length, take, drop};
 ghost use Rattle.doubles.specs.Limits.{max_rows, max_columns};
 ghost use Rattle.sheet_rules.specs.Sheet.{plan_of};

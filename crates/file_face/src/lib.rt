@@ -1,4 +1,6 @@
 // The answers on a file as the numbers that the face hands out.
+#![tactic(auto)]
+
 ghost use Rattle.std.specs.Prelude.{◌≡◌};
 ghost use Rattle.file_face.specs.Numbers.{written_numbers, read_numbers};
 
@@ -6,7 +8,7 @@ use file_rules::{Reading, Writing};
 
 // 0 and how many bytes the file has, or the number of the refusal.
 #[repr(C)]
-#[derive(Drop)]
+#[derive(Clone, Copy)]
 pub struct TevalumiWritten {
     pub status: usize,
     pub bytes: usize,
@@ -29,7 +31,7 @@ pub fn write_answer(w: Writing) -> TevalumiWritten
 
 // 0 and the plan's sizes, or the number of the refusal and its block.
 #[repr(C)]
-#[derive(Drop)]
+#[derive(Clone, Copy)]
 pub struct TevalumiRead {
     pub status: usize,
     pub block: usize,

@@ -1,4 +1,6 @@
 // The journal's public edit. It asks nothing: whatever is lent, the answer and every lent cell afterwards are settled.
+#![tactic(auto)]
+
 ghost use Rattle.sheet_rules.specs.Sheet.{plan_of, kept_of, sheet_of};
 ghost use Rattle.file_journal_rules.specs.Lent.{lent};
 ghost use Rattle.file_journal_rules.specs.Promises.{Keeps};

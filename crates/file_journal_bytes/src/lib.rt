@@ -1,4 +1,6 @@
 // A journal's entries in a block's bytes, and the tests of a block.
+#![tactic(auto)]
+
 ghost use Rattle.std.specs.Prelude.{◌≡◌, ◌+◌, ◌*◌, ◌≤◌, ◌<◌, length, take, drop};
 ghost use Rattle.std.proofs.lemmas.List.Edits.{sets};
 ghost use Rattle.file_rules.specs.Bytes.{value};

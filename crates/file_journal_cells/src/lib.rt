@@ -1,4 +1,6 @@
 // The cells of a feed between its pieces, and what a whole block does to them. A feed's close.
+#![tactic(auto)]
+
 ghost use Rattle.std.specs.Prelude.{◌≡◌, suc, ◌+◌, ◌≤◌, ◌<◌, leb, eqb, length, take, drop, set};
 ghost use Rattle.doubles.specs.Lists.{◌#◌};
 ghost use Rattle.file_rules.specs.Bytes.{value};

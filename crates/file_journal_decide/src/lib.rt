@@ -1,4 +1,6 @@
 // What an edit with a journal and an undo answer, by & alone: the journal's number, the sheet's, or their own.
+#![tactic(auto)]
+
 ghost use Rattle.std.specs.Prelude.{◌≡◌, ltb};
 ghost use Rattle.sheet_rules.specs.Sheet.{plan_of, kept_of, sheet_of};
 ghost use Rattle.sheet_rules.specs.Edit.{edit_refusal};

@@ -1,4 +1,6 @@
 // What an entry means on a sheet: the entry of an edit, and the refusals of a journaled edit, an undo and a fed entry.
+#![tactic(auto)]
+
 ghost use Rattle.std.specs.Prelude.{◌≡◌};
 ghost use Rattle.sheet_rules.specs.Sheet.{plan_of, kept_of, sheet_of};
 ghost use Rattle.sheet_rules.specs.Edit.{edit_refusal};

@@ -1,5 +1,7 @@
 // A feed of a journal's file in pieces, the public call. It asks nothing: whatever is lent, the answer and every lent
 // cell afterwards are settled.
+#![tactic(auto)]
+
 ghost use Rattle.sheet_rules.specs.Sheet.{plan_of, kept_of, sheet_of};
 ghost use Rattle.file_journal_rules.specs.Feed.{fed_of};
 ghost use Rattle.file_journal_rules.specs.Promises.{Feeds};

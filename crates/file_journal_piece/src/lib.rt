@@ -1,4 +1,6 @@
 // A piece of a fed journal, byte by byte (02, Ask 12).
+#![tactic(auto)]
+
 ghost use Rattle.std.specs.Prelude.{◌≡◌, ◌≤◌, ◌<◌, length};
 ghost use Rattle.doubles.specs.Lists.{◌#◌};
 ghost use Rattle.sheet_rules.specs.Sheet.{plan_of, kept_of, sheet_of};

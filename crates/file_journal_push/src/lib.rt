@@ -1,4 +1,6 @@
 // A lent journal, written: begun, an entry put behind its last one, the last one taken off.
+#![tactic(auto)]
+
 ghost use Rattle.std.specs.Prelude.{◌≡◌, ◌∷◌, ◌++◌, suc, ◌+◌, ◌*◌, ◌<◌, ◌≤◌, length};
 ghost use Rattle.file_rules.specs.Block.{size_of_block, block};
 ghost use Rattle.file_journal_rules.specs.File.{entry_bytes};

@@ -80,29 +80,29 @@ module _ (s : Sheet) (e : Edit) (kb : ℕ) (zb : ℤ) (is : edited (edited s.pla
   abbrev b : Edit
   b = edit_of kb e.row e.column zb
 
-  R-back : (i : ℕ) → i < p.rows → moved_r t b i ≡ s.kept.R ‼ i
+  r_back : (i : ℕ) → i < p.rows → moved_r t b i ≡ s.kept.R ‼ i
   unfolding applied moved over_kept moved_r
-  R-back i l =
+  r_back i l =
       ap₂ (λ (r : ℤ) (y : Plan). r +ℤ (a y i e.column *ℤ x y e.column -ℤ a q i e.column *ℤ x q e.column)) (front p.rows (moved_r s e) s.kept.R i l) is
       ∙ there_and_back (s.kept.R ‼ i) (a p i e.column *ℤ x p e.column) (a q i e.column *ℤ x q e.column)
 
-  D-moved : (j : ℕ) → j < p.cols → t.kept.D ‼ j ≡ moved_d s e j
+  d_moved : (j : ℕ) → j < p.cols → t.kept.D ‼ j ≡ moved_d s e j
   unfolding applied moved over_kept
-  D-moved j l = front p.cols (moved_d s e) s.kept.D j l
+  d_moved j l = front p.cols (moved_d s e) s.kept.D j l
 
-  R-moved : (i : ℕ) → i < p.rows → t.kept.R ‼ i ≡ moved_r s e i
+  r_moved : (i : ℕ) → i < p.rows → t.kept.R ‼ i ≡ moved_r s e i
   unfolding applied moved over_kept
-  R-moved i l = front p.rows (moved_r s e) s.kept.R i l
+  r_moved i l = front p.rows (moved_r s e) s.kept.R i l
 
-  D-back : (j : ℕ) → j < p.cols → moved_d t b j ≡ s.kept.D ‼ j
+  d_back : (j : ℕ) → j < p.cols → moved_d t b j ≡ s.kept.D ‼ j
   unfolding applied moved over_kept moved_d
-  D-back j l =
+  d_back j l =
       ap₂ (λ (r : ℤ) (y : Plan). r +ℤ (pos unit *ℤ c y j -ℤ a y e.row j *ℤ Y y e.row -ℤ (pos unit *ℤ c q j -ℤ a q e.row j *ℤ Y q e.row))) (front p.cols (moved_d s e) s.kept.D j l) is
       ∙ there_and_back (s.kept.D ‼ j) (pos unit *ℤ c p j -ℤ a p e.row j *ℤ Y p e.row) (pos unit *ℤ c q j -ℤ a q e.row j *ℤ Y q e.row)
 
-  C-back : moved_c t b ≡ s.kept.C ‼ 0
+  c_back : moved_c t b ≡ s.kept.C ‼ 0
   unfolding applied moved over_kept moved_c
-  C-back =
+  c_back =
       ap (λ (y : Plan). moved_c s e +ℤ (c y e.column *ℤ x y e.column -ℤ c q e.column *ℤ x q e.column)) is
       ∙ there_and_back (s.kept.C ‼ 0) (c p e.column *ℤ x p e.column) (c q e.column *ℤ x q e.column)
 
@@ -122,22 +122,22 @@ module _ (s : Sheet) (e : Edit) (kb : ℕ) (zb : ℤ) (is : edited (edited s.pla
   unfolding applied moved over_kept moved_broken edited
   broken_back =
       sum_there_and_back p.rows (s.kept.counts ‼ 0) (λ i. bit (broken_at p i (s.kept.R ‼ i))) (λ i. bit (broken_at q i (moved_r s e i))) (λ i. bit (broken_at (edited q b) i (moved_r t b i))) (λ i. bit (broken_at q i (t.kept.R ‼ i)))
-      (λ i l. ap₂ (λ (y : Plan) (r : ℤ). bit (broken_at y i r)) is (R-back i l))
-      (λ i l. ap (λ (r : ℤ). bit (broken_at q i r)) (R-moved i l))
+      (λ i l. ap₂ (λ (y : Plan) (r : ℤ). bit (broken_at y i r)) is (r_back i l))
+      (λ i l. ap (λ (r : ℤ). bit (broken_at q i r)) (r_moved i l))
 
   absent_back : moved_absent t b ≡ s.kept.counts ‼ 3
   unfolding applied moved over_kept moved_absent edited
   absent_back =
       sum_there_and_back p.cols (s.kept.counts ‼ 3) (λ j. bit (lacks_at p j (s.kept.D ‼ j))) (λ j. bit (lacks_at q j (moved_d s e j))) (λ j. bit (lacks_at (edited q b) j (moved_d t b j))) (λ j. bit (lacks_at q j (t.kept.D ‼ j)))
-      (λ j l. ap₂ (λ (y : Plan) (d : ℤ). bit (lacks_at y j d)) is (D-back j l))
-      (λ j l. ap (λ (d : ℤ). bit (lacks_at q j d)) (D-moved j l))
+      (λ j l. ap₂ (λ (y : Plan) (d : ℤ). bit (lacks_at y j d)) is (d_back j l))
+      (λ j l. ap (λ (d : ℤ). bit (lacks_at q j d)) (d_moved j l))
 
-  B-back : moved_b t b ≡ s.kept.B ‼ 0
+  b_back : moved_b t b ≡ s.kept.B ‼ 0
   unfolding applied moved over_kept moved_b edited
-  B-back =
+  b_back =
       ap₂ (λ (y : Plan) (w : ℤ). moved_b s e +ℤ (Y y e.row *ℤ rhs y e.row -ℤ Y q e.row *ℤ rhs q e.row) +ℤ w) is
       (sum_ext p.cols (λ j. term_at (edited q b) j (moved_d t b j) -ℤ term_at q j (t.kept.D ‼ j)) (λ j. term_at p j (s.kept.D ‼ j) -ℤ term_at q j (moved_d s e j))
-      (λ j l. ap₂ ◌-ℤ◌ (ap₂ (λ (y : Plan) (d : ℤ). term_at y j d) is (D-back j l)) (ap (term_at q j) (D-moved j l))))
+      (λ j l. ap₂ ◌-ℤ◌ (ap₂ (λ (y : Plan) (d : ℤ). term_at y j d) is (d_back j l)) (ap (term_at q j) (d_moved j l))))
       ∙ both_back (s.kept.B ‼ 0) (Y q e.row *ℤ rhs q e.row -ℤ Y p e.row *ℤ rhs p e.row) (sum p.cols (λ j. term_at q j (moved_d s e j) -ℤ term_at p j (s.kept.D ‼ j)))
       (Y p e.row *ℤ rhs p e.row -ℤ Y q e.row *ℤ rhs q e.row) (sum p.cols (λ j. term_at p j (s.kept.D ‼ j) -ℤ term_at q j (moved_d s e j)))
       (back_change (Y p e.row *ℤ rhs p e.row) (Y q e.row *ℤ rhs q e.row))
@@ -146,10 +146,10 @@ module _ (s : Sheet) (e : Edit) (kb : ℕ) (zb : ℤ) (is : edited (edited s.pla
   kept_back : Sized s → over_kept (moved t b) t.kept ≡ s.kept
   unfolding applied moved over_kept edited
   kept_back z = λ i. kept_of
-      (over_twice p.rows (moved_r t b) (moved_r s e) s.kept.R z.R-fits R-back i)
-      (over_twice p.cols (moved_d t b) (moved_d s e) s.kept.D z.D-fits D-back i)
-      (one_twice (moved_c t b) (moved_c s e) s.kept.C z.C-fits C-back i)
-      (one_twice (moved_b t b) (moved_b s e) s.kept.B z.B-fits B-back i)
+      (over_twice p.rows (moved_r t b) (moved_r s e) s.kept.R z.r_fits r_back i)
+      (over_twice p.cols (moved_d t b) (moved_d s e) s.kept.D z.d_fits d_back i)
+      (one_twice (moved_c t b) (moved_c s e) s.kept.C z.c_fits c_back i)
+      (one_twice (moved_b t b) (moved_b s e) s.kept.B z.b_fits b_back i)
       (four_twice (moved_broken t b) (moved_outside t b) (moved_wrong t b) (moved_absent t b) (moved_broken s e) (moved_outside s e) (moved_wrong s e) (moved_absent s e) s.kept.counts z.counts_fit broken_back outside_back wrong_back absent_back i)
 
   -- every cell, kept ones too, and those past what is written

@@ -99,8 +99,8 @@ module _ (es : List Entry) where
   abbrev ds : List Entry
   ds = drop (per_block * k) es
 
-  F-length : length F ≡ 512 * k
-  F-length = fulls_length k 0 es
+  f_length : length F ≡ 512 * k
+  f_length = fulls_length k 0 es
 
   ds_length : length ds ≡ c
   ds_length = omega (arith, length-drop (per_block * k) es)
@@ -219,7 +219,7 @@ module _ (j : List ℕ) (es : List Entry) (e : Entry) (h : Holds j es) (f : Fits
       let nd : ds es ++ [] ≡ ds es = append-nil (ds es) in
       let J : j ≡ F es ++ (B ++ (E ++ r)) = h.is ∙ ap (λ (x : List ℕ). x ++ r) (opens_at es z) ∙ append_assoc (F es) (B ++ E) r ∙ ap (λ (x : List ℕ). F es ++ x) (append_assoc B E r) in
       let Bl : length B ≡ 512 = block_size K (ds es) (omega (arith, ds_length es)) in
-      let bt : block_at K j ≡ B = ap (block_at K) J ∙ block_there (F es) B (E ++ r) K (F-length es) Bl in
+      let bt : block_at K j ≡ B = ap (block_at K) J ∙ block_there (F es) B (E ++ r) K (f_length es) Bl in
       let fr : front C (block_at K j) ≡ entries_bytes (ds es) =
       ap (front C) bt ∙ ap (λ (n : ℕ). front n B) (sym (ds_length es)) ∙ ap (λ (l : List Entry). front (length (ds es)) (block 11 K (inside l))) (sym nd) ∙ front_is K (ds es) []
       in
@@ -231,7 +231,7 @@ module _ (j : List ℕ) (es : List Entry) (e : Entry) (h : Holds j es) (f : Fits
         is =
             behind_none C (suc K) _ z
             ∙ ap₂ (λ (x y : List ℕ). put_block K x y) X J
-            ∙ put_at_holds (F es) B (E ++ r) K (F-length es) Bl (longer es e) (longer_size es e)
+            ∙ put_at_holds (F es) B (E ++ r) K (f_length es) Bl (longer es e) (longer_size es e)
             ∙ ap (λ (x : List ℕ). F es ++ x) (sym (append_assoc (longer es e) E r))
             ∙ sym (append_assoc (F es) (longer es e ++ E) r)
             ∙ ap (λ (x : List ℕ). x ++ r) (sym (more_at es e));
@@ -244,14 +244,14 @@ module _ (j : List ℕ) (es : List Entry) (e : Entry) (h : Holds j es) (f : Fits
       let E : List ℕ = block 255 (suc K) [] in
       let B : List ℕ = block 255 K [] in
       let J : j ≡ F es ++ (B ++ r) = h.is ∙ ap (λ (x : List ℕ). x ++ r) (ends_at es z) ∙ append_assoc (F es) B r in
-      let n : length j ≡ 512 * K + (512 + length r) = ap length J ∙ length-append (F es) (B ++ r) ∙ ap₂ (λ (x y : ℕ). x + y) (F-length es) (length-append B r ∙ ap (λ (x : ℕ). x + length r) (end_size K)) in
+      let n : length j ≡ 512 * K + (512 + length r) = ap length J ∙ length-append (F es) (B ++ r) ∙ ap₂ (λ (x y : ℕ). x + y) (f_length es) (length-append B r ∙ ap (λ (x : ℕ). x + length r) (end_size K)) in
       let long : 512 ≤ length r = omega (arith, (room_few j (length es) free).0) in
       let t : List ℕ = take 512 r in
       let u : List ℕ = drop 512 r in
       let no-ds : ds es ≡ [] = empty (ds es) (omega (arith, ds_length es)) in
       let fr : front C (block_at K j) ≡ entries_bytes (ds es) = ap (λ (x : ℕ). front x (block_at K j)) z ∙ ap entries_bytes (sym no-ds) in
       let X = inside_more (block_at K j) fr in
-      let L : length (F es ++ longer es e) ≡ 512 * suc K = omega (arith, length-append (F es) (longer es e), F-length es, longer_size es e) in
+      let L : length (F es ++ longer es e) ≡ 512 * suc K = omega (arith, length-append (F es) (longer es e), f_length es, longer_size es e) in
       record {
         fit = fit_append h.fit (more f none);
         few = few_more;
@@ -259,7 +259,7 @@ module _ (j : List ℕ) (es : List Entry) (e : Entry) (h : Holds j es) (f : Fits
         is =
             ap (λ (x : ℕ). end_behind x (suc K) (put_block K (block 11 K (suc C ∷ (front C (block_at K j) ++ entry_bytes e))) j)) z
             ∙ ap (put_block (suc K) E) (ap₂ (λ (x y : List ℕ). put_block K x y) X J
-            ∙ put_at_holds (F es) B r K (F-length es) (end_size K) (longer es e) (longer_size es e)
+            ∙ put_at_holds (F es) B r K (f_length es) (end_size K) (longer es e) (longer_size es e)
             ∙ ap (λ (x : List ℕ). F es ++ (longer es e ++ x)) (sym (take-append-drop 512 r))
             ∙ sym (append_assoc (F es) (longer es e) (t ++ u)))
             ∙ put_at_holds (F es ++ longer es e) t u (suc K) L (length-take-le 512 r long) E (end_size (suc K))
@@ -299,7 +299,7 @@ module _ (j : List ℕ) (es : List Entry) (e : Entry) (h : Holds j (es ++ (e ∷
       ∙ ap (λ (x : List ℕ). F es ++ x) (append_assoc (longer es e) (block 255 (suc K') []) h.room)
 
   last_block : block_at K' j ≡ longer es e
-  last_block = ap (block_at K') there ∙ block_there (F es) (longer es e) after K' (F-length es) (longer_size es e)
+  last_block = ap (block_at K') there ∙ block_there (F es) (longer es e) after K' (f_length es) (longer_size es e)
 
   pub last_entry : entry_at (length es) j ≡ e
   unfolding entry_at
@@ -322,7 +322,7 @@ module _ (j : List ℕ) (es : List Entry) (e : Entry) (h : Holds j (es ++ (e ∷
 
   -- the journal with another block in the last one's place
   put_last : (x : List ℕ) → length x ≡ 512 → put_block K' x j ≡ F es ++ (x ++ after)
-  put_last x q = ap (put_block K' x) there ∙ put_at_holds (F es) (longer es e) after K' (F-length es) (longer_size es e) x q
+  put_last x q = ap (put_block K' x) there ∙ put_at_holds (F es) (longer es e) after K' (f_length es) (longer_size es e) x q
 
   pub popped_holds : Holds (popped (length es) j) es
   unfolding popped shorter

@@ -53,7 +53,7 @@ pub record Split (s : Sheet) (k : ℕ) (es : List Entry) (t : Sheet) : Type 0 wh
 split : {s t : Sheet} {es : List Entry} (k : ℕ) → Replays s es t → Split s k es t
 split {s} zero g = record { between = s; front = done; back = g }
 split {s} (suc k) done = record { between = s; front = done; back = done }
-split (suc k) (next w h g) = let r = split k g in record { between = r.between; front = next w h r.front; back = r.back }
+split {s = s} (suc k) (next {n = n} w h g) = let r = split {s = edit s (forth n)} k g in record { between = r.between; front = next w h r.front; back = r.back }
 
 -- ---- one block, and the end
 taken_by : (s : Sheet) (place waits phase : ℕ) (m b : List ℕ) (end : Bool) → take size_of_block m ≡ b → says_by (leb 2 phase) phase place b ≡ 0 → eqb (b # 0) 255 ≡ end

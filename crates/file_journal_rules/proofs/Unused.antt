@@ -35,7 +35,7 @@ pub record InertColumn (p q : Plan) (j : ℕ) : Type 0 where
 
 pub record InertRow (p q : Plan) (i : ℕ) : Type 0 where
   pub a_same : (j : ℕ) → a q i j ≡ a p i j
-  pub Y-same : Y q i ≡ Y p i
+  pub y_same : Y q i ≡ Y p i
   pub rhs_same : rhs q i ≡ rhs p i
   pub wrong_same : bit (wrong_at q i) ≡ bit (wrong_at p i)
 
@@ -58,7 +58,7 @@ module _ (s : Sheet) (e f : Edit) (is : edited s.plan e ≡ edited s.plan f)
   still_d : (g : Edit) → InertRow p (edited p g) g.row → (j : ℕ) → moved_d s g j ≡ s.kept.D ‼ j +ℤ (pos unit *ℤ c (edited p g) j -ℤ pos unit *ℤ c p j)
   unfolding moved_d
   still_d g h j =
-      ap (λ (w : ℤ). s.kept.D ‼ j +ℤ (pos unit *ℤ c (edited p g) j -ℤ w -ℤ (pos unit *ℤ c p j -ℤ a p g.row j *ℤ Y p g.row))) (ap₂ ◌*ℤ◌ (h.a_same j) h.Y-same)
+      ap (λ (w : ℤ). s.kept.D ‼ j +ℤ (pos unit *ℤ c (edited p g) j -ℤ w -ℤ (pos unit *ℤ c p j -ℤ a p g.row j *ℤ Y p g.row))) (ap₂ ◌*ℤ◌ (h.a_same j) h.y_same)
       ∙ ap (λ (w : ℤ). s.kept.D ‼ j +ℤ w) (without (pos unit *ℤ c (edited p g) j) (pos unit *ℤ c p j) (a p g.row j *ℤ Y p g.row))
 
   same_d : (j : ℕ) → moved_d s e j ≡ moved_d s f j
@@ -88,7 +88,7 @@ module _ (s : Sheet) (e f : Edit) (is : edited s.plan e ≡ edited s.plan f)
   same_rhs : s.kept.B ‼ 0 +ℤ (Y (edited p e) e.row *ℤ rhs (edited p e) e.row -ℤ Y p e.row *ℤ rhs p e.row) ≡ s.kept.B ‼ 0 +ℤ (Y (edited p f) f.row *ℤ rhs (edited p f) f.row -ℤ Y p f.row *ℤ rhs p f.row)
   same_rhs = ⊎_elim
       (λ h. ap₂ (λ (y : Plan) (i : ℕ). s.kept.B ‼ 0 +ℤ (Y y i *ℤ rhs y i -ℤ Y p i *ℤ rhs p i)) is h)
-      (λ h. none (s.kept.B ‼ 0) (Y (edited p e) e.row *ℤ rhs (edited p e) e.row) (Y p e.row *ℤ rhs p e.row) (ap₂ ◌*ℤ◌ h.0.Y-same h.0.rhs_same) ∙ sym (none (s.kept.B ‼ 0) (Y (edited p f) f.row *ℤ rhs (edited p f) f.row) (Y p f.row *ℤ rhs p f.row) (ap₂ ◌*ℤ◌ h.1.Y-same h.1.rhs_same))) row
+      (λ h. none (s.kept.B ‼ 0) (Y (edited p e) e.row *ℤ rhs (edited p e) e.row) (Y p e.row *ℤ rhs p e.row) (ap₂ ◌*ℤ◌ h.0.y_same h.0.rhs_same) ∙ sym (none (s.kept.B ‼ 0) (Y (edited p f) f.row *ℤ rhs (edited p f) f.row) (Y p f.row *ℤ rhs p f.row) (ap₂ ◌*ℤ◌ h.1.y_same h.1.rhs_same))) row
 
   same_b : moved_b s e ≡ moved_b s f
   unfolding moved_b
@@ -122,15 +122,15 @@ module _ (s : Sheet) (i j : ℕ) (z : ℤ) where
   tidy_kind : (k : ℕ) → 1 ≤ k → k ≤ 9 → applied s (tidy (edit_of k i j z)) ≡ applied s (edit_of k i j z)
   unfolding edited put used taken
   tidy_kind zero h l = absurd (omega arith)
-  tidy_kind (suc zero) h l = no_row 1 0 i z z refl (record { a_same = λ j. refl; Y-same = refl; rhs_same = refl; wrong_same = refl }) (record { a_same = λ j. refl; Y-same = refl; rhs_same = refl; wrong_same = refl })
-  tidy_kind (suc (suc zero)) h l = no_row 2 0 i z z refl (record { a_same = λ j. refl; Y-same = refl; rhs_same = refl; wrong_same = refl }) (record { a_same = λ j. refl; Y-same = refl; rhs_same = refl; wrong_same = refl })
-  tidy_kind (suc (suc (suc zero))) h l = no_row 3 0 i z z refl (record { a_same = λ j. refl; Y-same = refl; rhs_same = refl; wrong_same = refl }) (record { a_same = λ j. refl; Y-same = refl; rhs_same = refl; wrong_same = refl })
-  tidy_kind (suc (suc (suc (suc zero)))) h l = no_row 4 0 i z z refl (record { a_same = λ j. refl; Y-same = refl; rhs_same = refl; wrong_same = refl }) (record { a_same = λ j. refl; Y-same = refl; rhs_same = refl; wrong_same = refl })
+  tidy_kind (suc zero) h l = no_row 1 0 i z z refl (record { a_same = λ j. refl; y_same = refl; rhs_same = refl; wrong_same = refl }) (record { a_same = λ j. refl; y_same = refl; rhs_same = refl; wrong_same = refl })
+  tidy_kind (suc (suc zero)) h l = no_row 2 0 i z z refl (record { a_same = λ j. refl; y_same = refl; rhs_same = refl; wrong_same = refl }) (record { a_same = λ j. refl; y_same = refl; rhs_same = refl; wrong_same = refl })
+  tidy_kind (suc (suc (suc zero))) h l = no_row 3 0 i z z refl (record { a_same = λ j. refl; y_same = refl; rhs_same = refl; wrong_same = refl }) (record { a_same = λ j. refl; y_same = refl; rhs_same = refl; wrong_same = refl })
+  tidy_kind (suc (suc (suc (suc zero)))) h l = no_row 4 0 i z z refl (record { a_same = λ j. refl; y_same = refl; rhs_same = refl; wrong_same = refl }) (record { a_same = λ j. refl; y_same = refl; rhs_same = refl; wrong_same = refl })
   tidy_kind (suc (suc (suc (suc (suc zero))))) h l = no_column 5 0 j refl (record { a_same = λ i. refl; x_same = refl; c_same = refl; outside_same = refl }) (record { a_same = λ i. refl; x_same = refl; c_same = refl; outside_same = refl })
   tidy_kind (suc (suc (suc (suc (suc (suc zero)))))) h l = refl
   tidy_kind (suc (suc (suc (suc (suc (suc (suc zero))))))) h l = no_column 7 0 j refl (record { a_same = λ i. refl; x_same = refl; c_same = refl; outside_same = refl }) (record { a_same = λ i. refl; x_same = refl; c_same = refl; outside_same = refl })
-  tidy_kind (suc (suc (suc (suc (suc (suc (suc (suc zero)))))))) h l = no_row 8 0 i (pos 0) z refl (record { a_same = λ j. refl; Y-same = refl; rhs_same = refl; wrong_same = refl }) (record { a_same = λ j. refl; Y-same = refl; rhs_same = refl; wrong_same = refl })
-  tidy_kind (suc (suc (suc (suc (suc (suc (suc (suc (suc zero))))))))) h l = no_row 9 0 i (pos 0) z refl (record { a_same = λ j. refl; Y-same = refl; rhs_same = refl; wrong_same = refl }) (record { a_same = λ j. refl; Y-same = refl; rhs_same = refl; wrong_same = refl })
+  tidy_kind (suc (suc (suc (suc (suc (suc (suc (suc zero)))))))) h l = no_row 8 0 i (pos 0) z refl (record { a_same = λ j. refl; y_same = refl; rhs_same = refl; wrong_same = refl }) (record { a_same = λ j. refl; y_same = refl; rhs_same = refl; wrong_same = refl })
+  tidy_kind (suc (suc (suc (suc (suc (suc (suc (suc (suc zero))))))))) h l = no_row 9 0 i (pos 0) z refl (record { a_same = λ j. refl; y_same = refl; rhs_same = refl; wrong_same = refl }) (record { a_same = λ j. refl; y_same = refl; rhs_same = refl; wrong_same = refl })
   tidy_kind (suc (suc (suc (suc (suc (suc (suc (suc (suc (suc k)))))))))) h l = absurd (omega arith)
 
 pub tidied : (s : Sheet) (e : Edit) → 1 ≤ e.kind → e.kind ≤ 9 → applied s (tidy e) ≡ applied s e

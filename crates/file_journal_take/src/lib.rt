@@ -1,4 +1,6 @@
 // The blocks of a feed: an entry taken, the entries of a block in turn, a whole block.
+#![tactic(auto)]
+
 ghost use Rattle.std.specs.Prelude.{◌≡◌, ◌≤◌, length, drop};
 ghost use Rattle.doubles.specs.Lists.{◌#◌};
 ghost use Rattle.sheet_rules.specs.Sheet.{plan_of, kept_of, sheet_of};

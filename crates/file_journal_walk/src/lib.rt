@@ -1,4 +1,6 @@
 // A lent journal, read: its test, its room, and an entry of it.
+#![tactic(auto)]
+
 ghost use Rattle.std.specs.Prelude.{◌≡◌, ◌+◌, ◌*◌, ◌≤◌, length};
 ghost use Rattle.file_rules.specs.Block.{size_of_block};
 ghost use Rattle.file_journal_rules.specs.Lent.{tested, whole_blocks, room_of, block_of, entry_at};

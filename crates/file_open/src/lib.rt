@@ -1,4 +1,6 @@
 // The plan in a file whose blocks were all accepted: what opening asks of its numbers, and its arrays.
+#![tactic(auto)]
+
 ghost use Rattle.std.specs.Prelude.{◌≡◌, ◌+◌, ◌/◌, ◌≤◌, length};
 ghost use Rattle.doubles.specs.Limits.{max_rows, max_columns};
 ghost use Rattle.sheet_rules.specs.Sheet.{plan_of};
@@ -11,7 +13,7 @@ ghost use Rattle.file_open.specs.Places.{places_of, plan_at, Whole};
 use file_read::{all_within, bounds_fine, ops_fine, take_bytes, take_numbers};
 
 // Where the blocks of each array begin, the coefficients' aside, which begin at 1, and where the end stands.
-#[derive(Drop)]
+#[derive(Clone, Copy)]
 pub struct Places {
     pub costs: usize,
     pub lowers: usize,

@@ -1,4 +1,6 @@
 // The blocks of a plan's file, looked at one after another.
+#![tactic(auto)]
+
 ghost use Rattle.std.specs.Prelude.{◌≡◌, ◌+◌, ◌*◌, ◌/◌, ◌≤◌, length, take, drop};
 ghost use Rattle.doubles.specs.Limits.{max_rows, max_columns};
 ghost use Rattle.doubles.specs.Loop.{each};
@@ -10,7 +12,7 @@ use file_block::{check_block, check_stray};
 use file_bytes::least;
 
 // Where reading stands: at a block that is refused with a number, or, with 0, at the place that comes next.
-#[derive(Drop)]
+#[derive(Clone, Copy)]
 pub struct Stop {
     pub number: usize,
     pub place: usize,

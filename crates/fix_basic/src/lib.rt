@@ -1,5 +1,7 @@
 // A basic column held still (02, Ask 9): it leaves the basis at the value, then dual steps and primal ones. From minilp
 // 0.2.2, src/solver.rs, fix_var, Apache-2.0, changed: 02's budget, and primal steps after the dual ones.
+#![tactic(auto)]
+
 ghost use Rattle.std.specs.Prelude.{◌≡◌, ◌<◌, ◌≤◌, length};
 ghost use Rattle.doubles.specs.Limits.{max_budget};
 ghost use Rattle.rules.specs.Plan.{State};

@@ -1,4 +1,6 @@
 // The two ends of a call that fixes or unfixes a column: the kept state is taken up, and its run is closed.
+#![tactic(auto)]
+
 ghost use Rattle.std.specs.Prelude.{◌≡◌, ℕ, List, Float};
 ghost use Rattle.rules.specs.Plan.{Problem, m_of};
 ghost use Rattle.rules.specs.Step.{ended};

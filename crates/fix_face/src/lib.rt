@@ -1,4 +1,6 @@
 // The answer of a call that fixes or unfixes a column, as the numbers that the face hands out.
+#![tactic(auto)]
+
 ghost use Rattle.std.specs.Prelude.{◌≡◌};
 ghost use Rattle.fix_face.specs.Numbers.{refused_by, fix_numbers};
 

@@ -1,4 +1,6 @@
 // What a call over a memory that was kept refuses, before the first lent cell is written.
+#![tactic(auto)]
+
 ghost use Rattle.std.specs.Prelude.{◌≡◌, List, [], ◌<◌, ◌≤◌, length, Float};
 ghost use Rattle.doubles.specs.Num.{f0};
 ghost use Rattle.doubles.specs.Limits.{max_columns};
@@ -9,7 +11,7 @@ ghost use Rattle.fix_rules.specs.Fix.{is_fixed};
 ghost use Rattle.fix_rules.specs.Calls.{passes43};
 ghost use Rattle.fix_gate.specs.Gate.{kept_refusal, call_refusal, fix_refusal, unfix_refusal};
 
-#[derive(Drop)]
+#[derive(Clone, Copy)]
 pub enum Refusal {
     By(fix_rules::FixAnswer),
     Nothing,

@@ -1,5 +1,7 @@
 // The test behind 41: whether the memory is that of an Optimal run over this plan. docs/RULES-02.md, Ask 9, has the
 // parts, and they are asked in its order, so that a later one can lean on those before it. Nothing is written.
+#![tactic(auto)]
+
 ghost use Rattle.std.specs.Prelude.{◌≡◌, true, not, ◌||◌, [], ◌<◌, ◌≤◌, eqb, length};
 ghost use Rattle.doubles.specs.Num.{f0};
 ghost use Rattle.doubles.specs.Limits.{max_rows, max_columns, eta_columns, eta_entries};

@@ -1,5 +1,7 @@
 // The factor's part of the test behind 41: docs/RULES-02.md, Ask 9. Each test only reads, and its value is the
 // definition's own.
+#![tactic(auto)]
+
 ghost use Rattle.std.specs.Prelude.{◌≡◌, true, not, ◌||◌, [], ◌<◌, ◌≤◌, eqb, length};
 ghost use Rattle.doubles.specs.Limits.{max_rows, max_tri_entries};
 ghost use Rattle.lu_factor_rules.specs.Factor.{matrix};

@@ -1,5 +1,7 @@
 // A fix of a non-basic column: its solve, the tests, then the store. From minilp 0.2.2, src/solver.rs, fix_var,
 // Apache-2.0, changed: 01's answer 23, and the vectors are local arrays.
+#![tactic(auto)]
+
 ghost use Rattle.std.specs.Prelude.{◌≡◌, Bool, List, ℕ, ◌<◌, length, Float};
 ghost use Rattle.doubles.specs.Limits.{max_rows, max_columns};
 ghost use Rattle.sparse.specs.Scattered.{sv};

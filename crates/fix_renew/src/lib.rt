@@ -1,5 +1,7 @@
 // The factor that a call finds in the memory. docs/RULES-02.md, Ask 9: "The transposes aren't looked at: a call makes
 // them anew from L and U". Past them no cell changes.
+#![tactic(auto)]
+
 ghost use Rattle.std.specs.Prelude.{◌≡◌, true, not, ◌||◌, ◌≤◌, length};
 ghost use Rattle.doubles.specs.Limits.{max_rows};
 ghost use Rattle.lu_factor_rules.specs.Factor.{matrix};

@@ -1,5 +1,7 @@
 // From the state that a run left to the end of a call's own run: the column's own part, then the steps. From minilp
 // 0.2.2, src/solver.rs, fix_var and unfix_var, Apache-2.0, changed: 02's budget, and primal steps after the dual ones.
+#![tactic(auto)]
+
 ghost use Rattle.std.specs.Prelude.{◌≡◌, ◌<◌, ◌≤◌, length};
 ghost use Rattle.doubles.specs.Limits.{max_budget};
 ghost use Rattle.doubles.specs.Lists.{◌#◌};

@@ -1,5 +1,7 @@
 // The stores of a fix and of an unfix: one exit each, no test. From minilp 0.2.2, src/solver.rs, fix_var and unfix_var,
 // Apache-2.0, changed: every number is tested before any is stored, and the state is sections of two lent arrays.
+#![tactic(auto)]
+
 ghost use Rattle.std.specs.Prelude.{◌≡◌, Bool, List, ℕ, ◌<◌, length, Float};
 ghost use Rattle.doubles.specs.Num.{◌⊕◌, ◌⊗◌};
 ghost use Rattle.doubles.specs.Limits.{max_rows, max_columns};

@@ -14,12 +14,12 @@ use Rattle.lu_walk.specs.Walk.{walk, reached}
 use Rattle.lu_solve.specs.Solve.{Tri, process_col, dense, Out, out, dense_by, given, zeroed, processed, grown, sparse}
 use Rattle.lu_gate.specs.Gate.{ok_triangle, ok_starts, ok_rows, ok_column, ok_diag, ok_numbers, ok_held, ok_list}
 use Rattle.lu_gate.proofs.Laws.{list_inside}
-use Rattle.lu.specs.Result.{result, lowest, sparse1, sparse2, sparse3, dense2, tri_solve_sparse, tri_solve_dense}
+use Rattle.lu.specs.Result.{result_of, lowest, sparse1, sparse2, sparse3, dense2, tri_solve_sparse, tri_solve_dense}
 use Rattle.lu.specs.Triangles.{one_place, three_places, big, -f0}
 use Rattle.lu.specs.declared.Answer.TheVariants.{Solved}
 
 -- "the sign of zero": one place, a diagonal of -1.0, nothing listed. The sparse solve leaves 0.0, the dense one 0.0 / -1.0
-pub sign_of_zero : (tri_solve_sparse one_place 0 (0 ∷ []) 0 (f0 ∷ []) ≡ result (Solved 0) (f0 ∷ []) (0 ∷ [])) × (tri_solve_dense one_place 0 (f0 ∷ []) ≡ result (Solved 1) (-f0 ∷ []) [])
+pub sign_of_zero : (tri_solve_sparse one_place 0 (0 ∷ []) 0 (f0 ∷ []) ≡ result_of (Solved 0) (f0 ∷ []) (0 ∷ [])) × (tri_solve_dense one_place 0 (f0 ∷ []) ≡ result_of (Solved 1) (-f0 ∷ []) [])
 unfolding tri_solve_sparse tri_solve_dense ok_triangle ok_starts ok_rows ok_column ok_diag ok_numbers ok_held ok_list all finite eq of_bits div sparse dense given zeroed processed grown touched reached walk run down process_col
 sign_of_zero = (refl, refl)
 
@@ -53,7 +53,7 @@ none_smaller t e l n v z = (
 
 -- "the order of subtraction": three places without a diagonal, and both place 0 and place 1 are taken off place 2. The walk finishes 2, 0, 1
 pub order_of_subtraction :
-    (tri_solve_sparse three_places 2 (0 ∷ 1 ∷ 2 ∷ []) 3 (big ∷ big ∷ f1 ∷ []) ≡ result (Solved 3) (big ∷ big ∷ f0 ∷ []) (0 ∷ 1 ∷ 2 ∷ []))
-    × (tri_solve_dense three_places 2 (big ∷ big ∷ f1 ∷ []) ≡ result (Solved 3) (big ∷ big ∷ f1 ∷ []) [])
+    (tri_solve_sparse three_places 2 (0 ∷ 1 ∷ 2 ∷ []) 3 (big ∷ big ∷ f1 ∷ []) ≡ result_of (Solved 3) (big ∷ big ∷ f0 ∷ []) (0 ∷ 1 ∷ 2 ∷ []))
+    × (tri_solve_dense three_places 2 (big ∷ big ∷ f1 ∷ []) ≡ result_of (Solved 3) (big ∷ big ∷ f1 ∷ []) [])
 unfolding tri_solve_sparse tri_solve_dense ok_triangle ok_starts ok_rows ok_column ok_diag ok_numbers ok_held ok_list all finite eq of_bits sub mul sparse dense given zeroed processed grown touched reached walk run down process_col
 order_of_subtraction = (refl, refl)

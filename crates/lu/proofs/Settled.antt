@@ -19,7 +19,7 @@ use Rattle.lu_solve.proofs.Laws.{length_dense, numbers_kept, places_reached, gro
 use Rattle.lu_gate.specs.Gate.{ok_triangle}
 use Rattle.lu_gate.proofs.Laws.{told, numbers_told}
 use Rattle.lu.proofs.Accepted.{accepted}
-use Rattle.lu.specs.Result.{Result, result, number_of, places_of, lowest, sparse1, sparse2, sparse3, dense2, factors1, factors2, tri_solve_sparse, tri_solve_dense, solve_dense}
+use Rattle.lu.specs.Result.{Result, result_of, number_of, places_of, lowest, sparse1, sparse2, sparse3, dense2, factors1, factors2, tri_solve_sparse, tri_solve_dense, solve_dense}
 use Rattle.lu.specs.declared.Answer.{Answer}
 use Rattle.lu.specs.declared.Answer.TheVariants.{Solved, BadTriangle, NotFinite, BadList}
 
@@ -43,18 +43,18 @@ same_answer BadList (Solved m) e f = absurd (omega arith)
 same_answer BadList BadTriangle e f = absurd (omega arith)
 same_answer BadList NotFinite e f = absurd (omega arith)
 
-equal : (a b : Answer) (v w : List Float) (l m : List ℕ) → result a v l ≡ result b w m → (a ≡ b) × (v ≡ w) × (l ≡ m)
+equal : (a b : Answer) (v w : List Float) (l m : List ℕ) → result_of a v l ≡ result_of b w m → (a ≡ b) × (v ≡ w) × (l ≡ m)
 equal a b v w l m e = (same_answer a b (ap (λ (r : Result). r.number) e) (ap (λ (r : Result). r.places) e), ap (λ (r : Result). r.values) e, ap (λ (r : Result). r.list) e)
 
 module _ (t : Tri) (e : ℕ) (v₀ : List Float) where
-  pub sparse_settled : (l₀ : List ℕ) (n : ℕ) (a b : Answer) (v w : List Float) (l m : List ℕ) → result a v l ≡ tri_solve_sparse t e l₀ n v₀ → result b w m ≡ tri_solve_sparse t e l₀ n v₀
+  pub sparse_settled : (l₀ : List ℕ) (n : ℕ) (a b : Answer) (v w : List Float) (l m : List ℕ) → result_of a v l ≡ tri_solve_sparse t e l₀ n v₀ → result_of b w m ≡ tri_solve_sparse t e l₀ n v₀
       → (a ≡ b) × (v ≡ w) × (l ≡ m)
   sparse_settled l₀ n a b v w l m p q = equal a b v w l m (p ∙ sym q)
 
-  pub dense_settled : (a b : Answer) (v w : List Float) → result a v [] ≡ tri_solve_dense t e v₀ → result b w [] ≡ tri_solve_dense t e v₀ → (a ≡ b) × (v ≡ w)
+  pub dense_settled : (a b : Answer) (v w : List Float) → result_of a v [] ≡ tri_solve_dense t e v₀ → result_of b w [] ≡ tri_solve_dense t e v₀ → (a ≡ b) × (v ≡ w)
   dense_settled a b v w p q = let r = equal a b v w [] [] (p ∙ sym q) in (r.0, r.1)
 
-  pub solve_dense_settled : (u : Tri) (f : ℕ) (a b : Answer) (v w : List Float) → result a v [] ≡ solve_dense t e u f v₀ → result b w [] ≡ solve_dense t e u f v₀ → (a ≡ b) × (v ≡ w)
+  pub solve_dense_settled : (u : Tri) (f : ℕ) (a b : Answer) (v w : List Float) → result_of a v [] ≡ solve_dense t e u f v₀ → result_of b w [] ≡ solve_dense t e u f v₀ → (a ≡ b) × (v ≡ w)
   solve_dense_settled u f a b v w p q = let r = equal a b v w [] [] (p ∙ sym q) in (r.0, r.1)
 
 -- ---- "Refused .. nothing changed"

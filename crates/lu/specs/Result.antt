@@ -26,8 +26,8 @@ pub record Result : Type 0 where
   pub values : List Float
   pub list : List ℕ
 
-abbrev pub result : Answer → List Float → List ℕ → Result
-result a v l = record { number = number_of a; places = places_of a; values = v; list = l }
+abbrev pub result_of : Answer → List Float → List ℕ → Result
+result_of a v l = record { number = number_of a; places = places_of a; values = v; list = l }
 
 abbrev pub refused : ℕ → List Float → List ℕ → Result
 refused k v l = record { number = k; places = 0; values = v; list = l }

@@ -1,12 +1,14 @@
 // Public solves of a triangle that is stored by columns, sparse and dense. They ask nothing of their
 // caller: what cannot be solved is refused, and a refusal changes nothing.
 // From minilp 0.2.2, src/lu.rs (tri_solve_sparse, tri_solve_dense, solve_dense), Apache-2.0, changed.
+#![tactic(auto)]
+
 ghost use Rattle.std.specs.Prelude.{◌≡◌, true, false, []};
 ghost use Rattle.lu_solve.specs.Solve.{tri};
-ghost use Rattle.lu.specs.Result.{result, tri_solve_sparse, tri_solve_dense, solve_dense};
+ghost use Rattle.lu.specs.Result.{result_of, tri_solve_sparse, tri_solve_dense, solve_dense};
 
 // 01's 0 to 3. Solved carries how many places are listed afterwards; in a dense solve, all.
-#[derive(Drop)]
+#[derive(Clone, Copy)]
 pub enum Answer {
     Solved(usize),
     BadTriangle,
@@ -29,9 +31,9 @@ pub fn tri_solve_sparse(
     listed: usize,
     values: &mut [f64],
 ) -> Answer
-    ensures* { λ r. ⌜ result r values.new list.new ≡ tri_solve_sparse
+    ensures { result_of result values.new list.new ≡ tri_solve_sparse
         (tri lower size starts.now rows.now vals.now has_diag diag.now)
-        entries list.old listed values.old ⌝ }
+        entries list.old listed values.old }
 {
     if !lu_gate::triangle_ok(
         lower,
@@ -79,9 +81,9 @@ pub fn tri_solve_dense(
     diag: &[f64],
     values: &mut [f64],
 ) -> Answer
-    ensures* { λ r. ⌜ result r values.new [] ≡ tri_solve_dense
+    ensures { result_of result values.new [] ≡ tri_solve_dense
         (tri lower size starts.now rows.now vals.now has_diag diag.now)
-        entries values.old ⌝ }
+        entries values.old }
 {
     if !lu_gate::triangle_ok(
         lower,
@@ -124,11 +126,11 @@ pub fn solve_dense(
     upper_diag: &[f64],
     values: &mut [f64],
 ) -> Answer
-    ensures* { λ r. ⌜ result r values.new [] ≡ solve_dense
+    ensures { result_of result values.new [] ≡ solve_dense
         (tri true size lower_starts.now lower_rows.now lower_vals.now
         lower_has_diag lower_diag.now) lower_entries
         (tri false size upper_starts.now upper_rows.now upper_vals.now
-        upper_has_diag upper_diag.now) upper_entries values.old ⌝ }
+        upper_has_diag upper_diag.now) upper_entries values.old }
 {
     if !lu_gate::triangle_ok(
         true,

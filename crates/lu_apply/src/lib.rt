@@ -1,6 +1,8 @@
 // Solves with a factor over scattered vectors: the places are mapped, the two triangles solved one after
 // the other in local arrays, and the result put into the vector.
 // From minilp 0.2.2, src/lu.rs (LUFactors::solve), Apache-2.0, changed.
+#![tactic(auto)]
+
 ghost use Rattle.std.specs.Prelude.{◌≡◌, true, false, not, ◌<◌};
 ghost use Rattle.doubles.specs.Limits.{places};
 ghost use Rattle.sparse.specs.Scattered.{sv, Good};

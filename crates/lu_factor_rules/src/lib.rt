@@ -1,5 +1,6 @@
 // The types that factoring's code and its definitions share.
 // From minilp 0.2.2, src/lu.rs (lu_factorize), Apache-2.0, changed.
+#![tactic(auto)]
 
 // A factor in two lent arrays, `factor_numbers` and `factor_coeffs`: where each of its parts stands. specs/Packed.antt has
 // the same ends for the definitions: no place is written anywhere else.
@@ -69,21 +70,21 @@ pub const DIAG_END: usize = DIAG + doubles::MAX_ROWS;
 pub const FACTOR_COEFFS: usize = DIAG_END;
 
 // The row of the largest value so far, and its size.
-#[derive(Drop)]
+#[derive(Clone, Copy)]
 pub struct Best {
     pub row: usize,
     pub most: f64,
 }
 
 // How many entries L and U have.
-#[derive(Drop)]
+#[derive(Clone, Copy)]
 pub struct Counts {
     pub lower: usize,
     pub upper: usize,
 }
 
 // A column's pivot row, the value there, and how many entries L and U have with it.
-#[derive(Drop)]
+#[derive(Clone, Copy)]
 pub struct Pivot {
     pub row: usize,
     pub value: f64,
@@ -91,7 +92,7 @@ pub struct Pivot {
 }
 
 // 23 is NotFinite, 25 is Singular.
-#[derive(Drop)]
+#[derive(Clone, Copy)]
 pub enum Factored {
     Added(Pivot),
     NotFinite,
@@ -99,7 +100,7 @@ pub enum Factored {
 }
 
 // What the whole basis gives: its factor's entries, 23 or 25.
-#[derive(Drop)]
+#[derive(Clone, Copy)]
 pub enum Ended {
     Done(Counts),
     NotFinite,

@@ -1,4 +1,6 @@
 // What a triangle solve refuses. Each test only reads, and its value is the definition's own.
+#![tactic(auto)]
+
 ghost use Rattle.std.specs.Prelude.{◌≡◌, true, not, ◌&&◌, ◌||◌, ◌<◌, ◌≤◌, length, ltb};
 ghost use Rattle.doubles.specs.Num.{finite};
 ghost use Rattle.doubles.specs.Limits.{max_rows};

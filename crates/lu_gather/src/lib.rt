@@ -1,5 +1,7 @@
 // What a solved column of the basis gives: 23, 25, or its pivot and its entries of L and U.
 // From minilp 0.2.2, src/lu.rs (lu_factorize), Apache-2.0, changed: the largest value is the pivot, lent arrays.
+#![tactic(auto)]
+
 ghost use Rattle.std.specs.Prelude.{◌≡◌, ◌<◌};
 ghost use Rattle.doubles.specs.Limits.{max_rows};
 ghost use Rattle.lu_factor_rules.specs.Factor.{listed_finite, better as better_of, chosen, gathered_one, gathered, judged};

@@ -1,4 +1,6 @@
 // A factor in two lent arrays: its solves, which read its parts where they stand, and the writing of it.
+#![tactic(auto)]
+
 ghost use Rattle.std.specs.Prelude.{◌≡◌, ◌+◌, ◌≤◌, length};
 ghost use Rattle.doubles.specs.Limits.{max_rows, max_tri_entries};
 ghost use Rattle.sparse.specs.Scattered.{sv};

@@ -1,5 +1,7 @@
 // A column of the basis solved with the columns of L that are made: the walk, the list, and L taken off.
 // From minilp 0.2.2, src/lu.rs (lu_factorize), Apache-2.0, changed: lent arrays.
+#![tactic(auto)]
+
 ghost use Rattle.std.specs.Prelude.{◌≡◌, Bool, List, ◌<◌};
 ghost use Rattle.doubles.specs.Limits.{max_rows, places};
 ghost use Rattle.sparse.specs.Scattered.{pat, sv, Wf, Good};

@@ -1,6 +1,8 @@
 // Solves of a triangle that is stored by columns, sparse and dense, where all is in order.
 // From minilp 0.2.2, src/lu.rs, Apache-2.0, changed: the matrix is lent slices, and the scattered
 // vector a lent list of places beside the values.
+#![tactic(auto)]
+
 ghost use Rattle.std.specs.Prelude.{◌≡◌, true, false, ◌<◌, ◌≤◌, length, replicate};
 ghost use Rattle.doubles.specs.Limits.{max_rows};
 ghost use Rattle.doubles.specs.Loop.{run, down};

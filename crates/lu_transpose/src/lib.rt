@@ -1,6 +1,8 @@
 // The transpose of a matrix by columns, in time proportional to its entries: the entries of each row are counted, the
 // counts summed up, and each entry put before those of its row that were put already.
 // From minilp 0.2.2, src/sparse.rs (SparseMat::transpose), Apache-2.0, changed: lent arrays.
+#![tactic(auto)]
+
 ghost use Rattle.std.specs.Prelude.{◌≡◌, ◌<◌, ◌+◌};
 ghost use Rattle.lu_factor_rules.specs.Factor.{matrix};
 ghost use Rattle.lu_factor_rules.specs.Transpose.{counted, summed, placed_one, placed_column, placed, empty};

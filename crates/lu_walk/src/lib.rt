@@ -3,6 +3,8 @@
 // numbers are pivot numbers, and a row that is no pivot row yet has no column.
 // From minilp 0.2.2, src/lu.rs (MarkNonzero), Apache-2.0, changed: the stack of steps became a
 // function that calls itself, since child numbers only rise (lower) or only fall (upper).
+#![tactic(auto)]
+
 ghost use Rattle.std.specs.Prelude.{◌≡◌, ◌<◌, ◌≤◌, ◌+◌, length, get_or};
 ghost use Rattle.doubles.specs.Limits.{max_rows};
 ghost use Rattle.lu_walk.specs.Walk.{shape, mapped, graph_in, state, many_in, own_numbers, walk_of, entered, reached};

@@ -38,21 +38,21 @@ abbrev case : ℕ → List Shown → Shown
 case k l = get_or l k (judges 0 [] [] NotPlan)
 
 -- N1 is Optimal after 1 step, N2 after 2, and N3 gives 20
-N1-optimal : (as_row (solve_plan (N1 10) (room_for (N1 10))).answer).number ≡ 0
+n1_optimal : (as_row (solve_plan (N1 10) (room_for (N1 10))).answer).number ≡ 0
 unfolding cases shown wanted
-N1-optimal = ap (λ (l : List Shown). number_in (case 0 l)) night
+n1_optimal = ap (λ (l : List Shown). number_in (case 0 l)) night
 
-N1-steps : (as_row (solve_plan (N1 10) (room_for (N1 10))).answer).steps ≡ 1
+n1_steps : (as_row (solve_plan (N1 10) (room_for (N1 10))).answer).steps ≡ 1
 unfolding cases shown wanted
-N1-steps = ap (λ (l : List Shown). steps_in (case 0 l)) night
+n1_steps = ap (λ (l : List Shown). steps_in (case 0 l)) night
 
-N2-steps : (as_row (solve_plan (N2 10) (room_for (N2 10))).answer).steps ≡ 2
+n2_steps : (as_row (solve_plan (N2 10) (room_for (N2 10))).answer).steps ≡ 2
 unfolding cases shown wanted
-N2-steps = ap (λ (l : List Shown). steps_in (case 2 l)) night
+n2_steps = ap (λ (l : List Shown). steps_in (case 2 l)) night
 
-N3-unbounded : (as_row (solve_plan N3 (room_for N3)).answer).number ≡ 20
+n3_unbounded : (as_row (solve_plan N3 (room_for N3)).answer).number ≡ 20
 unfolding cases shown wanted
-N3-unbounded = ap (λ (l : List Shown). number_in (case 4 l)) night
+n3_unbounded = ap (λ (l : List Shown). number_in (case 4 l)) night
 
 module _ (program : Plan → Memory → Solved) where
   kept_number : (p : Plan) → Promised program p → number program p ≡ (as_row (solve_plan p (room_for p)).answer).number
@@ -63,20 +63,20 @@ module _ (program : Plan → Memory → Solved) where
 
   -- 01: "a solver that refuses all plans"
   pub refuses_all : ((p : Plan) → (1 ≤ number program p) × (number program p ≤ 7)) → Promised program (N1 10) → ⊥
-  refuses_all wrong h = omega (arith, (wrong (N1 10)).0, kept_number (N1 10) h ∙ N1-optimal)
+  refuses_all wrong h = omega (arith, (wrong (N1 10)).0, kept_number (N1 10) h ∙ n1_optimal)
 
   -- "or always says Spent"
   pub always_spent : ((p : Plan) → number program p ≡ 21) → Promised program (N1 10) → ⊥
-  always_spent wrong h = omega (arith, wrong (N1 10), kept_number (N1 10) h ∙ N1-optimal)
+  always_spent wrong h = omega (arith, wrong (N1 10), kept_number (N1 10) h ∙ n1_optimal)
 
   -- "one that always says Optimal"
   pub always_optimal : ((p : Plan) → number program p ≡ 0) → Promised program N3 → ⊥
-  always_optimal wrong h = omega (arith, wrong N3, kept_number N3 h ∙ N3-unbounded)
+  always_optimal wrong h = omega (arith, wrong N3, kept_number N3 h ∙ n3_unbounded)
 
   -- "a run that settles everything in its first step"
   pub all_at_once : ((p : Plan) → steps program p ≤ 1) → Promised program (N2 10) → ⊥
-  all_at_once wrong h = omega (arith, wrong (N2 10), kept_steps (N2 10) h ∙ N2-steps)
+  all_at_once wrong h = omega (arith, wrong (N2 10), kept_steps (N2 10) h ∙ n2_steps)
 
   -- "or invents its step count": whatever the plan, the same one
   pub invents_steps : (k : ℕ) → ((p : Plan) → steps program p ≡ k) → Promised program (N1 10) → Promised program (N2 10) → ⊥
-  invents_steps k wrong h i = omega (arith, wrong (N1 10), wrong (N2 10), kept_steps (N1 10) h ∙ N1-steps, kept_steps (N2 10) i ∙ N2-steps)
+  invents_steps k wrong h i = omega (arith, wrong (N1 10), wrong (N2 10), kept_steps (N1 10) h ∙ n1_steps, kept_steps (N2 10) i ∙ n2_steps)

@@ -1,5 +1,7 @@
 // A sheet's plan handed to the solver. 02, Ask 14: "as the same numbers in doubles, absent bounds infinite and zero
 // coefficients left out". The caller lends zeroed arrays of the limits' sizes.
+#![tactic(auto)]
+
 ghost use Rattle.std.specs.Prelude.{◌≡◌, ◌+◌, ◌*◌, ◌≤◌, [], length};
 ghost use Rattle.doubles.specs.Num.{f0};
 ghost use Rattle.doubles.specs.Limits.{max_rows, max_entries};

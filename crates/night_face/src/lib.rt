@@ -1,4 +1,6 @@
 // The night's answers as the numbers that the face hands out.
+#![tactic(auto)]
+
 ghost use Rattle.std.specs.Prelude.{◌≡◌};
 ghost use Rattle.face.specs.Face.{answer_numbers};
 ghost use Rattle.whole_face.specs.Numbers.{proposal_numbers};
@@ -12,7 +14,7 @@ use whole_face::TevalumiProposal;
 // A stage: how its run ended; audit 0 nothing was proposed, 1 a proposed number isn't whole (which one: proposal), 2
 // opening refused (with this number: opening), 3 the sheet was opened and judged (verdict).
 #[repr(C)]
-#[derive(Drop)]
+#[derive(Clone, Copy)]
 pub struct TevalumiStage {
     pub run: TevalumiAnswer,
     pub audit: usize,
@@ -25,7 +27,7 @@ pub struct TevalumiStage {
 // cost is too large (that of column), 5 the found cost is, 6 the first stage's amounts stand, 7 the second's are handed
 // out. A stage that wasn't run is all 0.
 #[repr(C)]
-#[derive(Drop)]
+#[derive(Clone, Copy)]
 pub struct TevalumiNight {
     pub status: usize,
     pub kind: usize,

@@ -1,4 +1,6 @@
 // The second stage of a night, and what is handed out (02, Ask 14).
+#![tactic(auto)]
+
 ghost use Rattle.std.specs.Prelude.{◌≡◌, [], ◌≤◌, ◌<◌, length, take};
 ghost use Rattle.doubles.specs.Limits.{max_rows, max_columns};
 ghost use Rattle.sheet_rules.specs.Sheet.{plan_of};

@@ -68,7 +68,7 @@ module _ (n : NightPlan) (a : Arrays) (w : List ℤ) (d : PastFound n a w) where
   -- the found cost is the first stage's alarm cost
   pub found_is : found n a ≡ cost p (x f.sheet.plan)
   unfolding cost
-  found_is = (stage_openable n.budget n.tolerance p a o).good.true_sheet.C-true
+  found_is = (stage_openable n.budget n.tolerance p a o).good.true_sheet.c_true
       ∙ rw (plan_is n.budget n.tolerance p a)
 
   -- ---- the second stage's last row

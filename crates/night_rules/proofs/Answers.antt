@@ -72,7 +72,7 @@ module _ (n : NightPlan) (a : Arrays) (w : List ℤ) where
       le-leb _ _ l.doubles_long,
       le-leb _ _ l.factor_numbers_long,
       le-leb _ _ l.factor_coeffs_long,
-      le-leb _ _ l.whole-long,
+      le-leb _ _ l.whole_long,
     ),
   )
     where

@@ -25,6 +25,8 @@ pub record IsExactly (x : Float) (z : ℤ) : Type 0 where
 
 by_value : (x : Float) (s : Bool) (n : ℕ) → HasValue x s n 1 → IsExactly x (signed s n)
 unfolding finite
+by_value lib.Ieee.nan s n h = elim h [ ]
+by_value (lib.Ieee.inf _) s n h = elim h [ ]
 by_value (fin t m e) s n h =
     record { is_finite = refl; same_value = ap (λ (b : Bool). signed b m *ℤ pos (up e)) h.0 ∙ go s }
   where

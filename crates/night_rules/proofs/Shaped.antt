@@ -33,10 +33,10 @@ use Rattle.night_rules.specs.Stage.{section_cells, section_of}
 pub record Shaped (s : Sheet) : Type 0 where
   pub amounts_long : length s.plan.amounts ≡ max_columns
   pub mults_long : length s.plan.mults ≡ max_rows
-  pub R-long : length s.kept.R ≡ max_rows
-  pub D-long : length s.kept.D ≡ max_columns
-  pub C-long : length s.kept.C ≡ 1
-  pub B-long : length s.kept.B ≡ 1
+  pub r_long : length s.kept.R ≡ max_rows
+  pub d_long : length s.kept.D ≡ max_columns
+  pub c_long : length s.kept.C ≡ 1
+  pub b_long : length s.kept.B ≡ 1
   pub counts_long : length s.kept.counts ≡ 4
 
 -- ---- a proposal keeps the lengths of its arrays
@@ -84,21 +84,21 @@ module _ (p : Plan) (x y : List ℤ) (ex : length x ≡ max_columns) (ey : lengt
       record {
         amounts_long = ex;
         mults_long = ey;
-        R-long = let t = with_amounts p x y in
+        r_long = let t = with_amounts p x y in
             front p.rows max_rows (table p.rows (activity t (amountAt t))) (length_tab p.rows 0 _) h;
-        D-long = front p.cols max_columns (table p.cols (price (with_amounts p x y))) (length_tab p.cols 0 _) k;
-        C-long = refl;
-        B-long = refl;
+        d_long = front p.cols max_columns (table p.cols (price (with_amounts p x y))) (length_tab p.cols 0 _) k;
+        c_long = refl;
+        b_long = refl;
         counts_long = refl;
       }
   by_number (suc n) =
       record {
         amounts_long = ex;
         mults_long = ey;
-        R-long = length-replicate max_rows (pos 0);
-        D-long = length-replicate max_columns (pos 0);
-        C-long = refl;
-        B-long = refl;
+        r_long = length-replicate max_rows (pos 0);
+        d_long = length-replicate max_columns (pos 0);
+        c_long = refl;
+        b_long = refl;
         counts_long = refl;
       }
 
@@ -149,6 +149,6 @@ module _ (s : Sheet) (z : Shaped s) where
       let k = s.kept in
       behind s.plan.amounts _ max_columns (max_rows + (max_rows + max_columns)) z.amounts_long
       ∙ behind s.plan.mults _ max_rows (max_rows + max_columns) z.mults_long
-      ∙ behind k.R _ max_rows max_columns z.R-long
-      ∙ behind k.D (k.C ++ (k.B ++ k.counts)) max_columns 0 z.D-long
-      ∙ first_of k.C (k.B ++ k.counts) z.C-long
+      ∙ behind k.R _ max_rows max_columns z.r_long
+      ∙ behind k.D (k.C ++ (k.B ++ k.counts)) max_columns 0 z.d_long
+      ∙ first_of k.C (k.B ++ k.counts) z.c_long

@@ -1,10 +1,12 @@
 // The night call's definitions, the types that they share with its code, and how sections are written (02, Ask 14).
+#![tactic(auto)]
+
 ghost use Rattle.std.specs.Prelude.{◌≡◌, ◌+◌, ◌≤◌, length};
 ghost use Rattle.lu_packed.specs.Written.{written};
 
 // What came of a stage's audit: nothing was proposed, as the run was refused or didn't end in 0; a proposed number
 // isn't whole; opening refused with this number; or the sheet was opened and judged.
-#[derive(Drop)]
+#[derive(Clone, Copy)]
 pub enum Audit {
     NotRun,
     NotWhole(whole_propose::Proposal),
@@ -12,14 +14,14 @@ pub enum Audit {
     Judged(sheet_rules::Verdict),
 }
 
-#[derive(Drop)]
+#[derive(Clone, Copy)]
 pub struct Stage {
     pub run: rules::Answer,
     pub audit: Audit,
 }
 
 // The answer of the night. The first five stops after the first stage are in the order in which 02 has them.
-#[derive(Drop)]
+#[derive(Clone, Copy)]
 pub enum NightAnswer {
     ShortMemory,
     NoGap(Stage),
@@ -34,7 +36,7 @@ pub enum NightAnswer {
 }
 
 // What the tests after the first stage say.
-#[derive(Drop)]
+#[derive(Clone, Copy)]
 pub enum Next {
     Stops(NightAnswer),
     Goes,

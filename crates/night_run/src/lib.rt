@@ -1,5 +1,7 @@
 // The night's public call (02, Ask 14): alarms first, then the rest. It asks nothing: whatever is lent, the answer and
 // every lent cell afterwards are settled.
+#![tactic(auto)]
+
 ghost use Rattle.std.specs.Prelude.{◌≡◌, [], ◌≤◌};
 ghost use Rattle.doubles.specs.Limits.{max_rows, max_columns};
 ghost use Rattle.sheet_rules.specs.Sheet.{plan_of};

@@ -1,4 +1,6 @@
 // Between the stages of the night: the tests after the first, and the second stage's plan (02, Ask 14).
+#![tactic(auto)]
+
 ghost use Rattle.std.specs.Prelude.{◌≡◌, [], ◌∷◌, ◌++◌, ◌+◌, ◌*◌, ◌≤◌, ◌<◌, length, take};
 ghost use Rattle.doubles.specs.Limits.{max_rows, max_columns};
 ghost use Rattle.lu_packed.specs.Written.{written};

@@ -1,5 +1,7 @@
 // A stage's audit over arrays of its own: propose, open, judge. Its section is written exactly where the sheet is
 // opened (02, Ask 14).
+#![tactic(auto)]
+
 ghost use Rattle.std.specs.Prelude.{◌≡◌, [], ◌≤◌, length};
 ghost use Rattle.lu_packed.specs.Written.{written};
 ghost use Rattle.sheet_rules.specs.Sheet.{plan_of};

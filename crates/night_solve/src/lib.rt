@@ -1,4 +1,6 @@
 // A stage's plan handed to the solver: in doubles, and solved (02, Ask 14).
+#![tactic(auto)]
+
 ghost use Rattle.std.specs.Prelude.{◌≡◌, [], ◌+◌, replicate};
 ghost use Rattle.sheet_rules.specs.Sheet.{plan_of};
 ghost use Rattle.doubles.specs.Limits.{max_rows};

@@ -1,5 +1,7 @@
 // One stage of the night: a sheet's plan is handed to the solver, the run's numbers are rounded, and the sheet with
 // them is opened and judged (02, Ask 14).
+#![tactic(auto)]
+
 ghost use Rattle.std.specs.Prelude.{◌≡◌, [], ◌≤◌, length};
 ghost use Rattle.sheet_rules.specs.Sheet.{plan_of};
 ghost use Rattle.night_rules.specs.Arrays.{arrays_of};

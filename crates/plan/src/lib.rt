@@ -1,6 +1,8 @@
 // 01, "When the gateway says no": refusals 1 to 5, which read the plan alone, and the rows that are kept. 2 is asked of
 // `plan_numbers`.
 // From minilp 0.2.2, src/solver.rs, try_new, Apache-2.0, changed: 01's refusals, and the first place of each.
+#![tactic(auto)]
+
 ghost use Rattle.std.specs.Prelude.{◌≡◌, true, [], ◌<◌, ◌≤◌, ◌+◌, length, leb};
 ghost use Rattle.doubles.specs.Num.{f0};
 ghost use Rattle.doubles.specs.Loop.{all};
@@ -12,13 +14,13 @@ ghost use Rattle.plan.specs.Lent.{rows_of, bounds_of, empties_of, RowIn, Rows, F
 ghost use Rattle.plan.specs.Refused.{bad_entry, refusal_of};
 
 // The first entry, row by row, whose column number is too large or doesn't rise.
-#[derive(Drop)]
+#[derive(Clone, Copy)]
 pub enum Bad {
     Entry { row: usize, place: usize },
     Nothing,
 }
 
-#[derive(Drop)]
+#[derive(Clone, Copy)]
 pub enum Refusal {
     By(rules::Answer),
     Nothing,

@@ -1,4 +1,6 @@
 // 01, "When the gateway says no": refusal 2, for which each number of the plan is tested by itself.
+#![tactic(auto)]
+
 ghost use Rattle.std.specs.Prelude.{◌≡◌, ◌≤◌, length};
 ghost use Rattle.doubles.specs.Num.{finite};
 ghost use Rattle.doubles.specs.Loop.{all};

@@ -2,6 +2,8 @@
 // oracle's BasisSolver. The input is words of eight bytes, the lowest byte first: how many stores; then for each its
 // columns, entries and listed places, the leaving rows, the starts, the row numbers and the bits of the coefficients,
 // the listed places and the bits of their values.
+#![tactic(auto)]
+
 ghost use Rattle.std.specs.Prelude.{◌≡◌, ◌≤◌, ltb, length};
 ghost use Rattle.doubles.specs.Limits.{places};
 ghost use Rattle.doubles.specs.Lists.{◌#◌};
@@ -9,6 +11,9 @@ ghost use Rattle.doubles.specs.Loop.{all};
 ghost use Rattle.sparse.specs.Scattered.{Within};
 ghost use Rattle.rules.specs.Parts.{etas_of};
 ghost use Rattle.basis_etas.specs.Store.{Readable};
+
+use std::io;
+use std::io::{BufReader, BufWriter, Read, Write};
 
 // Whether every cell is a place of the vector.
 fn all_places(at: &[usize]) -> bool
@@ -25,25 +30,27 @@ fn all_places(at: &[usize]) -> bool
 }
 
 // How many places are listed, and each with the bits of its value, in listed order.
-fn show(values: &[f64; doubles::PLACES], list: &[usize; doubles::PLACES], count: usize) {
-    words::hex(count as u64, 0);
-    words::end_line();
-    let mut k = 0;
-    while k < doubles::PLACES {
-        if k == count {
-            return;
-        }
-        let i = list[k];
+fn show<W: Write>(
+    out: &mut W,
+    values: &[f64; doubles::PLACES],
+    list: &[usize; doubles::PLACES],
+    count: usize,
+) -> io::Result<()> {
+    words::hex(out, count as u64, 0)?;
+    words::end_line(out)?;
+    for place in list.iter().take(count) {
+        let i = *place;
         if i < doubles::PLACES {
-            words::hex(i as u64, 0);
-            words::double(values[i]);
-            words::end_line();
+            words::hex(out, i as u64, 0)?;
+            words::double(out, values[i])?;
+            words::end_line(out)?;
         }
-        k += 1;
     }
+    Ok(())
 }
 
-fn column_solve(
+fn column_solve<W: Write>(
+    out: &mut W,
     leaving: &[usize],
     starts: &[usize],
     rows: &[usize],
@@ -52,7 +59,7 @@ fn column_solve(
     at: &[usize],
     xs: &[f64],
     listed: usize,
-)
+) -> io::Result<()>
     requires { Readable (etas_of leaving.now starts.now rows.now coeffs.now) n × (listed ≤ length at.now) ×
         (listed ≤ length xs.now) × Within places listed at.now }
 {
@@ -71,10 +78,11 @@ fn column_solve(
         coeffs,
         n,
     );
-    show(&values, &list, c);
+    show(out, &values, &list, c)
 }
 
-fn row_solve(
+fn row_solve<W: Write>(
+    out: &mut W,
     leaving: &[usize],
     starts: &[usize],
     rows: &[usize],
@@ -83,7 +91,7 @@ fn row_solve(
     at: &[usize],
     xs: &[f64],
     listed: usize,
-)
+) -> io::Result<()>
     requires { Readable (etas_of leaving.now starts.now rows.now coeffs.now) n × (listed ≤ length at.now) ×
         (listed ≤ length xs.now) × Within places listed at.now }
 {
@@ -102,11 +110,12 @@ fn row_solve(
         coeffs,
         n,
     );
-    show(&values, &list, c);
+    show(out, &values, &list, c)
 }
 
 // Both solves of a store that can be read; nothing of another.
-fn solve_both(
+fn solve_both<W: Write>(
+    out: &mut W,
     leaving: &[usize],
     starts: &[usize],
     rows: &[usize],
@@ -116,7 +125,7 @@ fn solve_both(
     at: &[usize],
     xs: &[f64],
     listed: usize,
-) {
+) -> io::Result<()> {
     if !((n <= leaving.len())
         & (n < starts.len())
         & (entries <= rows.len())
@@ -124,47 +133,49 @@ fn solve_both(
         & (listed <= at.len())
         & (listed <= xs.len()))
     {
-        return;
+        return Ok(());
     }
     if !(plan::starts_rise(n, entries, starts)
         & all_places(leaving)
         & all_places(rows)
         & all_places(at))
     {
-        return;
+        return Ok(());
     }
-    column_solve(leaving, starts, rows, coeffs, n, at, xs, listed);
-    row_solve(leaving, starts, rows, coeffs, n, at, xs, listed);
+    column_solve(out, leaving, starts, rows, coeffs, n, at, xs, listed)?;
+    row_solve(out, leaving, starts, rows, coeffs, n, at, xs, listed)
 }
 
-fn store() {
+fn store<R: Read, W: Write>(input: &mut R, out: &mut W) -> io::Result<()> {
     let mut leaving = [0usize; doubles::ETA_COLUMNS];
     let mut starts = [0usize; doubles::ETA_COLUMNS + 1];
     let mut rows = [0usize; doubles::ETA_ENTRIES];
     let mut coeffs = [0.0; doubles::ETA_ENTRIES];
     let mut at = [0usize; doubles::PLACES];
     let mut xs = [0.0; doubles::PLACES];
-    let n = words::next_place();
-    let entries = words::next_place();
-    let listed = words::next_place();
+    let n = words::next_place(input);
+    let entries = words::next_place(input);
+    let listed = words::next_place(input);
     if doubles::ETA_COLUMNS < n {
-        return;
+        return Ok(());
     }
-    words::fill_places(&mut leaving, n);
-    words::fill_places(&mut starts, n + 1);
-    words::fill_places(&mut rows, entries);
-    words::fill_doubles(&mut coeffs, entries);
-    words::fill_places(&mut at, listed);
-    words::fill_doubles(&mut xs, listed);
+    words::fill_places(input, &mut leaving, n);
+    words::fill_places(input, &mut starts, n + 1);
+    words::fill_places(input, &mut rows, entries);
+    words::fill_doubles(input, &mut coeffs, entries);
+    words::fill_places(input, &mut at, listed);
+    words::fill_doubles(input, &mut xs, listed);
     solve_both(
-        &leaving, &starts, &rows, &coeffs, n, entries, &at, &xs, listed,
-    );
+        out, &leaving, &starts, &rows, &coeffs, n, entries, &at, &xs, listed,
+    )
 }
 
-fn main() {
-    let mut left = words::next();
-    while 0 < left {
-        store();
-        left -= 1;
+fn main(rt: HostRuntime) -> io::Result<()> {
+    let mut input = BufReader::new(rt.alloc(), rt.reader())?;
+    let mut out = BufWriter::new(rt.alloc(), io::writer(&rt))?;
+    let count = words::next(&mut input);
+    for _ in 0..count {
+        store(&mut input, &mut out)?;
     }
+    out.flush()
 }

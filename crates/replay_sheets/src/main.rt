@@ -4,8 +4,12 @@
 // length; then the steps, each of five words: the number of the array that it writes, or 15 for an edit; the index or
 // the kind; the row; the column; the number. Opening is lent arrays of the lengths that the input says. An edit and a
 // verdict are lent longer ones: what stands past a sheet's size is no part of it.
+#![tactic(auto)]
+
 ghost use Rattle.words.specs.Counts.{Counts};
 
+use std::io;
+use std::io::{BufReader, BufWriter, Read, Write};
 use words_sheet::{COEFS, COLUMNS, ROWS, show_kept, show_plan};
 
 const SIGN: u64 = 0x8000_0000_0000_0000;
@@ -20,28 +24,23 @@ fn signed_of(word: u64) -> i64 {
     LEAST + (word - SIGN) as i64
 }
 
-fn next_signed() -> i64 {
-    signed_of(words::next())
+fn next_signed<R: Read>(input: &mut R) -> i64 {
+    signed_of(words::next(input))
 }
 
 // The first n cells, or all.
-fn fill_signed(out: &mut [i64], n: usize) {
-    let mut k = 0;
-    while k < out.len() {
-        if k == n {
-            return;
-        }
-        out[k] = next_signed();
-        k += 1;
+fn fill_signed<R: Read>(input: &mut R, out: &mut [i64], n: usize) {
+    for cell in out.iter_mut().take(n) {
+        *cell = next_signed(input);
     }
 }
 
 // A length, then so many cells: how many of the array are lent.
-fn read_signed(out: &mut [i64]) -> usize
+fn read_signed<R: Read>(input: &mut R, out: &mut [i64]) -> usize
     ensures { Counts result out.new }
 {
-    let n = words::least(words::next_place(), out.len());
-    fill_signed(out, n);
+    let n = words::least(words::next_place(input), out.len());
+    fill_signed(input, out, n);
     n
 }
 
@@ -101,7 +100,9 @@ fn disturb(
     poke(counts, which == 14, at, number);
 }
 
-fn step(
+fn step<R: Read, W: Write>(
+    input: &mut R,
+    out: &mut W,
     rows: usize,
     columns: usize,
     coefs: &mut [i64; COEFS],
@@ -119,12 +120,12 @@ fn step(
     c: &mut [i64; 1],
     b: &mut [i64; 1],
     counts: &mut [i64; 4],
-) {
-    let which = words::next_place();
-    let kind = words::next_place();
-    let row = words::next_place();
-    let column = words::next_place();
-    let word = words::next();
+) -> io::Result<()> {
+    let which = words::next_place(input);
+    let kind = words::next_place(input);
+    let row = words::next_place(input);
+    let column = words::next_place(input);
+    let word = words::next(input);
     disturb(
         which,
         kind,
@@ -146,7 +147,7 @@ fn step(
         counts,
     );
     if which != 15 {
-        return;
+        return Ok(());
     }
     let status = sheet::edit(
         kind,
@@ -171,9 +172,10 @@ fn step(
         b,
         counts,
     );
-    words::text(b"edit");
-    words::place(status);
+    words::text(out, b"edit")?;
+    words::place(out, status)?;
     show_kept(
+        out,
         rows,
         columns,
         coefs,
@@ -191,10 +193,12 @@ fn step(
         c,
         b,
         counts,
-    );
+    )
 }
 
-fn play(
+fn play<R: Read, W: Write>(
+    input: &mut R,
+    out: &mut W,
     steps: u64,
     rows: usize,
     columns: usize,
@@ -213,10 +217,11 @@ fn play(
     c: &mut [i64; 1],
     b: &mut [i64; 1],
     counts: &mut [i64; 4],
-) {
-    let mut left = steps;
-    while 0 < left {
+) -> io::Result<()> {
+    for _ in 0..steps {
         step(
+            input,
+            out,
             rows,
             columns,
             coefs,
@@ -234,12 +239,12 @@ fn play(
             c,
             b,
             counts,
-        );
-        left -= 1;
+        )?;
     }
+    Ok(())
 }
 
-fn sheet() {
+fn sheet<R: Read, W: Write>(input: &mut R, out: &mut W) -> io::Result<()> {
     let mut coefs = [0i64; COEFS];
     let mut costs = [0i64; COLUMNS];
     let mut lowers = [0i64; COLUMNS];
@@ -255,19 +260,19 @@ fn sheet() {
     let mut c = [0i64; 1];
     let mut b = [0i64; 1];
     let mut counts = [0i64; 4];
-    let rows = words::next_place();
-    let columns = words::next_place();
-    let steps = words::next();
-    let n_coefs = read_signed(&mut coefs);
-    let n_costs = read_signed(&mut costs);
-    let n_lowers = read_signed(&mut lowers);
-    let n_uppers = read_signed(&mut uppers);
-    let n_lower_marks = words::read_bytes(&mut lower_marks);
-    let n_upper_marks = words::read_bytes(&mut upper_marks);
-    let n_rights = read_signed(&mut rhs);
-    let n_ops = words::read_bytes(&mut ops);
-    let n_amounts = read_signed(&mut amounts);
-    let n_mults = read_signed(&mut mults);
+    let rows = words::next_place(input);
+    let columns = words::next_place(input);
+    let steps = words::next(input);
+    let n_coefs = read_signed(input, &mut coefs);
+    let n_costs = read_signed(input, &mut costs);
+    let n_lowers = read_signed(input, &mut lowers);
+    let n_uppers = read_signed(input, &mut uppers);
+    let n_lower_marks = words::read_bytes(input, &mut lower_marks);
+    let n_upper_marks = words::read_bytes(input, &mut upper_marks);
+    let n_rights = read_signed(input, &mut rhs);
+    let n_ops = words::read_bytes(input, &mut ops);
+    let n_amounts = read_signed(input, &mut amounts);
+    let n_mults = read_signed(input, &mut mults);
     let status = sheet::open(
         rows,
         columns,
@@ -287,13 +292,14 @@ fn sheet() {
         &mut b,
         &mut counts,
     );
-    words::text(b"open");
-    words::place(status);
+    words::text(out, b"open")?;
+    words::place(out, status)?;
     if status != 0 {
-        words::end_line();
-        return;
+        words::end_line(out)?;
+        return Ok(());
     }
     show_kept(
+        out,
         rows,
         columns,
         &coefs,
@@ -311,8 +317,10 @@ fn sheet() {
         &c,
         &b,
         &counts,
-    );
+    )?;
     play(
+        input,
+        out,
         steps,
         rows,
         columns,
@@ -331,8 +339,9 @@ fn sheet() {
         &mut c,
         &mut b,
         &mut counts,
-    );
+    )?;
     show_plan(
+        out,
         n_coefs,
         n_costs,
         n_lowers,
@@ -353,13 +362,15 @@ fn sheet() {
         &ops,
         &amounts,
         &mults,
-    );
+    )
 }
 
-fn main() {
-    let mut left = words::next();
-    while 0 < left {
-        sheet();
-        left -= 1;
+fn main(rt: HostRuntime) -> io::Result<()> {
+    let mut input = BufReader::new(rt.alloc(), rt.reader())?;
+    let mut out = BufWriter::new(rt.alloc(), io::writer(&rt))?;
+    let count = words::next(&mut input);
+    for _ in 0..count {
+        sheet(&mut input, &mut out)?;
     }
+    out.flush()
 }

@@ -1,5 +1,7 @@
 // docs/RULES-02.md, "Beyond: reprice": the call over a plan and the memory that a run over the same rows and bounds
 // left. Any bytes in, the answer and every lent cell out.
+#![tactic(auto)]
+
 ghost use Rattle.std.specs.Prelude.{◌≡◌};
 ghost use Rattle.rules.specs.Parts.{plan_of};
 ghost use Rattle.state.specs.Memory.{memory_in, past_of};

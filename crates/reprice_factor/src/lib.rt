@@ -1,6 +1,8 @@
 // docs/RULES-02.md, "Beyond: reprice", parts 1 and 2 where eta columns are stored: the basis as it stands, factored in
 // lent arrays that aren't the state's, and the multipliers out of that factor. From minilp 0.2.2, src/solver.rs
 // (BasisSolver::reset and recalc_obj_coeffs), Apache-2.0, changed: when it is called, and the arrays are lent.
+#![tactic(auto)]
+
 ghost use Rattle.std.specs.Prelude.{◌≡◌, ◌≤◌, length, replicate};
 ghost use Rattle.doubles.specs.Num.{f0};
 ghost use Rattle.doubles.specs.Limits.{max_rows};

@@ -1,6 +1,8 @@
 // docs/RULES-02.md, "Beyond: reprice": the costs of the basis, the multipliers, the prices and the objective, worked
 // out anew; nothing of the state is written. From minilp 0.2.2, src/solver.rs (recalc_obj_coeffs), Apache-2.0, changed:
 // sums from 0.0, and the matrix by columns is lent.
+#![tactic(auto)]
+
 ghost use Rattle.std.specs.Prelude.{◌≡◌, [], ◌≤◌, length, replicate};
 ghost use Rattle.doubles.specs.Num.{f0};
 ghost use Rattle.doubles.specs.Limits.{max_rows, max_columns};

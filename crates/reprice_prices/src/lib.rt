@@ -1,6 +1,8 @@
 // docs/RULES-02.md, "Beyond: reprice", parts 2 to 5 over the lent state: the multipliers where no eta column is stored;
 // prices and objective for given ones, every number tested, and only then anything stored. From minilp 0.2.2,
 // src/solver.rs (recalc_obj_coeffs), Apache-2.0, changed: 23.
+#![tactic(auto)]
+
 ghost use Rattle.std.specs.Prelude.{◌≡◌, ◌&&◌, List, [], ℕ, ◌≤◌, length, replicate, Float};
 ghost use Rattle.doubles.specs.Num.{f0, finite};
 ghost use Rattle.doubles.specs.Limits.{max_rows, max_columns};
@@ -17,7 +19,7 @@ ghost use Rattle.reprice_prices.specs.Lent.{priced_of, Prices};
 ghost use Rattle.reprice_prices.specs.Left.{after_own, own_left};
 
 // The numbers of the state to go on from that stand in no array, or why there is none.
-#[derive(Drop)]
+#[derive(Clone, Copy)]
 pub enum Own {
     Goes(state::Tally),
     Halts(rules::Stop),

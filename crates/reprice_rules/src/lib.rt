@@ -1,7 +1,9 @@
 // The answer of a solve from any start, with the way that it took. A plan that solve refuses with 7 is solved with
 // costs 0, from where every start is dual feasible, and the basis that this leaves is priced anew with the plan's own
 // costs.
-#[derive(Drop)]
+#![tactic(auto)]
+
+#[derive(Clone, Copy)]
 pub enum AnyAnswer {
     // what solve says, other than 7
     Direct(rules::Answer),

@@ -1,5 +1,7 @@
 // docs/RULES-02.md, "Beyond: reprice": from the state that a run left to the end of the call's own run: parts 1 to 5,
 // "Then primal steps until no column enters, with the budget from 0".
+#![tactic(auto)]
+
 ghost use Rattle.std.specs.Prelude.{◌≡◌};
 ghost use Rattle.state.specs.Packed.{state_in};
 ghost use Rattle.run.specs.Ran.{ran_by};

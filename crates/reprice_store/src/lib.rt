@@ -1,6 +1,8 @@
 // docs/RULES-02.md, "Beyond: reprice", parts 1 to 5 over the lent state: the basis is factored in local arrays where
 // eta columns are stored, every number is tested, and only then is anything stored. From minilp 0.2.2, src/solver.rs
 // (recalc_obj_coeffs and BasisSolver::reset), Apache-2.0, changed: when it is called, and 23 and 25.
+#![tactic(auto)]
+
 ghost use Rattle.std.specs.Prelude.{◌≡◌, List, ℕ, length, Float};
 ghost use Rattle.lu_factor_rules.specs.Factor.{factored, factorize};
 ghost use Rattle.lu_factor_rules.specs.Counted.{factor_at};

@@ -148,7 +148,7 @@ module _ (P : Problem) where
   both_end (stayed (Stop-as-Infeasible k) t h) = h
 
   -- ---- k steps on, it goes on from there
-  goes_on : {s t : State} {b c : Kind} {k : ℕ} → Steps P s b c k t → (n j : ℕ) → n ≡ k + j → s.steps + n ≡ P.plan.budget
+  goes_on : {s : State} {b : Kind} {t : State} {c : Kind} {k : ℕ} → Steps P s b c k t → (n j : ℕ) → n ≡ k + j → s.steps + n ≡ P.plan.budget
       → goes_from b n s ≡ goes_from c j t
   unfolding until next dual_next run_of
   goes_on {s} {b} none n j h l = let z : n ≡ j = omega arith in ap (λ (i : ℕ). goes_from b i s) z

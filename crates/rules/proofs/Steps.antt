@@ -140,9 +140,9 @@ module _ (P : Problem) (s : State) where
   last_primal (turns r c) = by_turn r
   last_primal (one_more {t = t} e i r c q) = by_step t e i r c q
 
-  same_none : {b : Kind} {u : State} → Steps P s b b zero u → s ≡ u
-  same_none none = refl
-  same_none (turns r c) = absurd (no_dual r)
+  same_none : {b c : Kind} {u : State} → b ≡ c → Steps P s b c zero u → s ≡ u
+  same_none e none = refl
+  same_none {u = u} e (turns r c) = absurd (no_dual (subst (λ (x : Kind). Steps P s x dual zero u) e r))
 
   same_turned : {b : Kind} {k : ℕ} {t u : State} → Steps P s b dual k t → Steps P s b primal k u → t ≡ u
   same_turned h none = absurd (no_dual h)
@@ -150,7 +150,7 @@ module _ (P : Problem) (s : State) where
   same_turned h (one_more e i r c q) = absurd (turned r h)
 
   pub steps_same : {b c : Kind} {k : ℕ} {t u : State} → Steps P s b c k t → Steps P s b c k u → t ≡ u
-  steps_same none h = same_none h
+  steps_same none h = same_none refl h
   steps_same (one_dual l i r c q) h = dual_same (one_dual l i r c q) h
   steps_same (turns r c) h = same_turned r h
   steps_same {b = b} {u = u'} (one_more {k} {t} {u} e i r c q) h = go (λ v x. steps_same r x) (last_primal h)

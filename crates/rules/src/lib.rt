@@ -1,15 +1,16 @@
 // The types that the solver's code and its definitions share.
 // From minilp 0.2.2, src/solver.rs, Apache-2.0, changed.
+#![tactic(auto)]
 
 // Where a variable stands: its row, or its place among the non-basic ones.
-#[derive(Drop)]
+#[derive(Clone, Copy)]
 pub enum VarState {
     Basic(usize),
     NonBasic(usize),
 }
 
 // 02, Ask 9: `fixed` is the mark of a column that is held still. It has all three then, so that no bound rule lets it move.
-#[derive(Drop)]
+#[derive(Clone, Copy)]
 pub struct NonBasicVarState {
     pub at_min: bool,
     pub at_max: bool,
@@ -17,7 +18,7 @@ pub struct NonBasicVarState {
 }
 
 // 01: "The entering column travels with its price, score and distance".
-#[derive(Drop)]
+#[derive(Clone, Copy)]
 pub struct Entering {
     pub col: usize,
     pub price: f64,
@@ -25,7 +26,7 @@ pub struct Entering {
     pub distance: f64,
 }
 
-#[derive(Drop)]
+#[derive(Clone, Copy)]
 pub enum Choice {
     Enters(Entering),
     Nothing,
@@ -33,7 +34,7 @@ pub enum Choice {
 
 // 02, Ask 8: the leaving row of a dual step travels as the entering column does, with its infeasibility and score, and
 // with the value that its variable is to take.
-#[derive(Drop)]
+#[derive(Clone, Copy)]
 pub struct LeavingVar {
     pub row: usize,
     pub infeasibility: f64,
@@ -41,7 +42,7 @@ pub struct LeavingVar {
     pub value: f64,
 }
 
-#[derive(Drop)]
+#[derive(Clone, Copy)]
 pub enum RowChoice {
     Leaves(LeavingVar),
     Nothing,
@@ -49,7 +50,7 @@ pub enum RowChoice {
 
 // What the ratio on prices gives: the entering column with its value, difference and pivot; no column; or a quotient
 // that isn't finite.
-#[derive(Drop)]
+#[derive(Clone, Copy)]
 pub enum DualRatio {
     Exchange {
         entering: Entering,
@@ -62,7 +63,7 @@ pub enum DualRatio {
 }
 
 // 01: "The answer to a choice carries just the numbers of its own case".
-#[derive(Drop)]
+#[derive(Clone, Copy)]
 pub enum PivotInfo {
     Flip {
         value: f64,
@@ -77,7 +78,7 @@ pub enum PivotInfo {
     },
 }
 
-#[derive(Drop)]
+#[derive(Clone, Copy)]
 pub enum Ratio {
     Pivot(PivotInfo),
     Unbounded,
@@ -85,7 +86,7 @@ pub enum Ratio {
 }
 
 // Why a run ends.
-#[derive(Drop)]
+#[derive(Clone, Copy)]
 pub enum Stop {
     Finished,
     Spent,
@@ -98,14 +99,14 @@ pub enum Stop {
 
 // The largest excess so far and its place: a value's number, or the number of values and then a kept row's. `at` is the
 // number of all places where nothing exceeds 0.0.
-#[derive(Drop)]
+#[derive(Clone, Copy)]
 pub struct Worst {
     pub at: usize,
     pub excess: f64,
 }
 
 // What the final check says, with the largest excess: a rejection names its place, a value or a kept row.
-#[derive(Drop)]
+#[derive(Clone, Copy)]
 pub enum Checked {
     Passed(f64),
     Value { value: usize, excess: f64 },
@@ -114,7 +115,7 @@ pub enum Checked {
 
 // The answer of a solve. Those that a run gives carry the objective and the steps, those that the final check gives its
 // excess too.
-#[derive(Drop)]
+#[derive(Clone, Copy)]
 pub enum Answer {
     Optimal {
         objective: f64,

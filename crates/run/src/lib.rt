@@ -1,5 +1,7 @@
 // The run: primal steps until none is called for, the budget is spent, or a step gives no state.
 // From minilp 0.2.2, src/solver.rs, optimize, Apache-2.0, changed: 01's budget, and the answers of a step end it.
+#![tactic(auto)]
+
 ghost use Rattle.std.specs.Prelude.{◌≡◌, ◌-◌, ◌<◌, ◌≤◌, length};
 ghost use Rattle.doubles.specs.Limits.{max_budget};
 ghost use Rattle.rules.specs.Parts.{rowed};
@@ -12,7 +14,7 @@ ghost use Rattle.run.specs.Lent.{Running};
 
 // Why a run ends, and the numbers of its last state that stand in no array. 01: "The step count in the
 // answer is the number of steps the rules took".
-#[derive(Drop)]
+#[derive(Clone, Copy)]
 pub struct Ran {
     pub why: rules::Stop,
     pub at: state::Tally,

@@ -1,6 +1,8 @@
 // The run from dual steps on: until no row leaves, the budget is spent, or a step gives no state; then primal ones.
 // From minilp 0.2.2, src/solver.rs, restore_feasibility, Apache-2.0, changed: 01's budget, and the answers of a step end
 // it.
+#![tactic(auto)]
+
 ghost use Rattle.std.specs.Prelude.{◌≡◌, ◌-◌, ◌<◌, ◌≤◌, length};
 ghost use Rattle.doubles.specs.Limits.{max_budget};
 ghost use Rattle.rules.specs.Parts.{rowed};

@@ -1,4 +1,6 @@
 // From the start's numbers, which have passed 6 and 7, to the end of the run; and a run from any state that fits.
+#![tactic(auto)]
+
 ghost use Rattle.std.specs.Prelude.{◌≡◌, ◌≤◌};
 ghost use Rattle.doubles.specs.Limits.{max_budget};
 ghost use Rattle.state.specs.Packed.{packed, state_in};

@@ -1,5 +1,7 @@
 // The audit sheet's public calls that write. They ask nothing: whatever is lent, the answer and every lent cell
 // afterwards are settled.
+#![tactic(auto)]
+
 ghost use Rattle.sheet_rules.specs.Sheet.{plan_of, kept_of, sheet_of};
 ghost use Rattle.sheet_rules.specs.Promises.{Opens, Edits};
 

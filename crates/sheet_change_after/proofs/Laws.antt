@@ -10,7 +10,7 @@ use Rattle.sheet_rules.specs.Sheet.{Plan, Sheet, sheet_of, a, c, x, Y}
 use Rattle.sheet_rules.specs.Edit.{moved_r, moved_d}
 use Rattle.sheet_rules.specs.Touches.{R, D, touches}
 use Rattle.sheet_rules.specs.declared.Edit.{Edit}
-use Rattle.sheet_rules.proofs.Touched.{R-still, D-still}
+use Rattle.sheet_rules.proofs.Touched.{r_still, d_still}
 use Rattle.sheet_rules.proofs.Moves.{amount_r, cost_d, coef_r, coef_d, mult_d}
 use Rattle.sheet_change_moves.specs.After.{Ready}
 use Rattle.sheet_change_after.specs.Change.{PlanReady, row_change, price_change}
@@ -34,7 +34,7 @@ module _ (p : Plan) (e : Edit) (g : PlanReady p e) where
   -- ---- R
   none_r : (i : ℕ) → i < p.rows → touches s e (R i) ≡ false → row_change p e i ≡ pos 0
   unfolding row_change moved_r
-  none_r i l t = cancel (g.kept.R ‼ i) _ (pos 0) (R-still s e y.index i l t ∙ sym (+ℤ_idr (g.kept.R ‼ i)))
+  none_r i l t = cancel (g.kept.R ‼ i) _ (pos 0) (r_still s e y.index i l t ∙ sym (+ℤ_idr (g.kept.R ‼ i)))
 
   pub row_1 : e.kind ≡ 1 → (i : ℕ) → row_change p e i ≡ a p i e.column *ℤ (v -ℤ x p e.column)
   unfolding row_change moved_r
@@ -55,7 +55,7 @@ module _ (p : Plan) (e : Edit) (g : PlanReady p e) where
   -- ---- D
   none_d : (j : ℕ) → j < p.cols → touches s e (D j) ≡ false → price_change p e j ≡ pos 0
   unfolding price_change moved_d
-  none_d j l t = cancel (g.kept.D ‼ j) _ (pos 0) (D-still s e y.index j l t ∙ sym (+ℤ_idr (g.kept.D ‼ j)))
+  none_d j l t = cancel (g.kept.D ‼ j) _ (pos 0) (d_still s e y.index j l t ∙ sym (+ℤ_idr (g.kept.D ‼ j)))
 
   pub price_2 : e.kind ≡ 2 → (j : ℕ) → j ≡ e.column → price_change p e j ≡ pos unit *ℤ (v -ℤ c p j)
   unfolding price_change moved_d

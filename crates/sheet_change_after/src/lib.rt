@@ -1,4 +1,6 @@
 // What an edit leaves of every kept number. All functions read only.
+#![tactic(auto)]
+
 ghost use Rattle.std.specs.Prelude.{◌≡◌, ◌≤◌, ◌<◌, nat_abs, ◌+ℤ◌};
 ghost use Rattle.doubles.specs.Limits.{max_r, max_d};
 ghost use Rattle.doubles.specs.Loop.{all};

@@ -1,4 +1,6 @@
 // What an edit is refused for, and its cell as it was. All functions read only.
+#![tactic(auto)]
+
 ghost use Rattle.std.specs.Prelude.{◌≡◌, not, ◌||◌, ◌<◌};
 ghost use Rattle.sheet_rules.specs.Sheet.{plan_of, kept_of, sheet_of};
 ghost use Rattle.sheet_rules.specs.Words.{Sized, Index, NumberIn};
@@ -10,14 +12,14 @@ use sheet_rules::Edit;
 use sheet_terms::size;
 
 // A kind's refusal, 0 for a kind of today, and the limit of the number handed in.
-#[derive(Drop)]
+#[derive(Clone, Copy)]
 pub struct Rule {
     pub refusal: usize,
     pub limit: u64,
 }
 
 // A cell's number and mark; one that isn't a bound counts as present.
-#[derive(Drop)]
+#[derive(Clone, Copy)]
 pub struct Cell {
     pub number: i64,
     pub mark: u8,

@@ -1,4 +1,6 @@
 // How the counts' terms and B's move with an edit, and C, B and the counts by value. All functions read only.
+#![tactic(auto)]
+
 ghost use Rattle.std.specs.Prelude.{◌≡◌, not, ◌*◌, ◌≤◌, length, nat_abs, ◌-ℤ◌, ◌*ℤ◌};
 ghost use Rattle.doubles.specs.Limits.{max_rows, max_columns, max_coefficient, max_amount, max_multiplier, max_bound, max_r, max_d};
 ghost use Rattle.sheet_rules.specs.Sum.{bit};
@@ -9,7 +11,7 @@ ghost use Rattle.sheet_change_moves.specs.After.{ColumnSmall, RowSmall, broken_c
 use sheet_terms::{bit, is_zero, term};
 
 // C, B and the four counts.
-#[derive(Drop)]
+#[derive(Clone, Copy)]
 pub struct Totals {
     pub cost: i64,
     pub floor: i64,

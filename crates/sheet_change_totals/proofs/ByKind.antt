@@ -17,7 +17,7 @@ use Rattle.sheet_rules.specs.Touches.{C, count, touches}
 use Rattle.sheet_rules.specs.declared.Edit.{Edit}
 use Rattle.sheet_rules.proofs.Sums.{sum_ext, change_none}
 use Rattle.sheet_rules.proofs.Stays.{put_length}
-use Rattle.sheet_rules.proofs.Touched.{R-still, D-still, C-still, broken_still, outside_still, wrong_still, absent_still}
+use Rattle.sheet_rules.proofs.Touched.{r_still, d_still, cost_still, broken_still, outside_still, wrong_still, absent_still}
 use Rattle.sheet_rules.proofs.Moves.{amount_r, cost_d, coef_r, coef_d, mult_d, terms_one, lacks_one, broken_one}
 use Rattle.sheet_change_moves.specs.After.{Ready, totals_after, broken_change, terms_change, absent_change}
 use Rattle.sheet_change_moves.specs.declared.Totals.{Totals}
@@ -102,7 +102,7 @@ module _ (s : Sheet) (e : Edit) (g : Ready s e) where
     price_is : (b : Bool) → eqb e.kind 2 ≡ b → pick b (k.D ‼ j +ℤ pos unit *ℤ (v -ℤ c p j)) (k.D ‼ j) ≡ moved_d s e j
     unfolding touches
     price_is true w = sym (cost_d s e g.sized g.index (eqb-true _ _ w))
-    price_is false w = sym (D-still s e g.index j inside (rw (w, n6, n7)))
+    price_is false w = sym (d_still s e g.index j inside (rw (w, n6, n7)))
 
     after_is : column_after e (column_in p (k.D ‼ j)) ≡ column_in q (moved_d s e j)
     unfolding column_after edited
@@ -143,19 +143,19 @@ module _ (s : Sheet) (e : Edit) (g : Ready s e) where
   module _ (n1 : eqb e.kind 1 ≡ false) (n6 : eqb e.kind 6 ≡ false) (l : i < p.rows) (same_c : touches s e (C 0) ≡ false) (same_outside : touches s e (count 1) ≡ false) where
     row_is : row_after e (row_in p (k.R ‼ i)) ≡ row_in q (moved_r s e i)
     unfolding row_after edited touches
-    row_is = λ h. row_of (put_at_holds (eqb e.kind 5) i v (pos 0) p.rhs (lt_of_lt_of_le l g.sized.rhs_fit) h) (op p i) (sym (R-still s e g.index i l (rw (n1, n6))) h) (put_at_holds (eqb e.kind 7) i v (pos 0) p.mults (lt_of_lt_of_le l g.sized.mults_fit) h)
+    row_is = λ h. row_of (put_at_holds (eqb e.kind 5) i v (pos 0) p.rhs (lt_of_lt_of_le l g.sized.rhs_fit) h) (op p i) (sym (r_still s e g.index i l (rw (n1, n6))) h) (put_at_holds (eqb e.kind 7) i v (pos 0) p.mults (lt_of_lt_of_le l g.sized.mults_fit) h)
 
     row_moves : row_totals e totals row ≡ totals_of (moved_c s e) (k.B ‼ 0 +ℤ (Y q i *ℤ rhs q i -ℤ Y p i *ℤ rhs p i)) (moved_broken s e) (moved_outside s e) (moved_wrong s e) (k.counts ‼ 3 +ℤ pos 0)
     unfolding moved_totals row_part totals_now moved_wrong
     row_moves =
         ap (row_totals e totals) (row_there l)
         ∙ ap (λ (z : Row). moved_totals totals (row_part (row_in p (k.R ‼ i))) (row_part z)) row_is
-        ∙ (λ h. totals_of (stays (moved_c s e) (k.C ‼ 0) (C-still s e g.index same_c) h) (k.B ‼ 0 +ℤ (Y q i *ℤ rhs q i -ℤ Y p i *ℤ rhs p i)) (one_broken n1 l h) (stays (moved_outside s e) (k.counts ‼ 1) (outside_still s e g.index same_outside) h) (moved_wrong s e) (k.counts ‼ 3 +ℤ pos 0))
+        ∙ (λ h. totals_of (stays (moved_c s e) (k.C ‼ 0) (cost_still s e g.index same_c) h) (k.B ‼ 0 +ℤ (Y q i *ℤ rhs q i -ℤ Y p i *ℤ rhs p i)) (one_broken n1 l h) (stays (moved_outside s e) (k.counts ‼ 1) (outside_still s e g.index same_outside) h) (moved_wrong s e) (k.counts ‼ 3 +ℤ pos 0))
 
   pub right_law : e.kind ≡ 5 → row_totals e totals row ≡ totals_after s e
   unfolding totals_after touches moved_b edited put
   right_law w =
-      let none : sum p.cols (λ y. term_at q y (moved_d s e y) -ℤ term_at p y (k.D ‼ y)) ≡ pos 0 = change_none p.cols (λ y. term_at p y (k.D ‼ y)) (λ y. term_at q y (moved_d s e y)) (λ y h. ap (term_at q y) (D-still s e g.index y h (rw w)) ∙ rw w) in
+      let none : sum p.cols (λ y. term_at q y (moved_d s e y) -ℤ term_at p y (k.D ‼ y)) ≡ pos 0 = change_none p.cols (λ y. term_at p y (k.D ‼ y)) (λ y. term_at q y (moved_d s e y)) (λ y h. ap (term_at q y) (d_still s e g.index y h (rw w)) ∙ rw w) in
       let sides = k.B ‼ 0 +ℤ (Y q i *ℤ rhs q i -ℤ Y p i *ℤ rhs p i) in
       let floor : sides ≡ moved_b s e = sym (ap (λ (z : ℤ). sides +ℤ z) none ∙ +ℤ_idr sides) in
       row_moves (rw w) (rw w) (g.index.row_within (rw w)) (rw w) (rw w) ∙ (λ h. totals_of (moved_c s e) (floor h) (moved_broken s e) (moved_outside s e) (moved_wrong s e) (stays (moved_absent s e) (k.counts ‼ 3) (absent_still s e g.index (rw w)) h))

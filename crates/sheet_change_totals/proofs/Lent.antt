@@ -21,8 +21,8 @@ module _ (s : Sheet) (e : Edit) (g : Ready s e) where
       let k = g.sound.kept_in in
       let z = g.sized in
       record {
-        cost_in = k.C-in 0 (lit≤ tt);
-        floor_in = k.B-in 0 (lit≤ tt);
+        cost_in = k.c_in 0 (lit≤ tt);
+        floor_in = k.b_in 0 (lit≤ tt);
         broken_in = count_size _ _ k.broken_in (le_trans z.rows_fit (lit≤ tt));
         outside_in = count_size _ _ k.outside_in z.cols_fit;
         wrong_in = count_size _ _ k.wrong_in (le_trans z.rows_fit (lit≤ tt));
@@ -33,7 +33,7 @@ module _ (s : Sheet) (e : Edit) (g : Ready s e) where
   unfolding column_at
   column_small =
       picked (SmallColumn max_d) (ltb e.column s.plan.cols) _ _
-      (λ w. let l = ltb-true _ _ w in let p = g.sound.arrays_in in record { cost_in = p.costs_in e.column l; low_in = (p.lowers_in e.column l).small; high_in = (p.uppers_in e.column l).small; amount_in = p.amounts_in e.column l; price_in_holds = g.sound.kept_in.D-in e.column l })
+      (λ w. let l = ltb-true _ _ w in let p = g.sound.arrays_in in record { cost_in = p.costs_in e.column l; low_in = (p.lowers_in e.column l).small; high_in = (p.uppers_in e.column l).small; amount_in = p.amounts_in e.column l; price_in_holds = g.sound.kept_in.d_in e.column l })
       (record { cost_in = lit≤ tt; low_in = lit≤ tt; high_in = lit≤ tt; amount_in = lit≤ tt; price_in_holds = lit≤ tt })
 
   pub row_small : SmallRow (row s e g)
@@ -42,4 +42,4 @@ module _ (s : Sheet) (e : Edit) (g : Ready s e) where
 
   pub activity_small : nat_abs (row s e g).activity ≤ max_r
   unfolding row_at
-  activity_small = picked (λ (y : Row). nat_abs y.activity ≤ max_r) (ltb e.row s.plan.rows) _ _ (λ w. g.sound.kept_in.R-in e.row (ltb-true _ _ w)) (lit≤ tt)
+  activity_small = picked (λ (y : Row). nat_abs y.activity ≤ max_r) (ltb e.row s.plan.rows) _ _ (λ w. g.sound.kept_in.r_in e.row (ltb-true _ _ w)) (lit≤ tt)

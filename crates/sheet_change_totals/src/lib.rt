@@ -1,5 +1,7 @@
 // What an edit makes of C, B and the counts. A touched column or row is read once; all else here is over numbers, but
 // for kinds 1 and 7, which run down a column and along a row. All functions read only.
+#![tactic(auto)]
+
 ghost use Rattle.std.specs.Prelude.{◌≡◌, ◌≤◌, length, nat_abs, ◌-ℤ◌};
 ghost use Rattle.doubles.specs.Limits.{max_rows, max_columns, max_coefficient, max_bound, max_r, max_d};
 ghost use Rattle.sheet_rules.specs.Words.{NumberIn};
@@ -14,7 +16,7 @@ use sheet_rules::Edit;
 use sheet_terms::{bit, term};
 
 // A column with its price D.
-#[derive(Drop)]
+#[derive(Clone, Copy)]
 pub struct Column {
     pub cost: i64,
     pub low: i64,
@@ -26,7 +28,7 @@ pub struct Column {
 }
 
 // A row with its activity R.
-#[derive(Drop)]
+#[derive(Clone, Copy)]
 pub struct Row {
     pub right: i64,
     pub op: u8,

@@ -15,7 +15,7 @@ use Rattle.sheet_rules.specs.Sum.{◌‼◌, sum, dot, count, bit}
 use Rattle.sheet_rules.specs.Sheet.{Plan, Kept, kept_of, x, Y, rhs, term_at, broken_at, lacks_at, row_sum, activity, price, cost, floor, broken_rows, outside_amounts, wrong_signs, absent_needed, fresh, over_kept}
 use Rattle.sheet_rules.specs.Words.{Limits}
 use Rattle.sheet_rules.proofs.Sizes.{term_size, up_to}
-use Rattle.sheet_rules.proofs.KeptSizes.{D-size}
+use Rattle.sheet_rules.proofs.KeptSizes.{d_size}
 use Rattle.sheet_rules.proofs.Sums.{sum_ext}
 use Rattle.sheet_rules.proofs.Fronts.{front}
 use Rattle.sheet_terms.specs.Small.{Small, far_d}
@@ -61,7 +61,7 @@ terms_small p D z f d = up_to max_columns (far_d * max_bound) p.cols (λ j. term
 
 -- ---- the kept numbers, once their arrays are written
 pub prices_small : (p : Plan) (d₀ d : List ℤ) → PlanSized p → Limits p → p.cols ≤ length d → d ≡ over (table p.cols (price p)) d₀ → Small max_d p.cols d
-prices_small p d₀ d z l long e = record { there = long; at = λ j h. rw (e, front p.cols (price p) d₀ j h) (D-size p z.rows_few z.cols_few l j h) }
+prices_small p d₀ d z l long e = record { there = long; at = λ j h. rw (e, front p.cols (price p) d₀ j h) (d_size p z.rows_few z.cols_few l j h) }
 
 module _ (p : Plan) (k : Kept) where
   pub kept_law : (r d c b n : List ℤ) → r ≡ over (table p.rows (activity p (x p))) k.R → d ≡ over (table p.cols (price p)) k.D → c ≡ over (cost p (x p) ∷ []) k.C → b ≡ over (floor_at p d ∷ []) k.B → n ≡ over (counts_at p r d) k.counts

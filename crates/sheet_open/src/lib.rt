@@ -1,4 +1,6 @@
 // Opening an audit sheet: its refusals, and its kept numbers worked out afresh.
+#![tactic(auto)]
+
 ghost use Rattle.std.specs.Prelude.{◌≡◌, [], ◌∷◌, ◌+◌, ◌*◌, ◌≤◌, length, pos, nat_abs, ◌-ℤ◌, ◌*ℤ◌};
 ghost use Rattle.doubles.specs.Limits.{max_rows, max_columns, max_coefficient, max_cost, max_amount, max_multiplier, max_d, unit};
 ghost use Rattle.doubles.specs.Lists.{over};

@@ -38,16 +38,16 @@ moved_decides s e =
     (count_decides _ (moved_wrong s e)))
     (count_decides _ (moved_absent s e)))
     (λ h. record {
-      R-in = λ i l. rw (front s.plan.rows (moved_r s e) s.kept.R i l) (h.0.0.0.0.0.0.0 i l);
-      D-in = λ j l. rw (front s.plan.cols (moved_d s e) s.kept.D j l) (h.0.0.0.0.0.0.1 j l);
-      C-in = one_cell max_c (over (moved_c s e ∷ []) s.kept.C) h.0.0.0.0.0.1;
-      B-in = one_cell max_b (over (moved_b s e ∷ []) s.kept.B) h.0.0.0.0.1;
+      r_in = λ i l. rw (front s.plan.rows (moved_r s e) s.kept.R i l) (h.0.0.0.0.0.0.0 i l);
+      d_in = λ j l. rw (front s.plan.cols (moved_d s e) s.kept.D j l) (h.0.0.0.0.0.0.1 j l);
+      c_in = one_cell max_c (over (moved_c s e ∷ []) s.kept.C) h.0.0.0.0.0.1;
+      b_in = one_cell max_b (over (moved_b s e ∷ []) s.kept.B) h.0.0.0.0.1;
       broken_in = h.0.0.0.1;
       outside_in = h.0.0.1;
       wrong_in = h.0.1;
       absent_in = h.1;
     })
-    (λ r. (((((((λ i l. rw (front s.plan.rows (moved_r s e) s.kept.R i l) at (r.R-in i l), λ j l. rw (front s.plan.cols (moved_d s e) s.kept.D j l) at (r.D-in j l)), r.C-in 0 (omega arith)), r.B-in 0 (omega arith)), r.broken_in), r.outside_in), r.wrong_in), r.absent_in))
+    (λ r. (((((((λ i l. rw (front s.plan.rows (moved_r s e) s.kept.R i l) at (r.r_in i l), λ j l. rw (front s.plan.cols (moved_d s e) s.kept.D j l) at (r.d_in j l)), r.c_in 0 (omega arith)), r.b_in 0 (omega arith)), r.broken_in), r.outside_in), r.wrong_in), r.absent_in))
 
 pub after_test : (s : Sheet) (e : Edit) → Sized s → NumberIn e → Sound e s → sound_at e (applied s e) ≡ moved_fine s e
 unfolding applied edited

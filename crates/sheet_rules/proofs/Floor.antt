@@ -110,7 +110,7 @@ module _ (p : Plan) (z : ℕ → ℤ) where
 -- ---- the floor theorem: on a true sheet with right signs and no absent bound needed, k * B is at most 1024 times the cost of z, for all amounts z / k that
 -- keep every row and bound
 pub floor_theorem : (s : Sheet) → True s → HasFloor s.kept → (k : ℕ) (z : ℕ → ℤ) → Keeps s.plan k z → (pos k *ℤ (s.kept.B ‼ 0)) ≤ℤ (pos unit *ℤ cost s.plan z)
-floor_theorem s t f k z keeps = rw t.B-true (fresh_floor s.plan z k (sym t.wrong_true ∙ f.0) (sym t.absent_true ∙ f.1) keeps)
+floor_theorem s t f k z keeps = rw t.b_true (fresh_floor s.plan z k (sym t.wrong_true ∙ f.0) (sym t.absent_true ∙ f.1) keeps)
 
 -- ---- what the first two counts say of the sheet's own amounts
 one_mul : (z : ℤ) → pos 1 *ℤ z ≡ z
@@ -156,8 +156,8 @@ cheaper k c b z h =
 gapped : (s : Sheet) → True s → IsPlan s.kept → HasFloor s.kept → Gapped s (pos unit *ℤ (s.kept.C ‼ 0) -ℤ s.kept.B ‼ 0)
 gapped s t p f = record {
   plan = own;
-  not_below = sub_nonneg (s.kept.B ‼ 0) (pos unit *ℤ (s.kept.C ‼ 0)) (rw (t.C-true, ← one_mul (s.kept.B ‼ 0)) (floor_theorem s t f 1 (x s.plan) own));
-  no_cheaper = λ k z keeps. rw (← t.C-true) (cheaper (pos k) (s.kept.C ‼ 0) (s.kept.B ‼ 0) (cost s.plan z) (floor_theorem s t f k z keeps));
+  not_below = sub_nonneg (s.kept.B ‼ 0) (pos unit *ℤ (s.kept.C ‼ 0)) (rw (t.c_true, ← one_mul (s.kept.B ‼ 0)) (floor_theorem s t f 1 (x s.plan) own));
+  no_cheaper = λ k z keeps. rw (← t.c_true) (cheaper (pos k) (s.kept.C ‼ 0) (s.kept.B ‼ 0) (cost s.plan z) (floor_theorem s t f k z keeps));
 }
   where
     own : Keeps s.plan 1 (x s.plan)

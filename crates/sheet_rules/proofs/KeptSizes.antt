@@ -30,9 +30,9 @@ module _ (p : Plan) (r : p.rows ≤ max_rows) (n : p.cols ≤ max_columns) (l : 
   a_size : (i j : ℕ) → i < p.rows → j < p.cols → nat_abs (a p i j) ≤ max_coefficient
   a_size i j h k = l.coefs_in (i * p.cols + j) (place_in i p.rows j p.cols h k)
 
-  R-size : (i : ℕ) → i < p.rows → nat_abs (activity p (x p) i) ≤ max_r
+  r_size : (i : ℕ) → i < p.rows → nat_abs (activity p (x p) i) ≤ max_r
   unfolding activity
-  R-size i h = up_to max_columns (max_coefficient * max_amount) p.cols (λ j. a p i j *ℤ x p j) n (λ j k. mul_size (a p i j) (x p j) max_coefficient max_amount (a_size i j h k) (l.arrays_in.amounts_in j k))
+  r_size i h = up_to max_columns (max_coefficient * max_amount) p.cols (λ j. a p i j *ℤ x p j) n (λ j k. mul_size (a p i j) (x p j) max_coefficient max_amount (a_size i j h k) (l.arrays_in.amounts_in j k))
 
   price_size : (j : ℕ) → j < p.cols → nat_abs (price p j) ≤ max_price
   unfolding price max_price
@@ -41,17 +41,17 @@ module _ (p : Plan) (r : p.rows ≤ max_rows) (n : p.cols ≤ max_columns) (l : 
       (mul_size (pos unit) (c p j) unit max_cost (omega arith) (l.arrays_in.costs_in j h))
       (up_to max_rows (max_coefficient * max_multiplier) p.rows (λ i. a p i j *ℤ Y p i) r (λ i k. mul_size (a p i j) (Y p i) max_coefficient max_multiplier (a_size i j k h) (l.arrays_in.mults_in i k)))
 
-  pub D-size : (j : ℕ) → j < p.cols → nat_abs (price p j) ≤ max_d
+  pub d_size : (j : ℕ) → j < p.cols → nat_abs (price p j) ≤ max_d
   unfolding max_price
-  D-size j h = omega (arith, price_size j h)
+  d_size j h = omega (arith, price_size j h)
 
-  C-size : nat_abs (cost p (x p)) ≤ max_c
+  c_size : nat_abs (cost p (x p)) ≤ max_c
   unfolding cost
-  C-size = up_to max_columns (max_cost * max_amount) p.cols (λ j. c p j *ℤ x p j) n (λ j h. mul_size (c p j) (x p j) max_cost max_amount (l.arrays_in.costs_in j h) (l.arrays_in.amounts_in j h))
+  c_size = up_to max_columns (max_cost * max_amount) p.cols (λ j. c p j *ℤ x p j) n (λ j h. mul_size (c p j) (x p j) max_cost max_amount (l.arrays_in.costs_in j h) (l.arrays_in.amounts_in j h))
 
-  B-size : nat_abs (floor p) ≤ max_b
+  b_size : nat_abs (floor p) ≤ max_b
   unfolding floor max_price
-  B-size = omega (
+  b_size = omega (
     arith,
     abs_add (sum p.rows (λ i. Y p i *ℤ rhs p i)) (sum p.cols (λ j. term_at p j (price p j))),
     up_to max_rows (max_multiplier * max_right_side) p.rows (λ i. Y p i *ℤ rhs p i) r (λ i h. mul_size (Y p i) (rhs p i) max_multiplier max_right_side (l.arrays_in.mults_in i h) (l.arrays_in.rhs_in i h)),
@@ -68,10 +68,10 @@ one_cell m l h k w =
 pub kept_in : (s : Sheet) → Sized s → Limits s.plan → True s → KeptIn s
 unfolding broken_rows outside_amounts wrong_signs absent_needed
 kept_in s z l t = record {
-  R-in = λ i h. rw (t.R-true i h) (R-size s.plan z.rows_fit z.cols_fit l i h);
-  D-in = λ j h. rw (t.D-true j h) (D-size s.plan z.rows_fit z.cols_fit l j h);
-  C-in = one_cell max_c s.kept.C (rw t.C-true (C-size s.plan z.rows_fit z.cols_fit l));
-  B-in = one_cell max_b s.kept.B (rw t.B-true (B-size s.plan z.rows_fit z.cols_fit l));
+  r_in = λ i h. rw (t.r_true i h) (r_size s.plan z.rows_fit z.cols_fit l i h);
+  d_in = λ j h. rw (t.d_true j h) (d_size s.plan z.rows_fit z.cols_fit l j h);
+  c_in = one_cell max_c s.kept.C (rw t.c_true (c_size s.plan z.rows_fit z.cols_fit l));
+  b_in = one_cell max_b s.kept.B (rw t.b_true (b_size s.plan z.rows_fit z.cols_fit l));
   broken_in = rw t.broken_true (counted _ _);
   outside_in = rw t.outside_true (counted _ _);
   wrong_in = rw t.wrong_true (counted _ _);

@@ -89,6 +89,6 @@ module _ (p : Plan) (e : Edit) where
   unfolding edited
   rhs_still i ne = put_other _ e.row i _ (pos 0) p.rhs ne
 
-  pub Y-still : (i : ℕ) → (i ≡ e.row → ⊥) → Y (edited p e) i ≡ Y p i
+  pub y_still : (i : ℕ) → (i ≡ e.row → ⊥) → Y (edited p e) i ≡ Y p i
   unfolding edited
-  Y-still i ne = put_other _ e.row i _ (pos 0) p.mults ne
+  y_still i ne = put_other _ e.row i _ (pos 0) p.mults ne

@@ -17,7 +17,7 @@ use Rattle.sheet_rules.proofs.Ring.{times_change, change_times, ring}
 use Rattle.sheet_rules.proofs.Sums.{change_one}
 use Rattle.sheet_rules.proofs.Local.{lower_still, upper_still, lower_mark_still, upper_mark_still, rhs_still}
 use Rattle.sheet_rules.proofs.Takes.{takes}
-use Rattle.sheet_rules.proofs.Touched.{R-still, D-still}
+use Rattle.sheet_rules.proofs.Touched.{r_still, d_still}
 
 -- (v - t) - (u - t), and (y - v) - (y - u)
 without : (v u t : ℤ) → v -ℤ t -ℤ (u -ℤ t) ≡ v -ℤ u
@@ -97,7 +97,7 @@ module _ (s : Sheet) (e : Edit) (z : Sized s) (i : Index s.plan e) where
   -- ---- one column alone, for all kinds but 7; one row alone, for all kinds but 1
   column_alone : eqb e.kind 7 ≡ false → (j : ℕ) → j < p.cols → (j ≡ e.column → ⊥) → moved_d s e j ≡ s.kept.D ‼ j
   unfolding touches
-  column_alone h j l ne = D-still s e i j l (rw (h, ne_eqb j e.column ne) (or_none _ (and_none (eqb e.kind 2 || eqb e.kind 6))))
+  column_alone h j l ne = d_still s e i j l (rw (h, ne_eqb j e.column ne) (or_none _ (and_none (eqb e.kind 2 || eqb e.kind 6))))
 
   pub terms_one : eqb e.kind 7 ≡ false → e.column < p.cols → sum p.cols (λ j. term_at q j (moved_d s e j) -ℤ term_at p j (s.kept.D ‼ j)) ≡ term_at q e.column (moved_d s e e.column) -ℤ term_at p e.column (s.kept.D ‼ e.column)
   terms_one h l =
@@ -111,7 +111,7 @@ module _ (s : Sheet) (e : Edit) (z : Sized s) (i : Index s.plan e) where
 
   row_alone : eqb e.kind 1 ≡ false → (k : ℕ) → k < p.rows → (k ≡ e.row → ⊥) → moved_r s e k ≡ s.kept.R ‼ k
   unfolding touches
-  row_alone h k l ne = R-still s e i k l (rw (h, ne_eqb k e.row ne) (and_none (eqb e.kind 6)))
+  row_alone h k l ne = r_still s e i k l (rw (h, ne_eqb k e.row ne) (and_none (eqb e.kind 6)))
 
   pub broken_one : eqb e.kind 1 ≡ false → e.row < p.rows → sum p.rows (λ k. bit (broken_at q k (moved_r s e k)) -ℤ bit (broken_at p k (s.kept.R ‼ k))) ≡ bit (broken_at q e.row (moved_r s e e.row)) -ℤ bit (broken_at p e.row (s.kept.R ‼ e.row))
   unfolding edited

@@ -31,10 +31,10 @@ opened_good s o = rw o (record {
     sized = over_sized s.plan (fresh s.plan) s.kept (length_tab s.plan.rows 0 _, length_tab s.plan.cols 0 _, refl, refl, refl) w.0;
     limits = w.1;
     true_sheet = record {
-      R-true = λ i l. front s.plan.rows (activity s.plan (x s.plan)) s.kept.R i l;
-      D-true = λ j l. front s.plan.cols (price s.plan) s.kept.D j l;
-      C-true = refl;
-      B-true = refl;
+      r_true = λ i l. front s.plan.rows (activity s.plan (x s.plan)) s.kept.R i l;
+      d_true = λ j l. front s.plan.cols (price s.plan) s.kept.D j l;
+      c_true = refl;
+      b_true = refl;
       broken_true = refl;
       outside_true = refl;
       wrong_true = refl;
@@ -82,20 +82,20 @@ good_afresh s g = λ i. kept_of (r i) (d i) (c i) (b i) (n i)
     t = g.true_sheet
 
     r : over (table s.plan.rows (activity s.plan (x s.plan))) s.kept.R ≡ s.kept.R
-    r = front_there s.plan.rows (activity s.plan (x s.plan)) s.kept.R g.sized.R-fits t.R-true
+    r = front_there s.plan.rows (activity s.plan (x s.plan)) s.kept.R g.sized.r_fits t.r_true
 
     d : over (table s.plan.cols (price s.plan)) s.kept.D ≡ s.kept.D
-    d = front_there s.plan.cols (price s.plan) s.kept.D g.sized.D-fits t.D-true
+    d = front_there s.plan.cols (price s.plan) s.kept.D g.sized.d_fits t.d_true
 
     one : (v : ℤ) (l : List ℤ) → l ‼ 0 ≡ v → (k : ℕ) → k < 1 → l ‼ k ≡ (v ∷ []) ‼ k
     one v l e zero h = e
     one v l e (suc k) h = absurd (omega arith)
 
     c : over (cost s.plan (x s.plan) ∷ []) s.kept.C ≡ s.kept.C
-    c = over_there (cost s.plan (x s.plan) ∷ []) s.kept.C g.sized.C-fits (one _ s.kept.C t.C-true)
+    c = over_there (cost s.plan (x s.plan) ∷ []) s.kept.C g.sized.c_fits (one _ s.kept.C t.c_true)
 
     b : over (floor s.plan ∷ []) s.kept.B ≡ s.kept.B
-    b = over_there (floor s.plan ∷ []) s.kept.B g.sized.B-fits (one _ s.kept.B t.B-true)
+    b = over_there (floor s.plan ∷ []) s.kept.B g.sized.b_fits (one _ s.kept.B t.b_true)
 
     counts : List ℤ
     counts = broken_rows s.plan ∷ outside_amounts s.plan ∷ wrong_signs s.plan ∷ absent_needed s.plan ∷ []

@@ -46,10 +46,10 @@ over_sized p f k h z = record {
   ops_fit = z.ops_fit;
   amounts_fit = z.amounts_fit;
   mults_fit = z.mults_fit;
-  R-fits = rw (over_length f.R k.R (rw h.0 z.R-fits)) z.R-fits;
-  D-fits = rw (over_length f.D k.D (rw h.1 z.D-fits)) z.D-fits;
-  C-fits = rw (over_length f.C k.C (rw h.2 z.C-fits)) z.C-fits;
-  B-fits = rw (over_length f.B k.B (rw h.3 z.B-fits)) z.B-fits;
+  r_fits = rw (over_length f.R k.R (rw h.0 z.r_fits)) z.r_fits;
+  d_fits = rw (over_length f.D k.D (rw h.1 z.d_fits)) z.d_fits;
+  c_fits = rw (over_length f.C k.C (rw h.2 z.c_fits)) z.c_fits;
+  b_fits = rw (over_length f.B k.B (rw h.3 z.b_fits)) z.b_fits;
   counts_fit = rw (over_length f.counts k.counts (rw h.4 z.counts_fit)) z.counts_fit;
 }
 
@@ -68,10 +68,10 @@ edited_sized s e z = record {
   ops_fit = z.ops_fit;
   amounts_fit = rw put_length z.amounts_fit;
   mults_fit = rw put_length z.mults_fit;
-  R-fits = z.R-fits;
-  D-fits = z.D-fits;
-  C-fits = z.C-fits;
-  B-fits = z.B-fits;
+  r_fits = z.r_fits;
+  d_fits = z.d_fits;
+  c_fits = z.c_fits;
+  b_fits = z.b_fits;
   counts_fit = z.counts_fit;
 }
 

@@ -85,10 +85,10 @@ sizes_decide s = record {
     le-leb s.plan.rows (length s.plan.ops) z.ops_fit,
     le-leb s.plan.cols (length s.plan.amounts) z.amounts_fit,
     le-leb s.plan.rows (length s.plan.mults) z.mults_fit,
-    le-leb s.plan.rows (length s.kept.R) z.R-fits,
-    le-leb s.plan.cols (length s.kept.D) z.D-fits,
-    le-leb 1 (length s.kept.C) z.C-fits,
-    le-leb 1 (length s.kept.B) z.B-fits,
+    le-leb s.plan.rows (length s.kept.R) z.r_fits,
+    le-leb s.plan.cols (length s.kept.D) z.d_fits,
+    le-leb 1 (length s.kept.C) z.c_fits,
+    le-leb 1 (length s.kept.B) z.b_fits,
     le-leb 4 (length s.kept.counts) z.counts_fit,
   );
 }
@@ -124,10 +124,10 @@ sizes_decide s = record {
           ops_fit = leb-true _ _ e9.1;
           amounts_fit = leb-true _ _ e10.1;
           mults_fit = leb-true _ _ e11.1;
-          R-fits = leb-true _ _ e12.1;
-          D-fits = leb-true _ _ e13.1;
-          C-fits = leb-true _ _ e14.1;
-          B-fits = leb-true _ _ e15.1;
+          r_fits = leb-true _ _ e12.1;
+          d_fits = leb-true _ _ e13.1;
+          c_fits = leb-true _ _ e14.1;
+          b_fits = leb-true _ _ e15.1;
           counts_fit = leb-true _ _ e16.1;
         }
 
@@ -213,8 +213,8 @@ kept_decides s =
     (and_decides _ _
     (and_decides _ _ (and_decides _ _ (count_decides _ (s.kept.counts ‼ 0)) (count_decides _ (s.kept.counts ‼ 1))) (count_decides _ (s.kept.counts ‼ 2)))
     (count_decides _ (s.kept.counts ‼ 3))))
-    (λ h. record { R-in = h.0.0.0.0; D-in = h.0.0.0.1; C-in = h.0.0.1; B-in = h.0.1; broken_in = h.1.0.0.0; outside_in = h.1.0.0.1; wrong_in = h.1.0.1; absent_in = h.1.1 })
-    (λ r. ((((r.R-in, r.D-in), r.C-in), r.B-in), (((r.broken_in, r.outside_in), r.wrong_in), r.absent_in)))
+    (λ h. record { r_in = h.0.0.0.0; d_in = h.0.0.0.1; c_in = h.0.0.1; b_in = h.0.1; broken_in = h.1.0.0.0; outside_in = h.1.0.0.1; wrong_in = h.1.0.1; absent_in = h.1.1 })
+    (λ r. ((((r.r_in, r.d_in), r.c_in), r.b_in), (((r.broken_in, r.outside_in), r.wrong_in), r.absent_in)))
 
 pub zero_decides : (z : ℤ) → Decides (is_zero z) (z ≡ pos 0)
 unfolding is_zero

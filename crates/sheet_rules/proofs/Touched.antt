@@ -86,17 +86,17 @@ module _ (s : Sheet) (e : Edit) (ok : Index s.plan e) where
       other : eqb e.kind 7 ≡ false → a q e.row j *ℤ Y q e.row ≡ a p e.row j *ℤ Y p e.row
       other w = ap₂ ◌*ℤ◌ (by_test (eqb e.kind 6) (λ v. a_column p e ok e.row j l (eqb-false j e.column (rw (eqb-true e.kind 6 v) at t'.0))) (λ v. rw v)) (rw w)
 
-  pub R-still : (i : ℕ) → i < p.rows → touches s e (R i) ≡ false → moved_r s e i ≡ s.kept.R ‼ i
+  pub r_still : (i : ℕ) → i < p.rows → touches s e (R i) ≡ false → moved_r s e i ≡ s.kept.R ‼ i
   unfolding moved_r
-  R-still i l t = still (s.kept.R ‼ i) _ _ (row_term i l t)
+  r_still i l t = still (s.kept.R ‼ i) _ _ (row_term i l t)
 
-  pub D-still : (j : ℕ) → j < p.cols → touches s e (D j) ≡ false → moved_d s e j ≡ s.kept.D ‼ j
+  pub d_still : (j : ℕ) → j < p.cols → touches s e (D j) ≡ false → moved_d s e j ≡ s.kept.D ‼ j
   unfolding moved_d
-  D-still j l t = still (s.kept.D ‼ j) _ _ (price_term j l t)
+  d_still j l t = still (s.kept.D ‼ j) _ _ (price_term j l t)
 
-  pub C-still : touches s e (C 0) ≡ false → moved_c s e ≡ s.kept.C ‼ 0
+  pub cost_still : touches s e (C 0) ≡ false → moved_c s e ≡ s.kept.C ‼ 0
   unfolding touches moved_c edited put
-  C-still t =
+  cost_still t =
       let h = neither (eqb e.kind 1) (eqb e.kind 2) t in
       still (s.kept.C ‼ 0) (c q e.column *ℤ x q e.column) (c p e.column *ℤ x p e.column) (rw (h.0, h.1))
 
@@ -106,13 +106,13 @@ module _ (s : Sheet) (e : Edit) (ok : Index s.plan e) where
   prices_still (inl k) j = rw k
   prices_still (inr k) j = rw k
 
-  pub B-still : touches s e (B 0) ≡ false → moved_b s e ≡ s.kept.B ‼ 0
+  pub b_still : touches s e (B 0) ≡ false → moved_b s e ≡ s.kept.B ‼ 0
   unfolding touches moved_b edited put
-  B-still t =
+  b_still t =
       let k : e.kind ≡ 1 = eqb-true _ _ (not-false _ t) in
       ap₂ ◌+ℤ◌
       (still (s.kept.B ‼ 0) (Y q e.row *ℤ rhs q e.row) (Y p e.row *ℤ rhs p e.row) (rw k))
-      (change_none p.cols (λ j. term_at p j (s.kept.D ‼ j)) (λ j. term_at q j (moved_d s e j)) (λ j l. rw (D-still j l (prices_still (inl k) j), k)))
+      (change_none p.cols (λ j. term_at p j (s.kept.D ‼ j)) (λ j. term_at q j (moved_d s e j)) (λ j l. rw (d_still j l (prices_still (inl k) j), k)))
       ∙ +ℤ_idr (s.kept.B ‼ 0)
 
   pub broken_still : touches s e (count 0) ≡ false → moved_broken s e ≡ s.kept.counts ‼ 0
@@ -120,7 +120,7 @@ module _ (s : Sheet) (e : Edit) (ok : Index s.plan e) where
   broken_still t =
       let h = all_three (eqb e.kind 1) (eqb e.kind 5) (eqb e.kind 6) t in
       ap (λ (z : ℤ). s.kept.counts ‼ 0 +ℤ z)
-      (change_none p.rows (λ i. bit (broken_at p i (s.kept.R ‼ i))) (λ i. bit (broken_at q i (moved_r s e i))) (λ i l. rw (R-still i l (rw (h.0, h.2)), h.1)))
+      (change_none p.rows (λ i. bit (broken_at p i (s.kept.R ‼ i))) (λ i. bit (broken_at q i (moved_r s e i))) (λ i l. rw (r_still i l (rw (h.0, h.2)), h.1)))
       ∙ +ℤ_idr (s.kept.counts ‼ 0)
 
   pub outside_still : touches s e (count 1) ≡ false → moved_outside s e ≡ s.kept.counts ‼ 1
@@ -143,7 +143,7 @@ module _ (s : Sheet) (e : Edit) (ok : Index s.plan e) where
       let k : (e.kind ≡ 1) ⊎ (e.kind ≡ 5) = ⊎_elim (λ h. inl (eqb-true _ _ h)) (λ h. inr (eqb-true _ _ h)) (none_of (eqb e.kind 1) (eqb e.kind 5) t) in
       ap (λ (z : ℤ). s.kept.counts ‼ 3 +ℤ z)
       (change_none p.cols (λ j. bit (lacks_at p j (s.kept.D ‼ j))) (λ j. bit (lacks_at q j (moved_d s e j)))
-      (λ j l. rw (D-still j l (prices_still k j)) (⊎_elim (λ (w : e.kind ≡ 1). rw w) (λ (w : e.kind ≡ 5). rw w) k)))
+      (λ j l. rw (d_still j l (prices_still k j)) (⊎_elim (λ (w : e.kind ≡ 1). rw w) (λ (w : e.kind ≡ 5). rw w) k)))
       ∙ +ℤ_idr (s.kept.counts ‼ 3)
 
 -- ---- what an array of kept numbers reads
@@ -173,11 +173,11 @@ module _ (s : Sheet) (e : Edit) (ok : Index s.plan e) where
   untouched (op k) t = refl
   untouched (amount k) t = put_untouched _ _ k _ _ _ t
   untouched (mult k) t = put_untouched _ _ k _ _ _ t
-  untouched (R k) t = kept_at s.plan.rows (moved_r s e) s.kept.R k (λ l. R-still s e ok k l t)
-  untouched (D k) t = kept_at s.plan.cols (moved_d s e) s.kept.D k (λ l. D-still s e ok k l t)
-  untouched (C zero) t = C-still s e ok t
+  untouched (R k) t = kept_at s.plan.rows (moved_r s e) s.kept.R k (λ l. r_still s e ok k l t)
+  untouched (D k) t = kept_at s.plan.cols (moved_d s e) s.kept.D k (λ l. d_still s e ok k l t)
+  untouched (C zero) t = cost_still s e ok t
   untouched (C (suc k)) t = past (moved_c s e ∷ []) s.kept.C (suc k) (omega arith)
-  untouched (B zero) t = B-still s e ok t
+  untouched (B zero) t = b_still s e ok t
   untouched (B (suc k)) t = past (moved_b s e ∷ []) s.kept.B (suc k) (omega arith)
   untouched (count zero) t = broken_still s e ok t
   untouched (count (suc zero)) t = outside_still s e ok t

@@ -189,10 +189,10 @@ over_kept f k = kept_of (over f.R k.R) (over f.D k.D) (over f.C k.C) (over f.B k
 
 -- a true sheet: each kept number equals the fresh one
 pub record True (s : Sheet) : Type 0 where
-  pub R-true : (i : ℕ) → i < s.plan.rows → s.kept.R ‼ i ≡ activity s.plan (x s.plan) i
-  pub D-true : (j : ℕ) → j < s.plan.cols → s.kept.D ‼ j ≡ price s.plan j
-  pub C-true : s.kept.C ‼ 0 ≡ cost s.plan (x s.plan)
-  pub B-true : s.kept.B ‼ 0 ≡ floor s.plan
+  pub r_true : (i : ℕ) → i < s.plan.rows → s.kept.R ‼ i ≡ activity s.plan (x s.plan) i
+  pub d_true : (j : ℕ) → j < s.plan.cols → s.kept.D ‼ j ≡ price s.plan j
+  pub c_true : s.kept.C ‼ 0 ≡ cost s.plan (x s.plan)
+  pub b_true : s.kept.B ‼ 0 ≡ floor s.plan
   pub broken_true : s.kept.counts ‼ 0 ≡ broken_rows s.plan
   pub outside_true : s.kept.counts ‼ 1 ≡ outside_amounts s.plan
   pub wrong_true : s.kept.counts ‼ 2 ≡ wrong_signs s.plan

@@ -22,10 +22,10 @@ pub record Sized (s : Sheet) : Type 0 where
   pub ops_fit : s.plan.rows ≤ length s.plan.ops
   pub amounts_fit : s.plan.cols ≤ length s.plan.amounts
   pub mults_fit : s.plan.rows ≤ length s.plan.mults
-  pub R-fits : s.plan.rows ≤ length s.kept.R
-  pub D-fits : s.plan.cols ≤ length s.kept.D
-  pub C-fits : 1 ≤ length s.kept.C
-  pub B-fits : 1 ≤ length s.kept.B
+  pub r_fits : s.plan.rows ≤ length s.kept.R
+  pub d_fits : s.plan.cols ≤ length s.kept.D
+  pub c_fits : 1 ≤ length s.kept.C
+  pub b_fits : 1 ≤ length s.kept.B
   pub counts_fit : 4 ≤ length s.kept.counts
 
 -- ---- 12: no number is over its limit, no comparison or mark unknown
@@ -67,10 +67,10 @@ pub record Count (n : ℕ) (z : ℤ) : Type 0 where
   pub most : z ≤ℤ pos n
 
 pub record KeptIn (s : Sheet) : Type 0 where
-  pub R-in : Within max_r s.plan.rows s.kept.R
-  pub D-in : Within max_d s.plan.cols s.kept.D
-  pub C-in : Within max_c 1 s.kept.C
-  pub B-in : Within max_b 1 s.kept.B
+  pub r_in : Within max_r s.plan.rows s.kept.R
+  pub d_in : Within max_d s.plan.cols s.kept.D
+  pub c_in : Within max_c 1 s.kept.C
+  pub b_in : Within max_b 1 s.kept.B
   pub broken_in : Count s.plan.rows (s.kept.counts ‼ 0)
   pub outside_in : Count s.plan.cols (s.kept.counts ‼ 1)
   pub wrong_in : Count s.plan.rows (s.kept.counts ‼ 2)

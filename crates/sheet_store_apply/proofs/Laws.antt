@@ -24,10 +24,10 @@ edited_so s e w =
 
 module _ (s : Sheet) (e : Edit) where
   pub activities_asks : Ready s e → PlanReady s.plan e × Small max_r s.plan.rows s.kept.R
-  activities_asks y = (record { kept = s.kept; ready = y }, record { there = y.sized.R-fits; at = y.sound.kept_in.R-in })
+  activities_asks y = (record { kept = s.kept; ready = y }, record { there = y.sized.r_fits; at = y.sound.kept_in.r_in })
 
   pub prices_asks : Ready s e → PlanReady s.plan e × Small max_d s.plan.cols s.kept.D
-  prices_asks y = (record { kept = s.kept; ready = y }, record { there = y.sized.D-fits; at = y.sound.kept_in.D-in })
+  prices_asks y = (record { kept = s.kept; ready = y }, record { there = y.sized.d_fits; at = y.sound.kept_in.d_in })
 
   pub kept_law : (t : Totals) (r d c b n : List ℤ) → t ≡ totals_after s e
       → r ≡ over (table s.plan.rows (moved_r (sheet_of s.plan (kept_of s.kept.R [] [] [] [])) e)) s.kept.R

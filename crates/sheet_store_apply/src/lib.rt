@@ -1,5 +1,7 @@
 // An accepted edit: every kept number moves by the change in its terms, then the edited cell takes its number and mark.
 // Nothing is refused here.
+#![tactic(auto)]
+
 ghost use Rattle.std.specs.Prelude.{◌≡◌};
 ghost use Rattle.sheet_rules.specs.Sheet.{plan_of, kept_of, sheet_of, over_kept};
 ghost use Rattle.sheet_rules.specs.Edit.{moved, applied};

@@ -1,4 +1,6 @@
 // What an accepted edit writes: the edited cell's number and mark, and C, B and the counts.
+#![tactic(auto)]
+
 ghost use Rattle.std.specs.Prelude.{◌≡◌, true, [], ◌+◌, ◌*◌, ◌<◌, ◌≤◌, length, pos};
 ghost use Rattle.sheet_rules.specs.Sheet.{plan_of, kept_of, over_kept};
 ghost use Rattle.sheet_rules.specs.Edit.{put, edited};

@@ -1,4 +1,6 @@
 // How an accepted edit moves R and D. Only the rows and columns that it can touch are gone through.
+#![tactic(auto)]
+
 ghost use Rattle.std.specs.Prelude.{◌≡◌, true, [], ◌<◌};
 ghost use Rattle.doubles.specs.Limits.{max_r, max_d};
 ghost use Rattle.doubles.specs.Lists.{over};
@@ -12,7 +14,7 @@ ghost use Rattle.sheet_store_shift.specs.Span.{span_by};
 use sheet_rules::Edit;
 
 // The places from `from` up to, not including, `end`.
-#[derive(Drop)]
+#[derive(Clone, Copy)]
 pub struct Span {
     pub from: usize,
     pub end: usize,

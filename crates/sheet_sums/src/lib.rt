@@ -1,4 +1,6 @@
 // The audit sheet's sums and counts, worked out from the lent arrays. Each is one loop and reads only.
+#![tactic(auto)]
+
 ghost use Rattle.std.specs.Prelude.{◌≡◌, not, ◌+◌, ◌*◌, ◌≤◌, ◌<◌, length};
 ghost use Rattle.doubles.specs.Limits.{max_rows, max_columns, max_coefficient, max_multiplier, max_right_side, max_bound, max_d};
 ghost use Rattle.doubles.specs.Lists.{◌#◌};

@@ -1,4 +1,6 @@
 // The audit sheet's terms, each of a few numbers, and the sum behind R.
+#![tactic(auto)]
+
 ghost use Rattle.std.specs.Prelude.{◌≡◌, ◌+◌, ◌≤◌, length, nat_abs};
 ghost use Rattle.doubles.specs.Limits.{max_columns, max_coefficient, max_amount, max_bound};
 ghost use Rattle.doubles.specs.Loop.{all};

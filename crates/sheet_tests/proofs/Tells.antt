@@ -33,10 +33,10 @@ pub kept_sized : (s : Sheet) → Sized s → KeptSized s.plan.rows s.plan.cols s
 kept_sized s z = record {
   few = z.cols_fit;
   fewer = le_trans z.rows_fit (lit≤ tt);
-  R-long = z.R-fits;
-  D-long = z.D-fits;
-  C-long = z.C-fits;
-  B-long = z.B-fits;
+  r_long = z.r_fits;
+  d_long = z.d_fits;
+  c_long = z.c_fits;
+  b_long = z.b_fits;
   counts_long = z.counts_fit;
 }
 

@@ -23,10 +23,10 @@ pub record PlanSized (p : Plan) : Type 0 where
 pub record KeptSized (m n : ℕ) (k : Kept) : Type 0 where
   pub few : n ≤ max_columns
   pub fewer : m ≤ max_columns
-  pub R-long : m ≤ length k.R
-  pub D-long : n ≤ length k.D
-  pub C-long : 1 ≤ length k.C
-  pub B-long : 1 ≤ length k.B
+  pub r_long : m ≤ length k.R
+  pub d_long : n ≤ length k.D
+  pub c_long : 1 ≤ length k.C
+  pub b_long : 1 ≤ length k.B
   pub counts_long : 4 ≤ length k.counts
 
 -- every number but the coefficients is within its limit

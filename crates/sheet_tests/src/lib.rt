@@ -1,4 +1,6 @@
 // The audit sheet's tests: what refusals 11 to 14 look at. Each reads only.
+#![tactic(auto)]
+
 ghost use Rattle.std.specs.Prelude.{◌≡◌, [], ◌≤◌, length};
 ghost use Rattle.std.specs.Int.Signed.{mag};
 ghost use Rattle.doubles.specs.Limits.{max_columns};

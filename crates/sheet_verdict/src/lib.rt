@@ -1,4 +1,6 @@
 // The audit sheet's public verdict. It asks nothing, and reads only.
+#![tactic(auto)]
+
 ghost use Rattle.std.specs.Prelude.{◌≡◌, [], ◌≤◌, length};
 ghost use Rattle.sheet_rules.specs.Sheet.{plan_of, kept_of, sheet_of};
 ghost use Rattle.sheet_rules.specs.Verdict.{none_exists};

@@ -1,4 +1,6 @@
 // The solver's public call: any bytes in, the answer of 01 and every lent cell out.
+#![tactic(auto)]
+
 ghost use Rattle.std.specs.Prelude.{◌≡◌};
 ghost use Rattle.rules.specs.Parts.{plan_of};
 ghost use Rattle.rules.specs.Solve.{solve_plan};

@@ -1,6 +1,8 @@
 // The scattered vector of the solver: values, marks, and a list of the touched places.
 // From minilp 0.2.2, src/sparse.rs, Apache-2.0, changed: the vectors are lent arrays, and the list's
 // length is a number beside it. The list has a cell for each place, so an append always fits.
+#![tactic(auto)]
+
 ghost use Rattle.std.specs.Prelude.{◌≡◌, Bool, List, ◌<◌, ◌≤◌, length};
 ghost use Rattle.doubles.specs.Limits.{places};
 ghost use Rattle.sparse.specs.Scattered.{pat, sv, touched, put_at, add_at, sub_at, loaded, cleared, sq_norm, take_off, dot, relisted, listed_finite, Wf, Good, Fresh, Within};

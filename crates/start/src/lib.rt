@@ -1,5 +1,7 @@
 // 01, "Start": the numbers of the first state, reckoned in scratch, and refusals 6 and 7, which are tested there.
 // From minilp 0.2.2, src/solver.rs, try_new, Apache-2.0, changed: 01's rules, lent arrays.
+#![tactic(auto)]
+
 ghost use Rattle.std.specs.Prelude.{◌≡◌, ◌≤◌, length};
 ghost use Rattle.doubles.specs.Num.{f0};
 ghost use Rattle.doubles.specs.Limits.{max_rows};

@@ -1,5 +1,7 @@
 // 01, "When the gateway says no": what is lent is long enough, and refusals 1 to 7 before the first lent cell is
 // written.
+#![tactic(auto)]
+
 ghost use Rattle.std.specs.Prelude.{◌≡◌, [], ◌≤◌, length};
 ghost use Rattle.doubles.specs.Num.{f0};
 ghost use Rattle.doubles.specs.Limits.{max_columns, max_rows};
@@ -12,7 +14,7 @@ ghost use Rattle.start_gate.specs.Lent.{Passed};
 ghost use Rattle.start_gate.specs.Gate.{refusal_by, begun, begun_by};
 
 // The start in scratch: refused, or its numbers, of which the objective is handed back.
-#[derive(Drop)]
+#[derive(Clone, Copy)]
 pub enum Begun {
     Refused(rules::Answer),
     On(f64),

@@ -1,5 +1,7 @@
 // 01, "Start": the columns' norms.
 // From minilp 0.2.2, src/solver.rs, try_new, Apache-2.0, changed: reckoned for every plan, row by row, lent arrays.
+#![tactic(auto)]
+
 ghost use Rattle.std.specs.Prelude.{◌≡◌, ◌≤◌, length};
 ghost use Rattle.doubles.specs.Num.{f0, f1, ◌⊕◌};
 ghost use Rattle.doubles.specs.Limits.{max_columns};

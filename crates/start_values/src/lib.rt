@@ -1,6 +1,8 @@
 // 01, "Start": the columns' start values, their objective, the slacks that they leave, and whether the start is dual
 // feasible. From minilp 0.2.2, src/solver.rs, try_new, Apache-2.0, changed: 01's rules, one function for each number,
 // lent arrays.
+#![tactic(auto)]
+
 ghost use Rattle.std.specs.Prelude.{◌≡◌, ◌&&◌, [], ◌<◌, ◌≤◌, length};
 ghost use Rattle.doubles.specs.Num.{infinite};
 ghost use Rattle.doubles.specs.Limits.{max_columns, max_rows};

@@ -1,5 +1,7 @@
 // 01, "Start": the first state. Its numbers are reckoned in scratch and tested there, and only then copied.
 // From minilp 0.2.2, src/solver.rs, try_new, Apache-2.0, changed: 01's rules, lent arrays.
+#![tactic(auto)]
+
 ghost use Rattle.std.specs.Prelude.{◌≡◌, [], ◌<◌, ◌≤◌, ◌+◌, ◌^◌, length};
 ghost use Rattle.doubles.specs.Num.{f1};
 ghost use Rattle.doubles.specs.Limits.{max_columns, max_rows};

@@ -1,6 +1,7 @@
 // The solver's state in two lent arrays: where each section of them stands. specs/Packed.antt has the same names for
 // the definitions: no place is written anywhere else. A run is lent the workspace's part of each, up to KEPT and
 // OBJECTIVE.
+#![tactic(auto)]
 
 // Sections of `numbers`.
 pub const BASIC_VARS: usize = 0;
@@ -73,7 +74,7 @@ pub const OBJECTIVE_END: usize = OBJECTIVE + 1;
 pub const DOUBLES: usize = OBJECTIVE_END;
 
 // The numbers of a state that stand in no array.
-#[derive(Drop)]
+#[derive(Clone, Copy)]
 pub struct Tally {
     pub eta_count: usize,
     pub objective: f64,
@@ -84,7 +85,7 @@ pub struct Tally {
 }
 
 // The numbers of an exchange, as the ratio gives them.
-#[derive(Drop)]
+#[derive(Clone, Copy)]
 pub struct Exchange {
     pub value: f64,
     pub diff: f64,

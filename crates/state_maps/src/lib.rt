@@ -1,4 +1,6 @@
 // Whether the memory still has the rows and the maps that a run over this plan left: the test behind 41.
+#![tactic(auto)]
+
 ghost use Rattle.std.specs.Prelude.{◌≡◌, [], ◌<◌, ◌≤◌, ◌+◌, ltb, eqb, length};
 ghost use Rattle.doubles.specs.Num.{f0};
 ghost use Rattle.doubles.specs.Limits.{max_rows, max_columns};

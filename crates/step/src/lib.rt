@@ -1,5 +1,7 @@
 // One step from the entering column on: its solve, the ratio, then a flip or an exchange. From minilp 0.2.2,
 // src/solver.rs, choose_pivot and pivot, Apache-2.0, changed: 01's answers 21 and 23, and the vectors are local arrays.
+#![tactic(auto)]
+
 ghost use Rattle.std.specs.Prelude.{◌≡◌, Bool, List, ℕ, ◌<◌, length, Float};
 ghost use Rattle.sparse.specs.Scattered.{sv, Fresh};
 ghost use Rattle.rules.specs.Plan.{State};
@@ -15,7 +17,7 @@ use step_refactor::Went;
 
 // What is decided of a step: how many places the column lists, with the numbers of the flip or of the exchange, or why
 // there is none.
-#[derive(Drop)]
+#[derive(Clone, Copy)]
 pub enum Decided {
     Flips { count: usize, value: f64, diff: f64 },
     Exchanges { count: usize, x: state::Exchange },

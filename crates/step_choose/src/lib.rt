@@ -1,6 +1,8 @@
 // The choice of the entering column.
 // From minilp 0.2.2, src/solver.rs, choose_pivot, Apache-2.0, changed: the choice stands apart from the
 // ratio, the bounds of a variable are looked up, and a column at neither bound needs a price.
+#![tactic(auto)]
+
 ghost use Rattle.std.specs.Prelude.{◌≡◌, [], ◌<◌, ◌≤◌, ◌+◌, length};
 ghost use Rattle.rules.specs.Parts.{bounded};
 ghost use Rattle.rules.specs.Choose.{may_enter, best_column, other_val};
@@ -23,7 +25,7 @@ pub fn may_enter(f: rules::NonBasicVarState, price: f64) -> bool
 }
 
 // The best column so far and its score; `col` is n where there is none.
-#[derive(Drop)]
+#[derive(Clone, Copy)]
 pub struct Best {
     pub col: usize,
     pub score: f64,

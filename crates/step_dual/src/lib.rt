@@ -1,6 +1,8 @@
 // One dual step from the leaving row on: the row, the ratio on prices, the entering column, then an exchange. From minilp
 // 0.2.2, src/solver.rs, restore_feasibility and pivot, Apache-2.0, changed: 02's answers 23 and 26, and the vectors are local
 // arrays.
+#![tactic(auto)]
+
 ghost use Rattle.std.specs.Prelude.{◌≡◌, ◌<◌, length};
 ghost use Rattle.sparse.specs.Scattered.{sv, Fresh};
 ghost use Rattle.rules.specs.Plan.{State};
@@ -18,7 +20,7 @@ use step_refactor::Went;
 
 // What is decided of a dual step: how many places the row solve's result lists, with the entering column and the numbers of
 // the exchange, or why there is none.
-#[derive(Drop)]
+#[derive(Clone, Copy)]
 pub enum Decided {
     Enters {
         count: usize,

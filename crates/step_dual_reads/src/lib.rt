@@ -1,5 +1,7 @@
 // What a dual step chooses, read out of the state: each function is lent both arrays to read and makes the sections that it
 // needs, as those of step_reads.
+#![tactic(auto)]
+
 ghost use Rattle.std.specs.Prelude.{◌≡◌, Bool, List};
 ghost use Rattle.sparse.specs.Scattered.{sv};
 ghost use Rattle.rules.specs.Parts.{bounded};

@@ -1,6 +1,8 @@
 // An exchange is decided (row solve, all new numbers), then stored with its eta column or, where that doesn't fit, with the
 // new basis' factor. Nothing is stored before every test has passed, and a store can't fail. From minilp 0.2.2,
 // src/solver.rs, pivot, Apache-2.0, changed: 01's answer 23, 02's factoring, and the vectors are local arrays.
+#![tactic(auto)]
+
 ghost use Rattle.std.specs.Prelude.{◌≡◌, Bool, ◌&&◌, List, ℕ, ◌<◌, ◌≤◌, length};
 ghost use Rattle.doubles.specs.Limits.{max_rows, max_columns, places};
 ghost use Rattle.sparse.specs.Scattered.{sv, Within, listed_finite, Fresh};
@@ -19,7 +21,7 @@ ghost use Rattle.step_exchange.specs.Lent.{Solving, Inverse};
 use step_refactor::Went;
 
 // What is decided of an exchange: how many places its row lists, or a number isn't finite.
-#[derive(Drop)]
+#[derive(Clone, Copy)]
 pub enum Decided {
     Goes(usize),
     NotFinite,

@@ -1,6 +1,8 @@
 // The choice of a dual step's leaving row.
 // From minilp 0.2.2, src/solver.rs, choose_pivot_row_dual, Apache-2.0, changed: the bounds of a basic variable are
 // looked up, and the row travels with its numbers.
+#![tactic(auto)]
+
 ghost use Rattle.std.specs.Prelude.{◌≡◌};
 ghost use Rattle.rules.specs.Parts.{bounded};
 ghost use Rattle.rules.specs.DualRow.{too_low, infeasibility_of, bound_broken, best_row, choose_row};
@@ -42,7 +44,7 @@ fn bound_broken(lower: f64, value: f64, upper: f64) -> f64
 }
 
 // The best row so far and its score; `row` is the number of rows where there is none.
-#[derive(Drop)]
+#[derive(Clone, Copy)]
 pub struct Best {
     pub row: usize,
     pub score: f64,

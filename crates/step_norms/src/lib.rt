@@ -1,6 +1,8 @@
 // An exchange with both kinds of norm. From minilp 0.2.2, src/solver.rs, update_dual_sq_norms, Apache-2.0, changed: tau and
 // the dual norms are tested before anything is stored, they are stored behind the rest of the exchange, and the row solve's
 // result is lent.
+#![tactic(auto)]
+
 ghost use Rattle.std.specs.Prelude.{◌≡◌, Bool, List, [], ℕ, ◌<◌, ◌≤◌, length};
 ghost use Rattle.doubles.specs.Limits.{max_rows, places};
 ghost use Rattle.sparse.specs.Scattered.{Pat, sv, sv_of, Within, relisted, Fresh};

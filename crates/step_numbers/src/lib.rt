@@ -1,6 +1,8 @@
 // The new numbers of a step, and the tests that every one is finite: they only read. From minilp 0.2.2, src/solver.rs,
 // pivot and update_primal_sq_norms, Apache-2.0, changed: a number is tested before any is stored, the vectors and the
 // state are lent arrays, and the helper is reckoned by the caller.
+#![tactic(auto)]
+
 ghost use Rattle.std.specs.Prelude.{◌≡◌, Bool, List, [], ◌≤◌, length};
 ghost use Rattle.doubles.specs.Limits.{places};
 ghost use Rattle.sparse.specs.Scattered.{Pat, sv, sv_of, sq_norm, Within};

@@ -1,6 +1,8 @@
 // The ratio on prices of a dual step: two passes over the leaving row's columns.
 // From minilp 0.2.2, src/solver.rs, choose_entering_col_dual, Apache-2.0, changed: the numbers of the answer are those
 // that an exchange needs, and a quotient that isn't finite stops the step.
+#![tactic(auto)]
+
 ghost use Rattle.std.specs.Prelude.{◌≡◌, Bool, List};
 ghost use Rattle.sparse.specs.Scattered.{sv};
 ghost use Rattle.rules.specs.Plan.{flags_of};
@@ -59,7 +61,7 @@ fn clamped(f: rules::NonBasicVarState, price: f64) -> f64
 }
 
 // Pass one's answer.
-#[derive(Drop)]
+#[derive(Clone, Copy)]
 pub enum MaxStep {
     Step(f64),
     NotFinite,

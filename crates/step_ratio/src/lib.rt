@@ -1,6 +1,8 @@
 // The ratio of a step: Harris' two passes over the entering column's rows.
 // From minilp 0.2.2, src/solver.rs, choose_pivot, Apache-2.0, changed: 01's answers 20 and 23, and no
 // row whose bound ahead is infinite. The bounds of a basic variable are looked up, once in each pass.
+#![tactic(auto)]
+
 ghost use Rattle.std.specs.Prelude.{◌≡◌, Bool, List, [], ◌<◌, ◌+◌, length};
 ghost use Rattle.doubles.specs.Lists.{◌#◌};
 ghost use Rattle.sparse.specs.Scattered.{sv};
@@ -70,7 +72,7 @@ fn limit(max: bool, bound: f64, val: f64) -> f64
 }
 
 // The room of a row: none is asked where its coefficient is small or the bound ahead infinite.
-#[derive(Drop)]
+#[derive(Clone, Copy)]
 pub enum Room {
     Open,
     Limit(f64),
@@ -107,7 +109,7 @@ fn room_ahead(
 }
 
 // Pass one's answer.
-#[derive(Drop)]
+#[derive(Clone, Copy)]
 pub enum MaxStep {
     Step(f64),
     NotFinite,
@@ -305,7 +307,7 @@ fn pass_two(
 }
 
 // What the two passes find: a place of the list, `count` where no row leaves.
-#[derive(Drop)]
+#[derive(Clone, Copy)]
 pub enum Leaving {
     Place(usize),
     NotFinite,

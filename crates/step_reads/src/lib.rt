@@ -1,5 +1,7 @@
 // What a step reads of the state: each function is lent both arrays to read and makes the sections that it needs. The
 // solves are lent the factor's two arrays, whole.
+#![tactic(auto)]
+
 ghost use Rattle.std.specs.Prelude.{◌≡◌, Bool, List, [], ℕ, ◌<◌, ◌≤◌, length};
 ghost use Rattle.doubles.specs.Num.{f1};
 ghost use Rattle.doubles.specs.Limits.{max_rows, max_columns, places};

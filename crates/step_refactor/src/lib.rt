@@ -1,6 +1,8 @@
 // An exchange whose eta column doesn't fit. 02: "the exchange is made, then the new basis is factored in place of storing
 // that column". The factor is reckoned in local arrays; nothing is stored before it is there, and the stores can't fail.
 // From minilp 0.2.2, src/solver.rs, BasisSolver::reset, Apache-2.0, changed: when it is called, and 23 and 25.
+#![tactic(auto)]
+
 ghost use Rattle.std.specs.Prelude.{◌≡◌, Bool, List, ℕ, ◌<◌, length, Float};
 ghost use Rattle.doubles.specs.Limits.{max_columns};
 ghost use Rattle.sparse.specs.Scattered.{Pat, sv, sv_of};
@@ -14,7 +16,7 @@ ghost use Rattle.step_refactor.specs.Lent.{ReadyBy, Solved, Squares};
 ghost use Rattle.step_refactor.specs.Made.{made};
 
 // What a step gives: the numbers of the state after it that stand in no array, or why there is none.
-#[derive(Drop)]
+#[derive(Clone, Copy)]
 pub enum Went {
     On(state::Tally),
     Stops(rules::Stop),

@@ -1,6 +1,8 @@
 // The stores of a step, a flip's or an exchange's. From minilp 0.2.2, src/solver.rs, pivot and update_primal_sq_norms,
 // Apache-2.0, changed: `new_numbers` has tested every number before any is stored, the vectors are lent arrays, the
 // state is sections of two, and the helper is reckoned by the caller.
+#![tactic(auto)]
+
 ghost use Rattle.std.specs.Prelude.{◌≡◌, Bool, List, [], ℕ, ◌<◌, length};
 ghost use Rattle.doubles.specs.Limits.{max_rows, max_columns, max_budget};
 ghost use Rattle.sparse.specs.Scattered.{Pat, sv, sv_of, sq_norm};

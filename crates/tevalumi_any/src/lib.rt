@@ -1,4 +1,6 @@
 // Other costs over the memory of a run, and a solve from any start, for C and Rust.
+#![tactic(auto)]
+
 ghost use Rattle.std.specs.Prelude.{◌≡◌};
 ghost use Rattle.rules.specs.Parts.{plan_of};
 ghost use Rattle.state.specs.Memory.{memory_in, past_of};

@@ -1,4 +1,6 @@
 // Plans in a file, for C and Rust (02, Ask 1).
+#![tactic(auto)]
+
 ghost use Rattle.sheet_rules.specs.Sheet.{plan_of};
 ghost use Rattle.file_face.specs.Numbers.{WritesNumbers, ReadsNumbers};
 

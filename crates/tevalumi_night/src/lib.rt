@@ -1,4 +1,6 @@
 // The night, for C and Rust (02, Ask 14).
+#![tactic(auto)]
+
 ghost use Rattle.std.specs.Prelude.{◌≡◌, []};
 ghost use Rattle.sheet_rules.specs.Sheet.{plan_of};
 ghost use Rattle.night_rules.specs.Arrays.{arrays_of};

@@ -1,4 +1,6 @@
 // The audit sheet, and doubles to whole numbers, for C and Rust.
+#![tactic(auto)]
+
 ghost use Rattle.std.specs.Prelude.{◌≡◌};
 ghost use Rattle.sheet_rules.specs.Promises.{Opens, Edits};
 ghost use Rattle.sheet_rules.specs.Sheet.{plan_of, kept_of, sheet_of};

@@ -1,4 +1,6 @@
 // The solver, for C and Rust.
+#![tactic(auto)]
+
 ghost use Rattle.std.specs.Prelude.{◌≡◌};
 ghost use Rattle.rules.specs.Parts.{plan_of};
 ghost use Rattle.rules.specs.Solve.{solve_plan};

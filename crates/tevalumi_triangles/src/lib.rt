@@ -1,4 +1,6 @@
 // Triangular solves, for C and Rust. A slice is a pointer and a length.
+#![tactic(auto)]
+
 ghost use Rattle.std.specs.Prelude.{◌≡◌, true, false, not, [], eqb};
 ghost use Rattle.lu_solve.specs.Solve.{tri};
 ghost use Rattle.lu.specs.Result.{tri_solve_sparse, tri_solve_dense, solve_dense};

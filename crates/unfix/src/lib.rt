@@ -1,5 +1,7 @@
 // 02, Ask 9: a column let go, over a plan and the memory that the last call over it left. Any bytes in, the answer and
 // every lent cell out.
+#![tactic(auto)]
+
 ghost use Rattle.std.specs.Prelude.{◌≡◌};
 ghost use Rattle.rules.specs.Parts.{plan_of};
 ghost use Rattle.state.specs.Memory.{memory_in, past_of};

@@ -1,4 +1,6 @@
 // The answers on whole numbers as the numbers that the face hands out.
+#![tactic(auto)]
+
 ghost use Rattle.std.specs.Prelude.{◌≡◌};
 ghost use Rattle.whole_face.specs.Numbers.{whole_face, whole_numbers, proposal_face, no_case, proposal_numbers};
 
@@ -7,7 +9,7 @@ use whole_round::Rounded;
 
 // Kind 0 whole, 1 beyond, 2 not a number; the whole number, and the double that is beyond.
 #[repr(C)]
-#[derive(Drop)]
+#[derive(Clone, Copy)]
 pub struct TevalumiWhole {
     pub kind: usize,
     pub number: i64,
@@ -17,7 +19,7 @@ pub struct TevalumiWhole {
 // Status 0, 1 or 41; kind 0 proposed, 1 nothing, 2 an amount isn't whole, 3 a multiplier isn't; then its column or row,
 // and its case.
 #[repr(C)]
-#[derive(Drop)]
+#[derive(Clone, Copy)]
 pub struct TevalumiProposal {
     pub status: usize,
     pub kind: usize,

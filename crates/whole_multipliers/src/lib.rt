@@ -1,4 +1,6 @@
 // The multiplier of each row of a plan, from the prices and maps that a run left (02, Ask 3).
+#![tactic(auto)]
+
 ghost use Rattle.std.specs.Prelude.{◌≡◌, [], ◌<◌, ◌≤◌, length};
 ghost use Rattle.doubles.specs.Limits.{max_rows};
 ghost use Rattle.doubles.specs.Lists.{over};

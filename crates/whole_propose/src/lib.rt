@@ -1,4 +1,6 @@
 // A proposal for the sheet from a plan and the memory of a run (02, Ask 3). It asks nothing: any bytes bring an answer.
+#![tactic(auto)]
+
 ghost use Rattle.std.specs.Prelude.{◌≡◌, [], ◌≤◌, length};
 ghost use Rattle.doubles.specs.Lists.{over};
 ghost use Rattle.state.specs.Memory.{memory_in};
@@ -7,7 +9,7 @@ ghost use Rattle.whole_propose.specs.Propose.{lent_of, lent_fine, first_amount, 
 
 // Proposed: every number was whole, and all are written. Nothing: the run's status isn't 0. Refused: 1 for sizes and
 // lengths, 41 for rows or maps that aren't a run's. Else the first number that isn't whole, with its case.
-#[derive(Drop)]
+#[derive(Clone, Copy)]
 pub enum Proposal {
     Proposed,
     Nothing,

@@ -29,11 +29,17 @@ part (fin false m e) q t = omega (arith, ltb→lt (m * up e * 1) (1 * 2 ^ 63 * d
 -- ---- the whole part
 pub asks : (a : Float) → Part a → T (lt (fin true 1 (pos 0)) a) × T (lt a (fin false 1 (pos 64)))
 unfolding lt
+asks nan h = elim h [ ]
+asks (inf _) h = elim h [ ]
+asks (fin true m e) h = elim h [ ]
 asks (fin false m e) h =
     (lt→ltb 0 (1 * 1 * down e + m * up e * 1) (omega (arith, down_pos e)), lt→ltb (m * up e * 1) (1 * 2 ^ 64 * down e) (omega arith))
 
 pub cut : (a : Float) → Part a → (to_unsigned 64 a ≡ num a / den a) × (num a / den a < 2 ^ 63)
 unfolding to_unsigned
+cut nan h = elim h [ ]
+cut (inf _) h = elim h [ ]
+cut (fin true m e) h = elim h [ ]
 cut (fin false m e) h = let l : m * up e / down e < 2 ^ 63 = (div-lt_iff_lt-mul (down_pos e)).1 h in (omega arith, l)
 
 -- ---- from 2 ^ 52 on there is no fraction
@@ -50,6 +56,9 @@ digits s (suc m) e f =
 pub no_fraction : (a : Float) → Part a → T (fits binary64 a) → lt a (fin false 1 (pos 52)) ≡ false
     → closest (num a) (den a) ≡ num a / den a
 unfolding lt
+no_fraction nan p f t = elim p [ ]
+no_fraction (inf _) p f t = elim p [ ]
+no_fraction (fin true m _) p f t = elim p [ ]
 no_fraction (fin false m (pos k)) p f t =
     ap (λ (n : ℕ). closest n 1) (sym (mul-one (m * 2 ^ k)))
     ∙ on_whole (m * 2 ^ k) 1 (lit≤ tt)
@@ -71,6 +80,9 @@ pub record Small (a : Float) : Type 0 where
 
 pub small : (a : Float) → Part a → lt a p52 ≡ true → Small a
 unfolding lt in_float
+small nan p t = elim p [ ]
+small (inf _) p t = elim p [ ]
+small (fin true m e) p t = elim p [ ]
 small (fin false m e) p t =
     let l : m * up e < 2 ^ 52 * down e = omega (arith, ltb-true (m * up e * 1) (1 * 2 ^ 52 * down e) t) in
     let c : ℕ = closest (m * up e) (down e) in

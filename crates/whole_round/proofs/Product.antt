@@ -20,6 +20,8 @@ use Rattle.whole_round.proofs.Answers.{held_over, past}
 pub by_value : (limit : ℤ) (y : Float) (s : Bool) (n d : ℕ) → 0 < d → HasValue y s n d
     → round_even limit y ≡ held limit (signed s (closest n d)) y
 unfolding round_even whole_of
+by_value limit nan s n d p v = elim v [ ]
+by_value limit (inf _) s n d p v = elim v [ ]
 by_value limit (fin t m e) s n d p v = rw (v.0, closest_same (m * up e) (down e) n d (down_pos e) p v.1)
 
 -- an infinity, where the exact value is past every limit

@@ -32,6 +32,8 @@ grid_is n d p h k =
     (closest_same (n * 2 ^ 1074) (d * 2 ^ 1074) n d (mul-pos p (pow_pos 1074)) p (mul_assoc n (2 ^ 1074) d ∙ ap (λ (z : ℕ). n * z) (mul_comm (2 ^ 1074) d)))
 
 unscaled : (y : Float) (c P : ℕ) → 0 < P → HasValue y false (c * P) P → HasValue y false c 1
+unscaled lib.Ieee.nan c P p v = elim v [ ]
+unscaled (lib.Ieee.inf _) c P p v = elim v [ ]
 unscaled (fin s m e) c P p v =
     (v.0, mul-one (m * up e) ∙ eq_of_mul-eq-mul_right P p (m * up e) (c * down e) (v.1 ∙ mul_right_comm c P (down e)))
 
@@ -65,6 +67,8 @@ of_int_holds c = refl
 
 off : (y : Float) (c : ℕ) → HasValue y false (c + 2 ^ 52) 1
     → sub binary64 y (fin false 1 (pos 52)) ≡ of_int binary64 (pos c)
+off lib.Ieee.nan c v = elim v [ ]
+off (lib.Ieee.inf _) c v = elim v [ ]
 off (fin true m e) c v = absurd (true≢false v.0)
 off (fin false m e) c v =
     let x : m * up e * 1 ≡ c * down e + 2 ^ 52 * down e = v.1 ∙ add-mul c (2 ^ 52) (down e) in

@@ -1,4 +1,6 @@
 // Doubles to whole numbers: nearest, a tie to the even one (02, Ask 3).
+#![tactic(auto)]
+
 ghost use Rattle.std.specs.Prelude.{◌≡◌, ◌^◌, ◌<◌, false, T, pos};
 ghost use Rattle.std.specs.Float.{fin};
 ghost use Rattle.std.specs.Float.Ieee.{lt};
@@ -6,7 +8,7 @@ ghost use Rattle.doubles.specs.Num.{size};
 ghost use Rattle.whole_round.specs.Whole.{Nearby, round_even, amount_of, right_sign, multiplier_of, is_whole, number_of};
 
 // 02: "Whole, or Beyond with the double that wouldn't fit the sheet's limit, or NotANumber".
-#[derive(Drop)]
+#[derive(Clone, Copy)]
 pub enum Rounded {
     Whole(i64),
     Beyond(f64),

@@ -1,12 +1,15 @@
 // What a program that replays a list reads and writes. Its input is words of eight bytes, the lowest byte first; what
-// it writes is text. No contract can say which bytes are read or written: these say what a word means, and that a count
-// fits its array.
+// it writes is text. Standard input and output have no contract that says which bytes: these say what a word means, and
+// that a count fits its array.
+#![tactic(auto)]
+
 ghost use Rattle.std.specs.Prelude.{◌≡◌, ◌%◌, ◌≤◌};
 ghost use Rattle.std.specs.Float.{binary64};
 ghost use Rattle.std.specs.Float.Ieee.{of_bits, to_bits};
 ghost use Rattle.words.specs.Counts.{Counts};
 
-use libc::STDOUT_FILENO;
+use std::io;
+use std::io::{Read, Write};
 
 const SIGN: u64 = 0x8000_0000_0000_0000;
 
@@ -18,10 +21,30 @@ fn wide(x: u8) -> u64 {
     x as u64
 }
 
-// The next word, 0 where the input has ended.
-pub fn next() -> u64 {
+// The next bytes, and zeros past the input's end. A read that fails is the end of the input.
+fn next_bytes<R: Read>(input: &mut R) -> [u8; 8] {
     let mut b = [0u8; 8];
-    io::read_full(0, &mut b);
+    let mut k = 0;
+    while k < 8 {
+        let n = match input.read(&mut b[k..]) {
+            Ok(n) => n,
+            Err(_) => 0,
+        };
+        if n == 0 {
+            break;
+        }
+        k += n;
+    }
+    b
+}
+
+// The next word, 0 where the input has ended.
+pub fn next<R: Read>(input: &mut R) -> u64 {
+    let b = next_bytes(input);
+    word_of(b)
+}
+
+fn word_of(b: [u8; 8]) -> u64 {
     wide(b[0])
         | (wide(b[1]) << 8)
         | (wide(b[2]) << 16)
@@ -32,8 +55,8 @@ pub fn next() -> u64 {
         | (wide(b[7]) << 56)
 }
 
-pub fn next_place() -> usize {
-    next() as usize
+pub fn next_place<R: Read>(input: &mut R) -> usize {
+    next(input) as usize
 }
 
 // The lowest byte of a word.
@@ -43,8 +66,8 @@ pub fn byte_of(word: u64) -> u8
     (word % 256) as u8
 }
 
-pub fn next_byte() -> u8 {
-    byte_of(next())
+pub fn next_byte<R: Read>(input: &mut R) -> u8 {
+    byte_of(next(input))
 }
 
 // The double with these bits; all NaN are one.
@@ -66,8 +89,8 @@ pub fn bits_of(x: f64) -> u64
     f64::to_bits(x)
 }
 
-pub fn next_double() -> f64 {
-    double_of(next())
+pub fn next_double<R: Read>(input: &mut R) -> f64 {
+    double_of(next(input))
 }
 
 // A count that comes from the input, held to what there is room for.
@@ -81,125 +104,113 @@ pub fn least(n: usize, room: usize) -> usize
 }
 
 // The first n cells, or all.
-pub fn fill_places(out: &mut [usize], n: usize) {
-    let mut k = 0;
-    while k < out.len() {
-        if k == n {
-            return;
-        }
-        out[k] = next_place();
-        k += 1;
+pub fn fill_places<R: Read>(input: &mut R, out: &mut [usize], n: usize) {
+    for cell in out.iter_mut().take(n) {
+        *cell = next_place(input);
     }
 }
 
-pub fn fill_doubles(out: &mut [f64], n: usize) {
-    let mut k = 0;
-    while k < out.len() {
-        if k == n {
-            return;
-        }
-        out[k] = next_double();
-        k += 1;
+pub fn fill_doubles<R: Read>(input: &mut R, out: &mut [f64], n: usize) {
+    for cell in out.iter_mut().take(n) {
+        *cell = next_double(input);
     }
 }
 
-pub fn fill_bytes(out: &mut [u8], n: usize) {
-    let mut k = 0;
-    while k < out.len() {
-        if k == n {
-            return;
-        }
-        out[k] = next_byte();
-        k += 1;
+pub fn fill_bytes<R: Read>(input: &mut R, out: &mut [u8], n: usize) {
+    for cell in out.iter_mut().take(n) {
+        *cell = next_byte(input);
     }
 }
 
 // A length, then so many cells: how many of the array are lent.
-pub fn read_places(out: &mut [usize]) -> usize
+pub fn read_places<R: Read>(input: &mut R, out: &mut [usize]) -> usize
     ensures { Counts result out.new }
 {
-    let n = least(next_place(), out.len());
-    fill_places(out, n);
+    let n = least(next_place(input), out.len());
+    fill_places(input, out, n);
     n
 }
 
-pub fn read_doubles(out: &mut [f64]) -> usize
+pub fn read_doubles<R: Read>(input: &mut R, out: &mut [f64]) -> usize
     ensures { Counts result out.new }
 {
-    let n = least(next_place(), out.len());
-    fill_doubles(out, n);
+    let n = least(next_place(input), out.len());
+    fill_doubles(input, out, n);
     n
 }
 
-pub fn read_bytes(out: &mut [u8]) -> usize
+pub fn read_bytes<R: Read>(input: &mut R, out: &mut [u8]) -> usize
     ensures { Counts result out.new }
 {
-    let n = least(next_place(), out.len());
-    fill_bytes(out, n);
+    let n = least(next_place(input), out.len());
+    fill_bytes(input, out, n);
     n
 }
 
-pub fn text(bytes: &[u8]) {
-    io::write_all(STDOUT_FILENO, bytes);
+pub fn text<W: Write>(out: &mut W, bytes: &[u8]) -> io::Result<()> {
+    out.write_all(bytes)
 }
 
-pub fn end_line() {
-    text(b"\n");
+pub fn end_line<W: Write>(out: &mut W) -> io::Result<()> {
+    text(out, b"\n")
 }
 
-pub fn hex(n: u64, width: usize) {
-    io::print_hex(STDOUT_FILENO, n, width);
+// How many hexadecimal digits a number takes.
+fn digits_of(n: u64) -> usize {
+    let mut k = 1;
+    let mut rest = n / 16;
+    while rest > 0 {
+        rest /= 16;
+        k += 1;
+    }
+    k
 }
 
-pub fn decimal(n: u64) {
-    io::print_decimal(STDOUT_FILENO, n);
+// With zeros in front, up to width digits, or sixteen.
+pub fn hex<W: Write>(out: &mut W, n: u64, width: usize) -> io::Result<()> {
+    for _ in digits_of(n)..least(width, 16) {
+        text(out, b"0")?;
+    }
+    write!(out, "{n:x}")
+}
+
+pub fn decimal<W: Write>(out: &mut W, n: u64) -> io::Result<()> {
+    write!(out, "{n}")
 }
 
 // A space first, here and below.
-pub fn place(n: usize) {
-    text(b" ");
-    decimal(n as u64);
+pub fn place<W: Write>(out: &mut W, n: usize) -> io::Result<()> {
+    text(out, b" ")?;
+    decimal(out, n as u64)
 }
 
-pub fn double(x: f64) {
-    text(b" ");
-    hex(bits_of(x), 16);
+pub fn double<W: Write>(out: &mut W, x: f64) -> io::Result<()> {
+    text(out, b" ")?;
+    hex(out, bits_of(x), 16)
 }
 
 // The first n cells, or all.
-pub fn places(list: &[usize], n: usize) {
-    let mut k = 0;
-    while k < list.len() {
-        if k == n {
-            return;
-        }
-        place(list[k]);
-        k += 1;
+pub fn places<W: Write>(out: &mut W, list: &[usize], n: usize) -> io::Result<()> {
+    for x in list.iter().take(n) {
+        place(out, *x)?;
     }
+    Ok(())
 }
 
-pub fn doubles(list: &[f64], n: usize) {
-    let mut k = 0;
-    while k < list.len() {
-        if k == n {
-            return;
-        }
-        double(list[k]);
-        k += 1;
+pub fn doubles<W: Write>(out: &mut W, list: &[f64], n: usize) -> io::Result<()> {
+    for x in list.iter().take(n) {
+        double(out, *x)?;
     }
+    Ok(())
 }
 
 fn number(x: u8) -> usize {
     x as usize
 }
 
-pub fn bytes(list: &[u8], n: usize) {
-    let mut k = 0;
-    while k < list.len() {
-        if k == n {
-            return;
-        }
-        place(number(list[k]));
-        k += 1;
+pub fn bytes<W: Write>(out: &mut W, list: &[u8], n: usize) -> io::Result<()> {
+    for x in list.iter().take(n) {
+        place(out, number(*x))?;
     }
+    Ok(())
 }

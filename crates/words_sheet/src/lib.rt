@@ -1,5 +1,9 @@
 // A sheet as text, for the program that replays sheets: its kept numbers with the verdict, and the cells of its plan.
+#![tactic(auto)]
+
 use sheet_rules::Verdict;
+use std::io;
+use std::io::Write;
 
 pub const ROWS: usize = doubles::MAX_ROWS;
 
@@ -7,46 +11,43 @@ pub const COLUMNS: usize = doubles::MAX_COLUMNS;
 
 pub const COEFS: usize = doubles::MAX_ROWS * doubles::MAX_COLUMNS;
 
-fn bare(n: i64) {
+fn bare<W: Write>(out: &mut W, n: i64) -> io::Result<()> {
     if n < 0 {
-        words::text(b"-");
+        words::text(out, b"-")?;
     }
-    words::decimal(sheet_terms::size(n));
+    words::decimal(out, sheet_terms::size(n))
 }
 
-fn signed(n: i64) {
-    words::text(b" ");
-    bare(n);
+fn signed<W: Write>(out: &mut W, n: i64) -> io::Result<()> {
+    words::text(out, b" ")?;
+    bare(out, n)
 }
 
 // The first n cells, or all.
-fn cells(list: &[i64], n: usize) {
-    let mut k = 0;
-    while k < list.len() {
-        if k == n {
-            return;
-        }
-        signed(list[k]);
-        k += 1;
+fn cells<W: Write>(out: &mut W, list: &[i64], n: usize) -> io::Result<()> {
+    for x in list.iter().take(n) {
+        signed(out, *x)?;
     }
+    Ok(())
 }
 
-fn show_verdict(v: Verdict) {
-    words::text(b" verdict");
+fn show_verdict<W: Write>(out: &mut W, v: Verdict) -> io::Result<()> {
+    words::text(out, b" verdict")?;
     match v {
-        Verdict::NoneExists => words::text(b" none"),
-        Verdict::NotPlan => words::text(b" no-plan"),
-        Verdict::NoFloor => words::text(b" no-floor"),
+        Verdict::NoneExists => words::text(out, b" none"),
+        Verdict::NotPlan => words::text(out, b" no-plan"),
+        Verdict::NoFloor => words::text(out, b" no-floor"),
         Verdict::Gap(gap) => {
-            words::text(b" gap:");
-            bare(gap);
+            words::text(out, b" gap:")?;
+            bare(out, gap)
         }
-        Verdict::Refused(number) => words::place(number),
+        Verdict::Refused(number) => words::place(out, number),
     }
 }
 
 // The kept numbers and the verdict.
-pub fn show_kept(
+pub fn show_kept<W: Write>(
+    out: &mut W,
     rows: usize,
     columns: usize,
     coefs: &[i64; COEFS],
@@ -64,17 +65,17 @@ pub fn show_kept(
     c: &[i64; 1],
     b: &[i64; 1],
     counts: &[i64; 4],
-) {
-    words::text(b" R");
-    cells(r, rows);
-    words::text(b" D");
-    cells(d, columns);
-    words::text(b" C");
-    cells(c, 1);
-    words::text(b" B");
-    cells(b, 1);
-    words::text(b" counts");
-    cells(counts, 4);
+) -> io::Result<()> {
+    words::text(out, b" R")?;
+    cells(out, r, rows)?;
+    words::text(out, b" D")?;
+    cells(out, d, columns)?;
+    words::text(out, b" C")?;
+    cells(out, c, 1)?;
+    words::text(out, b" B")?;
+    cells(out, b, 1)?;
+    words::text(out, b" counts")?;
+    cells(out, counts, 4)?;
     let v = sheet_verdict::verdict(
         rows,
         columns,
@@ -94,12 +95,13 @@ pub fn show_kept(
         b,
         counts,
     );
-    show_verdict(v);
-    words::end_line();
+    show_verdict(out, v)?;
+    words::end_line(out)
 }
 
 // The cells of the plan, as many as were lent.
-pub fn show_plan(
+pub fn show_plan<W: Write>(
+    out: &mut W,
     n_coefs: usize,
     n_costs: usize,
     n_lowers: usize,
@@ -120,27 +122,27 @@ pub fn show_plan(
     ops: &[u8; ROWS],
     amounts: &[i64; COLUMNS],
     mults: &[i64; ROWS],
-) {
-    words::text(b"end");
-    words::text(b" coef");
-    cells(coefs, n_coefs);
-    words::text(b" cost");
-    cells(costs, n_costs);
-    words::text(b" lower");
-    cells(lowers, n_lowers);
-    words::text(b" upper");
-    cells(uppers, n_uppers);
-    words::text(b" haslow");
-    words::bytes(lower_marks, n_lower_marks);
-    words::text(b" hasup");
-    words::bytes(upper_marks, n_upper_marks);
-    words::text(b" rhs");
-    cells(rhs, n_rights);
-    words::text(b" ops");
-    words::bytes(ops, n_ops);
-    words::text(b" amount");
-    cells(amounts, n_amounts);
-    words::text(b" mult");
-    cells(mults, n_mults);
-    words::end_line();
+) -> io::Result<()> {
+    words::text(out, b"end")?;
+    words::text(out, b" coef")?;
+    cells(out, coefs, n_coefs)?;
+    words::text(out, b" cost")?;
+    cells(out, costs, n_costs)?;
+    words::text(out, b" lower")?;
+    cells(out, lowers, n_lowers)?;
+    words::text(out, b" upper")?;
+    cells(out, uppers, n_uppers)?;
+    words::text(out, b" haslow")?;
+    words::bytes(out, lower_marks, n_lower_marks)?;
+    words::text(out, b" hasup")?;
+    words::bytes(out, upper_marks, n_upper_marks)?;
+    words::text(out, b" rhs")?;
+    cells(out, rhs, n_rights)?;
+    words::text(out, b" ops")?;
+    words::bytes(out, ops, n_ops)?;
+    words::text(out, b" amount")?;
+    cells(out, amounts, n_amounts)?;
+    words::text(out, b" mult")?;
+    cells(out, mults, n_mults)?;
+    words::end_line(out)
 }

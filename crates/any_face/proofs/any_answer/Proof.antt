@@ -44,53 +44,53 @@ module _ {n : TevalumiAnswer} {z : TevalumiAnyAnswer} where
   unfolding any_numbers as_any_row way_of steps_of_costless fix_numbers
   repriced k a e f = f ∙ ap (λ (t : TevalumiAnswer). any_face t 2 k) e
 
-enum-known-a : tie.Need-enum-known-a
+enum-known-a : tie.Need-enum_known-a
 enum-known-a c = search rules
 
-solve-answer-requires : tie.Need-solve-answer-requires
+solve-answer-requires : tie.Need-solve_answer-requires
 solve-answer-requires c κs = search rules
 
-any-face-requires : tie.Need-any-face-requires
+any-face-requires : tie.Need-any_face-requires
 any-face-requires c κs = search rules
 
-enum-known-a-2 : tie.Need-enum-known-a-2
+enum-known-a-2 : tie.Need-enum_known-a-in-Halted-1
 enum-known-a-2 c = search rules
 
-solve-answer-requires-2 : tie.Need-solve-answer-requires-2
+solve-answer-requires-2 : tie.Need-solve_answer-answer-requires
 solve-answer-requires-2 c κs = search rules
 
-any-face-requires-2 : tie.Need-any-face-requires-2
+any-face-requires-2 : tie.Need-any_face-requires-in-Halted
 any-face-requires-2 c κs = search rules
 
-enum-known-a-3 : tie.Need-enum-known-a-3
+enum-known-a-3 : tie.Need-enum_known-a-in-Repriced-1
 enum-known-a-3 c = search rules
 
-fix-answer-requires : tie.Need-fix-answer-requires
+fix-answer-requires : tie.Need-fix_answer-requires
 fix-answer-requires c κs = search rules
 
-any-face-requires-3 : tie.Need-any-face-requires-3
+any-face-requires-3 : tie.Need-any_face-requires-in-Repriced
 any-face-requires-3 c κs = search rules
 
-returns : tie.Need-returns
+returns : tie.Need-returns-in-Direct
 returns c =
-    let k : tie.After-a = search in
-    let r : tie.After-solve-answer = search in
-    rw k.a.given.1 (direct _ r.solve-answer.ensures c.any-face.ensures)
+    let k : tie.In-Direct = search in
+    let r : tie.After-solve_answer = search in
+    rw k.in-Direct.is (direct _ r.solve_answer.ensures c.any_face.ensures)
 
-returns-2 : tie.Need-returns-2
+returns-2 : tie.Need-returns-in-Halted
 returns-2 c =
-    let k : tie.After-a2 = search in
-    let r : tie.After-solve-answer2 = search in
-    rw k.a2.given.1 (halted _ r.solve-answer2.ensures c.any-face2.ensures)
+    let k : tie.In-Halted = search in
+    let r : tie.After-solve_answer-answer = search in
+    rw k.in-Halted.is (halted _ r.solve_answer-answer.ensures c.any_face-in-Halted.ensures)
 
-returns-3 : tie.Need-returns-3
+returns-3 : tie.Need-returns-in-Repriced
 returns-3 c =
-    let k : tie.After-a3 = search in
-    let r : tie.After-fix-answer = search in
-    rw k.a3.given.1 (repriced _ _ r.fix-answer.ensures c.any-face3.ensures)
+    let k : tie.In-Repriced = search in
+    let r : tie.After-fix_answer = search in
+    rw k.in-Repriced.is (repriced _ _ r.fix_answer.ensures c.any_face-in-Repriced.ensures)
 
-pub any-answer-spec : {M : Type 1} → statement M
-any-answer-spec =
+pub any_answer_spec : {M : Type 1} → statement M
+any_answer_spec =
     tie.close
     (tie.spec
     enum-known-a

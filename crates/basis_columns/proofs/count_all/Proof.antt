@@ -14,14 +14,14 @@ use Rattle.basis_columns.proofs.Counts.{counting}
 use Rattle.basis_columns.proofs.count_all.Statement.{statement}
 use Rattle.basis_columns.proofs.count_all.Tie as tie
 
-abbrev invariant-loop : tie.invariant-loop
+abbrev invariant-loop : tie.invariant-loop-r
 invariant-loop starts cols kept counts₀ r₀ counts r = (r ≤ length kept) × (counts ≡ run (count_row (rowed max_columns starts cols [] kept)) r counts₀)
 
-abbrev decreases-loop : tie.decreases-loop
+abbrev decreases-loop : tie.decreases-loop-r
 decreases-loop starts cols kept counts₀ r₀ counts r = length kept - r
 
 abbrev In : Type 0
-In = tie.In-loop invariant-loop decreases-loop
+In = tie.In-loop-r invariant-loop decreases-loop
 
 abbrev entry : In → tie.Start invariant-loop decreases-loop
 entry t = search
@@ -29,43 +29,43 @@ entry t = search
 abbrev problem_at : In → Problem
 problem_at t = let a = (entry t).args in rowed max_columns a.starts.now a.cols.now [] a.kept.now
 
-loop-holds : tie.Need-loop-init invariant-loop decreases-loop
+loop-holds : tie.Need-loop-r-init invariant-loop decreases-loop
 unfolding run
 loop-holds c = (omega arith, refl)
 
-mul-i : tie.Need-overflow-mul-i invariant-loop decreases-loop
+mul-i : tie.Need-offset_bounds-kept-r invariant-loop decreases-loop
 mul-i c = omega arith
 
-shared-slice-read-i : tie.Need-shared-slice-read-i invariant-loop decreases-loop
+shared-slice-read-i : tie.Need-bounds-kept-r invariant-loop decreases-loop
 shared-slice-read-i c = omega arith
 
-row-cols-requires : tie.Need-row-cols-requires invariant-loop decreases-loop
+row-cols-requires : tie.Need-row_cols-requires invariant-loop decreases-loop
 row-cols-requires c κs = let t : In = search in
-    ((entry t).pre.0.row _ t.loop-test.taken).cols_in
+    ((entry t).requires.0.row _ t.loop-r-test.true).cols_in
 
-count-row-requires : tie.Need-count-row-requires invariant-loop decreases-loop
+count-row-requires : tie.Need-count_row-requires invariant-loop decreases-loop
 count-row-requires c κs = let t : In = search in
-    let d : tie.After-row-cols invariant-loop decreases-loop = search in
-    let z = (entry t).pre.1 in
-    rw (d.row-cols.ensures, t.before.loop.inv.1) (counting (problem_at t) (entry t).pre.0 _ z.long z.zero_at _ t.loop-test.taken)
+    let d : tie.After-row_cols invariant-loop decreases-loop = search in
+    let z = (entry t).requires.1 in
+    rw (d.row_cols.ensures, t.loop-r.invariant.1) (counting (problem_at t) (entry t).requires.0 _ z.long z.zero_at _ t.loop-r-test.true)
 
-add_r : tie.Need-overflow-add-r invariant-loop decreases-loop
+add_r : tie.Need-overflow_add-r invariant-loop decreases-loop
 add_r c = omega arith
 
-loop-less : tie.Need-loop-smaller invariant-loop decreases-loop
+loop-less : tie.Need-loop-r-smaller invariant-loop decreases-loop
 loop-less c = omega arith
 
-loop-again : tie.Need-loop-preserved invariant-loop decreases-loop
+loop-again : tie.Need-loop-r-preserved invariant-loop decreases-loop
 loop-again c = let t : In = search in
-    let d : tie.After-row-cols invariant-loop decreases-loop = search in
-    (omega arith, next _ _ t.before.loop.r t.before.loop.inv.1 (c.count-row.ensures ∙ ap (λ (l : List ℕ). counted_in l t.before.loop.counts) d.row-cols.ensures))
+    let d : tie.After-row_cols invariant-loop decreases-loop = search in
+    (omega arith, next _ _ t.loop-r.r t.loop-r.invariant.1 (c.count_row.ensures ∙ ap (λ (l : List ℕ). counted_in l t.loop-r.counts) d.row_cols.ensures))
 
 returns : tie.Need-returns invariant-loop decreases-loop
 unfolding counted
-returns c = done _ _ _ _ c.before.loop.invariant.0 c.loop-test.false c.before.loop.invariant.1
+returns c = done _ _ _ _ c.loop-r.invariant.0 c.loop-r-test.false c.loop-r.invariant.1
 
-pub count-all-spec : {M : Type 1} → statement M
-count-all-spec =
+pub count_all_spec : {M : Type 1} → statement M
+count_all_spec =
     tie.close
     (tie.spec
     invariant-loop

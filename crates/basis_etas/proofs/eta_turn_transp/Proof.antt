@@ -7,69 +7,69 @@ use Rattle.basis_etas.proofs.Laws.{col_read}
 use Rattle.basis_etas.proofs.eta_turn_transp.Statement.{statement}
 use Rattle.basis_etas.proofs.eta_turn_transp.Tie as tie
 
-mul-a : tie.Need-overflow-mul-a
+mul-a : tie.Need-offset_bounds-starts-k
 mul-a c = search rules
 
-shared-slice-read-a : tie.Need-shared-slice-read-a
+shared-slice-read-a : tie.Need-bounds-starts-k
 shared-slice-read-a c = search rules
 
-add-e : tie.Need-overflow-add-e
+add-e : tie.Need-overflow_add-e
 add-e c = search rules
 
-mul-e : tie.Need-overflow-mul-e
+mul-e : tie.Need-offset_bounds-starts-k-2
 mul-e c = search rules
 
-shared-slice-read-e : tie.Need-shared-slice-read-e
+shared-slice-read-e : tie.Need-bounds-starts-k-2
 shared-slice-read-e c = search rules
 
-mul-dot : tie.Need-overflow-mul-dot
+mul-dot : tie.Need-offset_bounds-rows-a
 mul-dot c = search rules
 
-sub-dot : tie.Need-overflow-sub-dot
+sub-dot : tie.Need-slice_bounds-dot-count
 sub-dot c = search rules
 
-part-dot-start : tie.Need-slice-bounds-dot-start
+part-dot-start : tie.Need-slice_bounds-dot-start
 part-dot-start c = search rules
 
-part-dot-end : tie.Need-slice-bounds-dot-end
+part-dot-end : tie.Need-slice_bounds-dot-end
 part-dot-end c = search rules
 
-mul-dot-2 : tie.Need-overflow-mul-dot-2
+mul-dot-2 : tie.Need-offset_bounds-coeffs-a
 mul-dot-2 c = search rules
 
-sub-dot-2 : tie.Need-overflow-sub-dot-2
+sub-dot-2 : tie.Need-slice_bounds-dot-count-2
 sub-dot-2 c = search rules
 
-part-dot-start-2 : tie.Need-slice-bounds-dot-start-2
+part-dot-start-2 : tie.Need-slice_bounds-dot-start-2
 part-dot-start-2 c = search rules
 
-part-dot-end-2 : tie.Need-slice-bounds-dot-end-2
+part-dot-end-2 : tie.Need-slice_bounds-dot-end-2
 part-dot-end-2 c = search rules
 
-dot-requires : tie.Need-dot-requires
+dot-requires : tie.Need-dot-coeff-requires
 dot-requires c κs =
     let s : tie.Start = search in
-    let r = col_read _ _ s.pre.1 in
-    (r.0, rw s.pre.0.vals_long r.1)
+    let r = col_read _ _ s.requires.1 in
+    (r.0, rw s.requires.0.vals_long r.1)
 
-mul-r : tie.Need-overflow-mul-r
+mul-r : tie.Need-offset_bounds-leaving-k
 mul-r c = search rules
 
-shared-slice-read-r : tie.Need-shared-slice-read-r
+shared-slice-read-r : tie.Need-bounds-leaving-k
 shared-slice-read-r c = search rules
 
-sub-at-requires : tie.Need-sub-at-requires
+sub-at-requires : tie.Need-sub_at-requires
 sub-at-requires c κs = search rules
 
 returns : tie.Need-returns
 unfolding eta_turn_transp
 returns c =
-    let d : tie.After-dot = search in
-    let e : tie.After-sub-at = search in
-    e.sub_at.ensures ∙ ap (sub_at _ _) d.dot.ensures
+    let d : tie.After-dot-coeff = search in
+    let e : tie.After-sub_at = search in
+    e.sub_at.ensures ∙ ap (sub_at _ _) d.dot-coeff.ensures
 
-pub eta-turn-transp-spec : {M : Type 1} → statement M
-eta-turn-transp-spec =
+pub eta_turn_transp_spec : {M : Type 1} → statement M
+eta_turn_transp_spec =
     tie.close
     (tie.spec
     mul-a

@@ -13,56 +13,56 @@ use Rattle.basis_etas.proofs.Laws.{good_eta_turn_transp}
 use Rattle.basis_etas.proofs.solve_etas_transp.Statement.{statement}
 use Rattle.basis_etas.proofs.solve_etas_transp.Tie as tie
 
-abbrev invariant-loop : tie.invariant-loop
+abbrev invariant-loop : tie.invariant-loop-k
 invariant-loop values₀ marks₀ list₀ count leaving starts rows coeffs n c₀ k₀ values marks list c k =
     (k ≤ n) × Good places (sv values marks list c)
     × (down (eta_turn_transp (etas_of leaving starts rows coeffs)) k (sv values marks list c) ≡ solve_etas_transp (etas_of leaving starts rows coeffs) n (sv values₀ marks₀ list₀ count))
 
-abbrev decreases-loop : tie.decreases-loop
+abbrev decreases-loop : tie.decreases-loop-k
 decreases-loop values₀ marks₀ list₀ count leaving starts rows coeffs n c₀ k₀ values marks list c k = k
 
-abbrev entry : tie.At-loop invariant-loop decreases-loop → tie.Start invariant-loop decreases-loop
+abbrev entry : tie.At-loop-k invariant-loop decreases-loop → tie.Start invariant-loop decreases-loop
 entry a = search
 
 -- in a turn: column k - 1 can be read
-col : (t : tie.In-loop invariant-loop decreases-loop)
+col : (t : tie.In-loop-k invariant-loop decreases-loop)
     → ReadableCol
     (etas_of (entry t.before).args.leaving.now (entry t.before).args.starts.now (entry t.before).args.rows.now (entry t.before).args.coeffs.now)
-    (t.before.loop.k - 1)
-col t = (entry t.before).pre.1.column (t.before.loop.k - 1) (omega arith)
+    (t.loop-k.k - 1)
+col t = (entry t.before).requires.1.column (t.loop-k.k - 1) (omega arith)
 
-loop-holds : tie.Need-loop-init invariant-loop decreases-loop
+loop-holds : tie.Need-loop-k-init invariant-loop decreases-loop
 unfolding solve_etas_transp
 loop-holds c =
     let s : tie.Start invariant-loop decreases-loop = search in
-    (omega arith, s.pre.0, refl)
+    (omega arith, s.requires.0, refl)
 
-sub-k : tie.Need-overflow-sub-k invariant-loop decreases-loop
+sub-k : tie.Need-overflow_sub-k invariant-loop decreases-loop
 sub-k c = omega arith
 
-eta-turn-transp-requires : tie.Need-eta-turn-transp-requires invariant-loop decreases-loop
+eta-turn-transp-requires : tie.Need-eta_turn_transp-c-requires invariant-loop decreases-loop
 eta-turn-transp-requires c κs =
-    let t : tie.In-loop invariant-loop decreases-loop = search in
-    (t.before.loop.inv.1, col t)
+    let t : tie.In-loop-k invariant-loop decreases-loop = search in
+    (t.loop-k.invariant.1, col t)
 
-loop-less : tie.Need-loop-smaller invariant-loop decreases-loop
+loop-less : tie.Need-loop-k-smaller invariant-loop decreases-loop
 loop-less c = omega arith
 
-loop-again : tie.Need-loop-preserved invariant-loop decreases-loop
+loop-again : tie.Need-loop-k-preserved invariant-loop decreases-loop
 loop-again c =
-    let t : tie.In-loop invariant-loop decreases-loop = search in
-    let d : tie.After-eta-turn-transp invariant-loop decreases-loop = search in
-    let e = d.eta-turn-transp.ensures in (
-      omega (arith, t.before.loop.inv.0),
-      subst (Good _) (sym e) (good_eta_turn_transp _ _ (col t) _ t.before.loop.inv.1),
-      back _ t.before.loop.k t.loop-test.taken e t.before.loop.inv.2,
+    let t : tie.In-loop-k invariant-loop decreases-loop = search in
+    let d : tie.After-eta_turn_transp-c invariant-loop decreases-loop = search in
+    let e = d.eta_turn_transp-c.ensures in (
+      omega (arith, t.loop-k.invariant.0),
+      subst (Good _) (sym e) (good_eta_turn_transp _ _ (col t) _ t.loop-k.invariant.1),
+      back _ t.loop-k.k t.loop-k-test.true e t.loop-k.invariant.2,
     )
 
 returns : tie.Need-returns invariant-loop decreases-loop
-returns c = back_done _ c.before.loop.k c.loop-test.false c.before.loop.invariant.2
+returns c = back_done _ c.loop-k.k c.loop-k-test.false c.loop-k.invariant.2
 
-pub solve-etas-transp-spec : {M : Type 1} → statement M
-solve-etas-transp-spec =
+pub solve_etas_transp_spec : {M : Type 1} → statement M
+solve_etas_transp_spec =
     tie.close
     (tie.spec
     invariant-loop

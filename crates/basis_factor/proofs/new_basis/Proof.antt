@@ -28,55 +28,55 @@ copied_more {from} {to} {k} c h =
           (last? i k l);
     }
 
-abbrev invariant-loop : tie.invariant-loop
+abbrev invariant-loop : tie.invariant-loop-k
 invariant-loop from row enters to₀ k₀ to k = Copied from k to
 
-abbrev decreases-loop : tie.decreases-loop
+abbrev decreases-loop : tie.decreases-loop-k
 decreases-loop from row enters to₀ k₀ to k = max_rows - k
 
-loop-holds : tie.Need-loop-init invariant-loop decreases-loop
+loop-holds : tie.Need-loop-k-init invariant-loop decreases-loop
 loop-holds c =
     let s : tie.Start invariant-loop decreases-loop = search in
-    record { few = omega arith; long = s.pre.1; same = λ i l. absurd (omega arith) }
+    record { few = omega arith; long = s.requires.1; same = λ i l. absurd (omega arith) }
 
-mul-basis : tie.Need-overflow-mul-basis invariant-loop decreases-loop
+mul-basis : tie.Need-offset_bounds-basic_vars-k invariant-loop decreases-loop
 mul-basis c = omega arith
 
-shared-slice-read-basis : tie.Need-shared-slice-read-basis invariant-loop decreases-loop
+shared-slice-read-basis : tie.Need-bounds-basic_vars-k invariant-loop decreases-loop
 shared-slice-read-basis c = omega arith
 
-mul-basis-2 : tie.Need-overflow-mul-basis-2 invariant-loop decreases-loop
+mul-basis-2 : tie.Need-offset_bounds-basis-k invariant-loop decreases-loop
 mul-basis-2 c = omega arith
 
-element-write-basis : tie.Need-element-write-basis invariant-loop decreases-loop
+element-write-basis : tie.Need-bounds-basis-k invariant-loop decreases-loop
 element-write-basis c = omega arith
 
-add-k : tie.Need-overflow-add-k invariant-loop decreases-loop
+add-k : tie.Need-overflow_add-k invariant-loop decreases-loop
 add-k c = omega arith
 
-loop-less : tie.Need-loop-smaller invariant-loop decreases-loop
+loop-less : tie.Need-loop-k-smaller invariant-loop decreases-loop
 loop-less c = omega arith
 
-loop-again : tie.Need-loop-preserved invariant-loop decreases-loop
-loop-again c = let t : tie.In-loop invariant-loop decreases-loop = search in copied_more t.before.loop.inv t.loop-test.taken
+loop-again : tie.Need-loop-k-preserved invariant-loop decreases-loop
+loop-again c = let t : tie.In-loop-k invariant-loop decreases-loop = search in copied_more t.loop-k.invariant t.loop-k-test.true
 
-mul-basis-3 : tie.Need-overflow-mul-basis-3 invariant-loop decreases-loop
+mul-basis-3 : tie.Need-offset_bounds-basis-row invariant-loop decreases-loop
 mul-basis-3 c = omega arith
 
-element-write-basis-2 : tie.Need-element-write-basis-2 invariant-loop decreases-loop
+element-write-basis-2 : tie.Need-bounds-basis-row invariant-loop decreases-loop
 element-write-basis-2 c = omega arith
 
 returns : tie.Need-returns invariant-loop decreases-loop
 returns c =
     let s : tie.Start invariant-loop decreases-loop = search in
-    let a : tie.At-loop invariant-loop decreases-loop = search in
-    let v = a.loop.inv in
+    let a : tie.At-loop-k invariant-loop decreases-loop = search in
+    let v = a.loop-k.invariant in
     ap (λ (l : List ℕ). set l s.args.row s.args.enters)
-    (ext_get_or 0 a.loop.basis s.args.basic-vars.now (v.long ∙ sym s.pre.0)
+    (ext_get_or 0 a.loop-k.basis s.args.basic_vars.now (v.long ∙ sym s.requires.0)
     (λ i h. v.same i (omega (arith, v.long))))
 
-pub new-basis-spec : {M : Type 1} → statement M
-new-basis-spec =
+pub new_basis_spec : {M : Type 1} → statement M
+new_basis_spec =
     tie.close
     (tie.spec
     invariant-loop

@@ -8,17 +8,17 @@ use Rattle.basis_solves.proofs.factor_solve.Tie as tie
 solve-requires : tie.Need-solve-requires
 solve-requires c κs =
     let s : tie.Start = search in
-    let t : tie.Then1 = search in
-    let f = s.pre.0 in
-    ((f.numbers_long, f.coeffs_long), (f.solid t.if1.taken, in_order s.pre.1))
+    let t : tie.Then-factored = search in
+    let f = s.requires.0 in
+    ((f.numbers_long, f.coeffs_long), (f.solid t.if-factored.true, in_order s.requires.1))
 
-returns : tie.Need-returns
+returns : tie.Need-returns-then-factored
 unfolding factor_solve
-returns c k = let t : tie.Then1 = search in rw t.if1.taken c.solve.ensures
+returns c k = let t : tie.Then-factored = search in rw t.if-factored.true c.solve.ensures
 
-returns-2 : tie.Need-returns-2
+returns-2 : tie.Need-returns
 unfolding factor_solve
-returns-2 c k = rw c.if1.false refl
+returns-2 c k = rw c.if-factored.false refl
 
-pub factor-solve-spec : {M : Type 1} → statement M
-factor-solve-spec = tie.close (tie.spec solve-requires returns returns-2)
+pub factor_solve_spec : {M : Type 1} → statement M
+factor_solve_spec = tie.close (tie.spec solve-requires returns returns-2)

@@ -5,20 +5,20 @@ use Rattle.basis_solves.proofs.Laws.{in_order}
 use Rattle.basis_solves.proofs.factor_solve_transp.Statement.{statement}
 use Rattle.basis_solves.proofs.factor_solve_transp.Tie as tie
 
-solve-transp-requires : tie.Need-solve-transp-requires
+solve-transp-requires : tie.Need-solve_transp-requires
 solve-transp-requires c κs =
     let s : tie.Start = search in
-    let t : tie.Then1 = search in
-    let f = s.pre.0 in
-    ((f.numbers_long, f.coeffs_long), (f.solid_transposed t.if1.taken, in_order s.pre.1))
+    let t : tie.Then-factored = search in
+    let f = s.requires.0 in
+    ((f.numbers_long, f.coeffs_long), (f.solid_transposed t.if-factored.true, in_order s.requires.1))
 
-returns : tie.Need-returns
+returns : tie.Need-returns-then-factored
 unfolding factor_solve_transp
-returns c k = let t : tie.Then1 = search in rw t.if1.taken c.solve-transp.ensures
+returns c k = let t : tie.Then-factored = search in rw t.if-factored.true c.solve_transp.ensures
 
-returns-2 : tie.Need-returns-2
+returns-2 : tie.Need-returns
 unfolding factor_solve_transp
-returns-2 c k = rw c.if1.false refl
+returns-2 c k = rw c.if-factored.false refl
 
-pub factor-solve-transp-spec : {M : Type 1} → statement M
-factor-solve-transp-spec = tie.close (tie.spec solve-transp-requires returns returns-2)
+pub factor_solve_transp_spec : {M : Type 1} → statement M
+factor_solve_transp_spec = tie.close (tie.spec solve-transp-requires returns returns-2)

@@ -7,31 +7,31 @@ use Rattle.basis_solves.proofs.Laws.{starts_with, solved_rows}
 use Rattle.basis_solves.proofs.helper.Statement.{statement}
 use Rattle.basis_solves.proofs.helper.Tie as tie
 
-relist-requires : tie.Need-relist-requires
-relist-requires c κs = let s : tie.Start = search in (fresh_blank, s.pre.0.1, s.pre.0.2)
+relist-requires : tie.Need-relist-again-requires
+relist-requires c κs = let s : tie.Start = search in (fresh_blank, s.requires.0.1, s.requires.0.2)
 
-solve-transp-requires : tie.Need-solve-transp-requires
+solve-transp-requires : tie.Need-solve_transp-c-requires
 solve-transp-requires c κs =
     let s : tie.Start = search in
-    let u : tie.After-relist = search in
-    starts_with s.pre.1.solve (u.relist.ensures [])
+    let u : tie.After-relist-again = search in
+    starts_with s.requires.1.solve (u.relist-again.ensures [])
 
 combine-requires : tie.Need-combine-requires
 combine-requires c κs =
     let s : tie.Start = search in
-    let u : tie.After-relist = search in
-    let d : tie.After-solve-transp = search in
-    let w = solved_rows _ _ _ _ _ _ s.pre.1 _
-    (d.solve-transp.ensures 0 ∙ ap (solve_transp _ _ _ _) (u.relist.ensures [])) in
-    ((s.pre.0.0, s.pre.1.few, w.0, w.1), s.pre.1.rows)
+    let u : tie.After-relist-again = search in
+    let d : tie.After-solve_transp-c = search in
+    let w = solved_rows _ _ _ _ _ _ s.requires.1 _
+    (d.solve_transp-c.ensures 0 ∙ ap (solve_transp _ _ _ _) (u.relist-again.ensures [])) in
+    ((s.requires.0.0, s.requires.1.few, w.0, w.1), s.requires.1.rows)
 
 returns : tie.Need-returns
 unfolding helper_of
 returns c k m =
-    let u : tie.After-relist = search in
-    let d : tie.After-solve-transp = search in
+    let u : tie.After-relist-again = search in
+    let d : tie.After-solve_transp-c = search in
     c.combine.ensures _
-    ∙ ap (combine _ _) (d.solve-transp.ensures k ∙ ap (solve_transp _ _ _ _) (u.relist.ensures m))
+    ∙ ap (combine _ _) (d.solve_transp-c.ensures k ∙ ap (solve_transp _ _ _ _) (u.relist-again.ensures m))
 
-pub helper-spec : {M : Type 1} → statement M
-helper-spec = tie.close (tie.spec relist-requires solve-transp-requires combine-requires returns)
+pub helper_spec : {M : Type 1} → statement M
+helper_spec = tie.close (tie.spec relist-requires solve-transp-requires combine-requires returns)

@@ -8,23 +8,23 @@ use Rattle.basis_solves.proofs.Laws.{good_factor_solve}
 use Rattle.basis_solves.proofs.solve.Statement.{statement}
 use Rattle.basis_solves.proofs.solve.Tie as tie
 
-factor-solve-requires : tie.Need-factor-solve-requires
+factor-solve-requires : tie.Need-factor_solve-c-requires
 factor-solve-requires c κs = search rules
 
-solve-etas-requires : tie.Need-solve-etas-requires
+solve-etas-requires : tie.Need-solve_etas-requires
 solve-etas-requires c κs =
     let s : tie.Start = search in
-    let d : tie.After-factor-solve = search in (
-      subst (Good places) (sym (d.factor-solve.ensures 0)) (good_factor_solve _ s.pre.0 _ s.pre.1.0),
-      s.pre.1.1,
+    let d : tie.After-factor_solve-c = search in (
+      subst (Good places) (sym (d.factor_solve-c.ensures 0)) (good_factor_solve _ s.requires.0 _ s.requires.1.0),
+      s.requires.1.1,
     )
 
 returns : tie.Need-returns
 unfolding solve
 returns c k =
-    let d : tie.After-factor-solve = search in
-    let e : tie.After-solve-etas = search in
-    e.solve-etas.ensures ∙ ap (solve_etas _ _) (d.factor-solve.ensures k)
+    let d : tie.After-factor_solve-c = search in
+    let e : tie.After-solve_etas = search in
+    e.solve_etas.ensures ∙ ap (solve_etas _ _) (d.factor_solve-c.ensures k)
 
-pub solve-spec : {M : Type 1} → statement M
-solve-spec = tie.close (tie.spec factor-solve-requires solve-etas-requires returns)
+pub solve_spec : {M : Type 1} → statement M
+solve_spec = tie.close (tie.spec factor-solve-requires solve-etas-requires returns)

@@ -4,13 +4,13 @@ use Rattle.rules.specs.Basis.{eta_entry}
 use Rattle.basis_store.proofs.eta_entry.Statement.{statement}
 use Rattle.basis_store.proofs.eta_entry.Tie as tie
 
-returns : tie.Need-returns
+returns : tie.Need-returns-then-r-row
 unfolding eta_entry
-returns c = rw (eq-eqb _ _ c.if1.true, eta_entry)
+returns c = rw (eq-eqb _ _ c.if-r-row.true, eta_entry)
 
-returns-2 : tie.Need-returns-2
+returns-2 : tie.Need-returns-else-r-row
 unfolding eta_entry
-returns-2 c = rw (ne_eqb _ _ c.if1.false, eta_entry)
+returns-2 c = rw (ne_eqb _ _ c.if-r-row.false, eta_entry)
 
-pub eta-entry-spec : {M : Type 1} → statement M
-eta-entry-spec = tie.close (tie.spec returns returns-2)
+pub eta_entry_spec : {M : Type 1} → statement M
+eta_entry_spec = tie.close (tie.spec returns returns-2)

@@ -36,91 +36,91 @@ rows_long s = section_length (eta_rows_at + used s) (kept_at - (eta_rows_at + us
 coeffs_long : (s : tie.Start) → length (coeffs s) ≡ dual_norms_at - (eta_coeffs_at + used s)
 coeffs_long s = section_length (eta_coeffs_at + used s) (dual_norms_at - (eta_coeffs_at + used s)) s.args.doubles.now (omega (arith, fits s, s.requires.0.0))
 
-add-used : tie.Need-overflow-add-used
+add-used : tie.Need-overflow_add-used
 add-used c = search rules
 
-mul-used : tie.Need-overflow-mul-used
+mul-used : tie.Need-offset_bounds-numbers-n
 mul-used c = search rules
 
-slice-read-used : tie.Need-slice-read-used
+slice-read-used : tie.Need-bounds-numbers-n
 slice-read-used c = search rules
 
-add-write-column : tie.Need-overflow-add-write-column
+add-write-column : tie.Need-overflow_add-used-2
 add-write-column c = let s : tie.Start = search in omega (arith, fits s)
 
-mul-write-column : tie.Need-overflow-mul-write-column
+mul-write-column : tie.Need-offset_bounds-numbers-used
 mul-write-column c = let s : tie.Start = search in omega (arith, fits s)
 
-sub-write-column : tie.Need-overflow-sub-write-column
+sub-write-column : tie.Need-slice_bounds-write_column-count
 sub-write-column c = let s : tie.Start = search in omega (arith, fits s)
 
-part-write-column-start : tie.Need-slice-bounds-write-column-start
+part-write-column-start : tie.Need-slice_bounds-write_column-start
 part-write-column-start c = let s : tie.Start = search in omega (arith, fits s)
 
-part-write-column-end : tie.Need-slice-bounds-write-column-end
+part-write-column-end : tie.Need-slice_bounds-write_column-end
 part-write-column-end c = search rules
 
-add-write-column-2 : tie.Need-overflow-add-write-column-2
+add-write-column-2 : tie.Need-overflow_add-used-3
 add-write-column-2 c = let s : tie.Start = search in omega (arith, fits s)
 
-mul-write-column-2 : tie.Need-overflow-mul-write-column-2
+mul-write-column-2 : tie.Need-offset_bounds-doubles-used
 mul-write-column-2 c = let s : tie.Start = search in omega (arith, fits s)
 
-sub-write-column-2 : tie.Need-overflow-sub-write-column-2
+sub-write-column-2 : tie.Need-slice_bounds-write_column-count-2
 sub-write-column-2 c = let s : tie.Start = search in omega (arith, fits s)
 
-part-write-column-start-2 : tie.Need-slice-bounds-write-column-start-2
+part-write-column-start-2 : tie.Need-slice_bounds-write_column-start-2
 part-write-column-start-2 c = let s : tie.Start = search in omega (arith, fits s)
 
-part-write-column-end-2 : tie.Need-slice-bounds-write-column-end-2
+part-write-column-end-2 : tie.Need-slice_bounds-write_column-end-2
 part-write-column-end-2 c = search rules
 
-write-column-requires : tie.Need-write-column-requires
-write-column-requires c κs = let s : tie.Start = search in ((omega (arith, fits s, rows_long s), omega (arith, fits s, coeffs_long s)), s.pre.1)
+write-column-requires : tie.Need-write_column-requires
+write-column-requires c κs = let s : tie.Start = search in ((omega (arith, fits s, rows_long s), omega (arith, fits s, coeffs_long s)), s.requires.1)
 
-add-numbers : tie.Need-overflow-add-numbers
+add-numbers : tie.Need-overflow_add-numbers
 add-numbers c = search rules
 
-mul-numbers : tie.Need-overflow-mul-numbers
+mul-numbers : tie.Need-offset_bounds-numbers-n-2
 mul-numbers c = search rules
 
-slice-write-numbers : tie.Need-slice-write-numbers
+slice-write-numbers : tie.Need-bounds-numbers-n-2
 slice-write-numbers c = search rules
 
-add-numbers-2 : tie.Need-overflow-add-numbers-2
+add-numbers-2 : tie.Need-overflow_add-numbers-2
 add-numbers-2 c = let s : tie.Start = search in omega (arith, fits s)
 
-add-numbers-3 : tie.Need-overflow-add-numbers-3
+add-numbers-3 : tie.Need-overflow_add-numbers-3
 add-numbers-3 c = search rules
 
-add-numbers-4 : tie.Need-overflow-add-numbers-4
+add-numbers-4 : tie.Need-overflow_add-numbers-4
 add-numbers-4 c = search rules
 
-mul-numbers-2 : tie.Need-overflow-mul-numbers-2
+mul-numbers-2 : tie.Need-offset_bounds-numbers-n-3
 mul-numbers-2 c = search rules
 
-slice-write-numbers-2 : tie.Need-slice-write-numbers-2
+slice-write-numbers-2 : tie.Need-bounds-numbers-n-3
 slice-write-numbers-2 c =
     let s : tie.Start = search in
-    let d : tie.After-write-column = search in
-    simp length-set (omega (arith, s.pre.0, same_len_mid (eta_rows_at + used s) (kept_at - (eta_rows_at + used s)) s.args.numbers.now d.write-column.last.0 d.write-column.kept.0))
+    let d : tie.After-write_column = search in
+    simp length-set (omega (arith, s.requires.0, same_len_mid (eta_rows_at + used s) (kept_at - (eta_rows_at + used s)) s.args.numbers.now d.write_column.new.out_rows d.write_column.auto.out_rows))
 
-same_length : tie.Need-same-length
+same_length : tie.Need-shape_of-numbers
 same_length c = search rules
 
-same-length-2 : tie.Need-same-length-2
+same-length-2 : tie.Need-shape_of-doubles
 same-length-2 c = search rules
 
 returns : tie.Need-returns
 returns c m =
     let s : tie.Start = search in
-    let d : tie.After-write-column = search in
+    let d : tie.After-write_column = search in
     let a = s.args in
-    push_is (sv a.values.now m a.list.now a.count) a.row a.pivot a.n a.numbers.now a.doubles.now s.pre.0.0 s.pre.0.1
-    (tail d.write-column.last.0 d.write-column.last.1.0) (d.write-column.ensures m) d.write-column.kept.0 d.write-column.kept.1.0
+    push_is (sv a.values.now m a.list.now a.count) a.row a.pivot a.n a.numbers.now a.doubles.now s.requires.0.0 s.requires.0.1
+    (tail d.write_column.new.out_rows d.write_column.new.out_coeffs) (d.write_column.ensures m) d.write_column.auto.out_rows d.write_column.auto.out_coeffs
 
-pub push-eta-spec : {M : Type 1} → statement M
-push-eta-spec =
+pub push_eta_spec : {M : Type 1} → statement M
+push_eta_spec =
     tie.close
     (tie.spec
     add-used

@@ -8,5 +8,5 @@ returns : tie.Need-returns
 unfolding flags_of
 returns c = refl
 
-pub read-flags-spec : {M : Type 1} → statement M
-read-flags-spec = tie.close (tie.spec returns)
+pub read_flags_spec : {M : Type 1} → statement M
+read_flags_spec = tie.close (tie.spec returns)

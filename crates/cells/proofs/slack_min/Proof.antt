@@ -10,17 +10,17 @@ use Rattle.cells.proofs.slack_min.Tie as tie
 infinity-requires : tie.Need-infinity-requires
 infinity-requires c κs = search rules
 
-returns : tie.Need-returns
+returns : tie.Need-returns-in-0
 unfolding slack_min
-returns c = rw c.match.keys1
+returns c = rw c.in-0.is
 
-returns-2 : tie.Need-returns-2
+returns-2 : tie.Need-returns-in-1
 unfolding slack_min
-returns-2 c = rw c.match.keys2
+returns-2 c = rw c.in-1.is
 
-returns-3 : tie.Need-returns-3
+returns-3 : tie.Need-returns-in_default
 unfolding neg
-returns-3 c = rw (c.infinity.ensures, slack_min_ge c.before.before.args.op (omega (arith, c.before.match.rest)))
+returns-3 c = rw (c.infinity.ensures, slack_min_ge c.args.op (omega (arith, c.in_default.in_default-own.rest)))
 
-pub slack-min-spec : {M : Type 1} → statement M
-slack-min-spec = tie.close (tie.spec infinity-requires returns returns-2 returns-3)
+pub slack_min_spec : {M : Type 1} → statement M
+slack_min_spec = tie.close (tie.spec infinity-requires returns returns-2 returns-3)

@@ -6,36 +6,36 @@ use borrow.Author.Rules.{rules}
 use Rattle.cells.proofs.var_min.Statement.{statement}
 use Rattle.cells.proofs.var_min.Tie as tie
 
-mul-result : tie.Need-overflow-mul-result
+mul-result : tie.Need-offset_bounds-lowers-v
 mul-result c = search rules
 
-shared-slice-read-result : tie.Need-shared-slice-read-result
+shared-slice-read-result : tie.Need-bounds-lowers-v
 shared-slice-read-result c = search rules
 
-returns : tie.Need-returns
+returns : tie.Need-returns-then-v-n
 unfolding var_min
-returns c = rw (lt-ltb _ _ c.before.if1.true, var_min)
+returns c = rw (lt-ltb _ _ c.if-v-n.true, var_min)
 
-mul-row : tie.Need-overflow-mul-row
+mul-row : tie.Need-offset_bounds-kept-v
 mul-row c = search rules
 
-shared-slice-read-row : tie.Need-shared-slice-read-row
+shared-slice-read-row : tie.Need-bounds-kept-v
 shared-slice-read-row c = search rules
 
-shared-slice-read-slack-min : tie.Need-shared-slice-read-slack-min
+shared-slice-read-slack-min : tie.Need-bounds-ops-row
 shared-slice-read-slack-min c =
     let s : tie.Start = search in
-    s.pre.0.row_inside _ (omega (arith, s.pre.1, c.before.before.if1.false))
+    s.requires.0.row_inside _ (omega (arith, s.requires.1, c.if-v-n.false))
 
-slack-min-requires : tie.Need-slack-min-requires
+slack-min-requires : tie.Need-slack_min-requires
 slack-min-requires c κs = search rules
 
-returns-2 : tie.Need-returns-2
+returns-2 : tie.Need-returns
 unfolding var_min
-returns-2 c = rw (le-ltb _ _ c.before.before.before.if1.false, var_min) c.slack-min.ensures
+returns-2 c = rw (le-ltb _ _ c.if-v-n.false, var_min) c.slack_min.ensures
 
-pub var-min-spec : {M : Type 1} → statement M
-var-min-spec =
+pub var_min_spec : {M : Type 1} → statement M
+var_min_spec =
     tie.close
     (tie.spec
     mul-result

@@ -9,28 +9,28 @@ use Rattle.check_final.proofs.Fits.{row_lent}
 use Rattle.check_final.proofs.excess_at.Statement.{statement}
 use Rattle.check_final.proofs.excess_at.Tie as tie
 
-add-count : tie.Need-overflow-add-count
+add-count : tie.Need-overflow_add-count
 add-count c = search rules
 
-value-excess-requires : tie.Need-value-excess-requires
+value-excess-requires : tie.Need-value_excess-requires
 value-excess-requires c κs = search rules
 
-returns : tie.Need-returns
+returns : tie.Need-returns-then-k-count
 unfolding excess_at value_excess var_min var_max
-returns c = let i : tie.Then1 = search in
-    rw (lt-ltb _ _ i.if1.taken, excess_at) c.value-excess.ensures
+returns c = let i : tie.Then-k-count = search in
+    rw (lt-ltb _ _ i.if-k-count.true, excess_at) c.value_excess.ensures
 
-row-excess-requires : tie.Need-row-excess-requires
+row-excess-requires : tie.Need-row_excess-requires
 row-excess-requires c κs =
     let s : tie.Start = search in
-    let i : tie.Else1 = search in
-    (row_lent _ _ (s.pre.0.rows.row _ (omega (arith, s.pre.1, i.if1.left))), (s.pre.0.rows.room, omega (arith, s.pre.1, i.if1.left)))
+    let i : tie.Else-k-count = search in
+    (row_lent _ _ (s.requires.0.rows.row _ (omega (arith, s.requires.1, i.if-k-count.false))), (s.requires.0.rows.room, omega (arith, s.requires.1, i.if-k-count.false)))
 
-returns-2 : tie.Need-returns-2
+returns-2 : tie.Need-returns
 unfolding excess_at row_excess
-returns-2 c = let i : tie.Else1 = search in
-    rw (le-ltb _ _ i.if1.left, excess_at) c.row-excess.ensures
+returns-2 c = let i : tie.Else-k-count = search in
+    rw (le-ltb _ _ i.if-k-count.false, excess_at) c.row_excess.ensures
 
-pub excess-at-spec : {M : Type 1} → statement M
-excess-at-spec =
+pub excess_at_spec : {M : Type 1} → statement M
+excess_at_spec =
     tie.close (tie.spec add-count value-excess-requires returns row-excess-requires returns-2)

@@ -5,22 +5,22 @@ use Rattle.check_final.proofs.Fits.{measured}
 use Rattle.check_final.proofs.final_check.Statement.{statement}
 use Rattle.check_final.proofs.final_check.Tie as tie
 
-worst-requires : tie.Need-worst-requires
+worst-requires : tie.Need-worst-w-requires
 worst-requires c κs = let s : tie.Start = search in
-    measured _ s.pre
+    measured _ s.requires
 
-returns : tie.Need-returns
-returns c = accepts _ _ _ c.before.worst.ensures c.if1.true
+returns : tie.Need-returns-then-excess-tolerance
+returns c = accepts _ _ _ c.worst-w.ensures c.if-excess-tolerance.true
 
-add-count : tie.Need-overflow-add-count
+add-count : tie.Need-overflow_add-count
 add-count c = search rules
 
-returns-2 : tie.Need-returns-2
-returns-2 c = rejects_value _ _ _ c.before.before.worst.ensures c.before.if1.false c.if2.true
+returns-2 : tie.Need-returns-then-at-count
+returns-2 c = rejects_value _ _ _ c.worst-w.ensures c.if-excess-tolerance.false c.if-at-count.true
 
-returns-3 : tie.Need-returns-3
-returns-3 c = rejects_row _ _ _ c.before.before.worst.ensures c.before.if1.false c.if2.false
+returns-3 : tie.Need-returns
+returns-3 c = rejects_row _ _ _ c.worst-w.ensures c.if-excess-tolerance.false c.if-at-count.false
 
-pub final-check-spec : {M : Type 1} → statement M
-final-check-spec =
+pub final_check_spec : {M : Type 1} → statement M
+final_check_spec =
     tie.close (tie.spec worst-requires returns add-count returns-2 returns-3)

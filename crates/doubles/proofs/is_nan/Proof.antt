@@ -6,5 +6,5 @@ use Rattle.doubles.proofs.is_nan.Tie as tie
 returns : tie.Need-returns
 returns c = differs c.args.x
 
-pub is-nan-spec : {M : Type 1} → statement M
-is-nan-spec = tie.close (tie.spec returns)
+pub is_nan_spec : {M : Type 1} → statement M
+is_nan_spec = tie.close (tie.spec returns)

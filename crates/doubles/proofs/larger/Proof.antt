@@ -3,13 +3,13 @@ use Rattle.doubles.specs.Num.{larger}
 use Rattle.doubles.proofs.larger.Statement.{statement}
 use Rattle.doubles.proofs.larger.Tie as tie
 
-returns : tie.Need-returns
+returns : tie.Need-returns-then-x-y
 unfolding larger
-returns c = rw (c.if1.true, larger)
+returns c = rw (c.if-x-y.true, larger)
 
-returns-2 : tie.Need-returns-2
+returns-2 : tie.Need-returns-else-x-y
 unfolding larger
-returns-2 c = rw (c.if1.false, larger)
+returns-2 c = rw (c.if-x-y.false, larger)
 
-pub larger-spec : {M : Type 1} → statement M
-larger-spec = tie.close (tie.spec returns returns-2)
+pub larger_spec : {M : Type 1} → statement M
+larger_spec = tie.close (tie.spec returns returns-2)

@@ -7,38 +7,38 @@ use Rattle.sheet_rules.specs.Verdict.{numbers_of}
 use Rattle.face.proofs.sheet_verdict.Statement.{statement}
 use Rattle.face.proofs.sheet_verdict.Tie as tie
 
-enum_told : tie.Need-enum-told
+enum_told : tie.Need-enum_told-1
 enum_told c = search rules
 
-enum-told-2 : tie.Need-enum-told-2
+enum-told-2 : tie.Need-enum_told-in-NotPlan
 enum-told-2 c = search rules
 
-enum-told-3 : tie.Need-enum-told-3
+enum-told-3 : tie.Need-enum_told-in-NoFloor
 enum-told-3 c = search rules
 
-enum-known-v : tie.Need-enum-known-v
+enum-known-v : tie.Need-enum_known-v
 enum-known-v c = search rules
 
-enum-known-v-2 : tie.Need-enum-known-v-2
+enum-known-v-2 : tie.Need-enum_known-v-in-Refused-1
 enum-known-v-2 c = search rules
 
-returns : tie.Need-returns
-returns c = rw c.enum_told.given.1
+returns : tie.Need-returns-in-NoneExists
+returns c = rw c.in-NoneExists.is
 
-returns-2 : tie.Need-returns-2
-returns-2 c = rw c.enum-told2.given.1
+returns-2 : tie.Need-returns-in-NotPlan
+returns-2 c = rw c.in-NotPlan.is
 
-returns-3 : tie.Need-returns-3
-returns-3 c = rw c.enum-told3.given.1
+returns-3 : tie.Need-returns-in-NoFloor
+returns-3 c = rw c.in-NoFloor.is
 
-returns-4 : tie.Need-returns-4
-returns-4 c = rw c.before.v.given.1 (ap (numbers_of 0 2) (to_z-of_z w64 c.before.v.given.0.0 (record { sfits = c.known-told.given.0.1 })))
+returns-4 : tie.Need-returns-in-Gap
+returns-4 c = rw c.in-Gap.is (ap (numbers_of 0 2) (to_z-of_z w64 c.in-Gap.gap (record { sfits = c.in-Gap.known_told-1-own.given.0.1 })))
 
-returns-5 : tie.Need-returns-5
-returns-5 c = rw c.before.v2.given.1
+returns-5 : tie.Need-returns-in-Refused
+returns-5 c = rw c.in-Refused.is
 
-pub sheet-verdict-spec : {M : Type 1} → statement M
-sheet-verdict-spec =
+pub sheet_verdict_spec : {M : Type 1} → statement M
+sheet_verdict_spec =
     tie.close
     (tie.spec
     enum_told

@@ -10,42 +10,42 @@ use Rattle.file_decide.proofs.Reading.{Stood, stood, blocks_refused, blocks_numb
 use Rattle.file_decide.proofs.judge_blocks.Statement.{statement}
 use Rattle.file_decide.proofs.judge_blocks.Tie as tie
 
-walk-blocks-requires : tie.Need-walk-blocks-requires
+walk-blocks-requires : tie.Need-walk_blocks-s-requires
 walk-blocks-requires c κs = search rules
 
-returns : tie.Need-returns
-returns c = blocks_refused c.before.before.before.before.args.file.now c.before.before.before.before.args.rows c.before.before.before.before.args.columns c.before.before.walk_blocks.result c.before.before.walk_blocks.ensures c.if1.true
+returns : tie.Need-returns-then-s-ne0
+returns c = blocks_refused c.args.file.now c.args.rows c.args.columns c.walk_blocks-s.result c.walk_blocks-s.ensures c.if-s-ne0.true
 
 -- what holds past each test
-all : (c : tie.Else1) → Stood c.before.before.before.before.args.file.now c.before.before.before.before.args.rows c.before.before.before.before.args.columns c.before.before.walk_blocks.result c.before.before.walk_blocks.ensures
-all c = stood c.before.before.before.before.args.file.now c.before.before.before.before.args.rows c.before.before.before.before.args.columns c.before.before.walk_blocks.result c.before.before.walk_blocks.ensures c.before.before.before.before.requires.0 c.before.before.before.before.requires.1 c.before.before.before.before.requires.2 c.if1.false
+all : (c : tie.Else-s-ne0) → Stood c.args.file.now c.args.rows c.args.columns c.walk_blocks-s.result c.walk_blocks-s.ensures
+all c = stood c.args.file.now c.args.rows c.args.columns c.walk_blocks-s.result c.walk_blocks-s.ensures c.requires.0 c.requires.1 c.requires.2 c.if-s-ne0.false
 
-fine : (c : tie.Else2) → numbers_fine (plan_at c.before.before.before.before.before.before.args.file.now c.before.before.before.before.before.before.args.rows c.before.before.before.before.before.before.args.columns) ≡ true
-fine c = sym c.before.numbers-fine.ensures ∙ not-false _ c.if2.false
+fine : (c : tie.Else-not-numbers_fine) → numbers_fine (plan_at c.args.file.now c.args.rows c.args.columns) ≡ true
+fine c = sym c.numbers_fine.ensures ∙ not-false _ c.if-not-numbers_fine.false-raw
 
-numbers-fine-requires : tie.Need-numbers-fine-requires
+numbers-fine-requires : tie.Need-numbers_fine-requires
 numbers-fine-requires c κs = (all c).whole
 
-sub-t7 : tie.Need-overflow-sub-t7
+sub-t7 : tie.Need-overflow_sub-result
 sub-t7 c = omega (arith, (all c.before.before.before).last)
 
-returns-2 : tie.Need-returns-2
-returns-2 c = blocks_number c.before.before.before.before.before.before.before.args.file.now c.before.before.before.before.before.before.before.args.rows c.before.before.before.before.before.before.before.args.columns c.before.before.before.before.before.walk_blocks.result c.before.before.before.before.before.walk_blocks.ensures (all c.before.before.before) (sym c.before.before.numbers-fine.ensures ∙ not-true _ c.before.if2.true)
+returns-2 : tie.Need-returns-then-not-numbers_fine
+returns-2 c = blocks_number c.args.file.now c.args.rows c.args.columns c.walk_blocks-s.result c.walk_blocks-s.ensures (all c.before.before.before) (sym c.numbers_fine.ensures ∙ not-true _ c.if-not-numbers_fine.true-raw)
 
 uncrossed-requires : tie.Need-uncrossed-requires
 uncrossed-requires c κs = (all c.before.before).whole
 
-sub-t8 : tie.Need-overflow-sub-t8
+sub-t8 : tie.Need-overflow_sub-result-then-not-uncrossed
 sub-t8 c = omega (arith, (all c.before.before.before.before.before).last)
 
-returns-3 : tie.Need-returns-3
-returns-3 c = blocks_crossed c.before.before.before.before.before.before.before.before.before.args.file.now c.before.before.before.before.before.before.before.before.before.args.rows c.before.before.before.before.before.before.before.before.before.args.columns c.before.before.before.before.before.before.before.walk_blocks.result c.before.before.before.before.before.before.before.walk_blocks.ensures (all c.before.before.before.before.before) (fine c.before.before.before) (sym c.before.before.uncrossed.ensures ∙ not-true _ c.before.if3.true)
+returns-3 : tie.Need-returns-then-not-uncrossed
+returns-3 c = blocks_crossed c.args.file.now c.args.rows c.args.columns c.walk_blocks-s.result c.walk_blocks-s.ensures (all c.before.before.before.before.before) (fine c.before.before.before) (sym c.uncrossed.ensures ∙ not-true _ c.if-not-uncrossed.true-raw)
 
-returns-4 : tie.Need-returns-4
-returns-4 c = blocks_held c.before.before.before.before.before.before.before.before.args.file.now c.before.before.before.before.before.before.before.before.args.rows c.before.before.before.before.before.before.before.before.args.columns c.before.before.before.before.before.before.walk_blocks.result c.before.before.before.before.before.before.walk_blocks.ensures (all c.before.before.before.before) (fine c.before.before) (sym c.before.uncrossed.ensures ∙ not-false _ c.if3.false)
+returns-4 : tie.Need-returns
+returns-4 c = blocks_held c.args.file.now c.args.rows c.args.columns c.walk_blocks-s.result c.walk_blocks-s.ensures (all c.before.before.before.before) (fine c.before.before) (sym c.uncrossed.ensures ∙ not-false _ c.if-not-uncrossed.false-raw)
 
-pub judge-blocks-spec : {M : Type 1} → statement M
-judge-blocks-spec =
+pub judge_blocks_spec : {M : Type 1} → statement M
+judge_blocks_spec =
     tie.close
     (tie.spec
     walk-blocks-requires

@@ -10,12 +10,12 @@ use borrow.Author.Rules.{rules}
 use Rattle.file_journal_bytes.proofs.is_clean.Statement.{statement}
 use Rattle.file_journal_bytes.proofs.is_clean.Tie as tie
 
-is-zero-requires : tie.Need-is-zero-requires
+is-zero-requires : tie.Need-is_zero-requires
 is-zero-requires c κs = search rules
 
 returns : tie.Need-returns
 unfolding clean
-returns c = ap (λ (v : Bool). (uses_row c.before.before.before.before.before.before.before.before.before.before.args.n.kind || eqb c.before.before.before.before.before.before.before.before.before.before.args.n.row 0) && (uses_column c.before.before.before.before.before.before.before.before.before.before.args.n.kind || eqb c.before.before.before.before.before.before.before.before.before.before.args.n.column 0) && (leb c.before.before.before.before.before.before.before.before.before.before.args.n.kind 7 || v)) (c.is_zero.ensures ∙ ap is_zero (result c.before.before.before.before.before.before.before.before.before.before.args.n.new c.before.struct_told.given.1.1.1.1.0.1))
+returns c = ap (λ (v : Bool). (uses_row c.args.n.kind || eqb c.args.n.row 0) && (uses_column c.args.n.kind || eqb c.args.n.column 0) && (leb c.args.n.kind 7 || v)) (c.is_zero.ensures ∙ ap is_zero (result c.args.n.new c.struct_told-1.given.1.1.1.1.0.1))
 
-pub is-clean-spec : {M : Type 1} → statement M
-is-clean-spec = tie.close (tie.spec is-zero-requires returns)
+pub is_clean_spec : {M : Type 1} → statement M
+is_clean_spec = tie.close (tie.spec is-zero-requires returns)

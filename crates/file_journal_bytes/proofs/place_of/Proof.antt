@@ -7,32 +7,32 @@ use borrow.Author.Rules.{rules}
 use Rattle.file_journal_bytes.proofs.place_of.Statement.{statement}
 use Rattle.file_journal_bytes.proofs.place_of.Tie as tie
 
-shared-slice-read-size-of : tie.Need-shared-slice-read-size-of
+shared-slice-read-size-of : tie.Need-bounds-b-1
 shared-slice-read-size-of c = search rules
 
-size-of-requires : tie.Need-size-of-requires
+size-of-requires : tie.Need-size_of-requires
 size-of-requires c κs = search rules
 
-shared-slice-read-size-of-2 : tie.Need-shared-slice-read-size-of-2
+shared-slice-read-size-of-2 : tie.Need-bounds-b-2
 shared-slice-read-size-of-2 c = search rules
 
-size-of-requires-2 : tie.Need-size-of-requires-2
+size-of-requires-2 : tie.Need-size_of-requires-2
 size-of-requires-2 c κs = search rules
 
-mul-result : tie.Need-overflow-mul-result
+mul-result : tie.Need-overflow_mul-result
 mul-result c = search rules
 
-add-result : tie.Need-overflow-add-result
+add-result : tie.Need-overflow_add-result
 add-result c = search rules
 
 returns : tie.Need-returns
 returns c =
-    let low = c.before.before.type_size.ensures in
-    let high = c.size-of2.ensures in
-    (ap₂ (λ (x y : ℕ). x + 256 * y) low.0 high.0 ∙ place_is c.before.before.before.before.before.args.b.now c.before.before.before.before.before.requires, omega (arith, low.1, high.1))
+    let low = c.size_of.ensures in
+    let high = c.size_of-2.ensures in
+    (ap₂ (λ (x y : ℕ). x + 256 * y) low.0 high.0 ∙ place_is c.args.b.now c.requires, omega (arith, low.1, high.1))
 
-pub place-of-spec : {M : Type 1} → statement M
-place-of-spec =
+pub place_of_spec : {M : Type 1} → statement M
+place_of_spec =
     tie.close
     (tie.spec
     shared-slice-read-size-of

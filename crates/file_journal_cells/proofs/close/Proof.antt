@@ -11,41 +11,41 @@ use borrow.Author.Rules.{rules}
 use Rattle.file_journal_cells.proofs.close.Statement.{statement}
 use Rattle.file_journal_cells.proofs.close.Tie as tie
 
-fine : (c : tie.Else1) → cells_fine c.before.before.before.args.feed.now ≡ true
-fine c = sym c.before.cells-fine.ensures ∙ not-false _ c.if1.false
+fine : (c : tie.Else-not-cells_fine) → cells_fine c.args.feed.now ≡ true
+fine c = sym c.cells_fine.ensures ∙ not-false _ c.if-not-cells_fine.false-raw
 
-four : (c : tie.Else1) → 4 ≤ length c.before.before.before.args.feed.now
-four c = long_enough c.before.before.before.args.feed.now (fine c)
+four : (c : tie.Else-not-cells_fine) → 4 ≤ length c.args.feed.now
+four c = long_enough c.args.feed.now (fine c)
 
-cells-fine-requires : tie.Need-cells-fine-requires
+cells-fine-requires : tie.Need-cells_fine-requires
 cells-fine-requires c κs = search rules
 
-returns : tie.Need-returns
-returns c = closes_bad c.before.before.before.args.feed.now (sym c.before.cells-fine.ensures ∙ not-true _ c.if1.true)
+returns : tie.Need-returns-then-not-cells_fine
+returns c = closes_bad c.args.feed.now (sym c.cells_fine.ensures ∙ not-true _ c.if-not-cells_fine.true-raw)
 
-shared-slice-read-if2 : tie.Need-shared-slice-read-if2
-shared-slice-read-if2 c = let t : tie.Else1 = search in omega (arith, four t)
+shared-slice-read-if2 : tie.Need-bounds-feed-2
+shared-slice-read-if2 c = let t : tie.Else-not-cells_fine = search in omega (arith, four t)
 
-shared-slice-read-result : tie.Need-shared-slice-read-result
-shared-slice-read-result c = let t : tie.Else1 = search in omega (arith, four t)
+shared-slice-read-result : tie.Need-bounds-feed-2-then-feed-ne0
+shared-slice-read-result c = let t : tie.Else-not-cells_fine = search in omega (arith, four t)
 
-returns-2 : tie.Need-returns-2
-returns-2 c = closes_refused _ (fine c.before.before.before) c.before.if2.true
+returns-2 : tie.Need-returns-then-feed-ne0
+returns-2 c = closes_refused _ (fine c.before.before.before) c.if-feed-ne0.true
 
-shared-slice-read-if3 : tie.Need-shared-slice-read-if3
-shared-slice-read-if3 c = let t : tie.Else1 = search in omega (arith, four t)
+shared-slice-read-if3 : tie.Need-bounds-feed-1
+shared-slice-read-if3 c = let t : tie.Else-not-cells_fine = search in omega (arith, four t)
 
-returns-3 : tie.Need-returns-3
-returns-3 c = closes_waiting _ (fine c.before.before.before.before) c.before.before.if2.false c.if3.true
+returns-3 : tie.Need-returns-then-feed-ne0-2
+returns-3 c = closes_waiting _ (fine c.before.before.before.before) c.if-feed-ne0.false c.if-feed-ne0-2.true
 
-shared-slice-read-if4 : tie.Need-shared-slice-read-if4
-shared-slice-read-if4 c = let t : tie.Else1 = search in omega (arith, four t)
+shared-slice-read-if4 : tie.Need-bounds-feed-3
+shared-slice-read-if4 c = let t : tie.Else-not-cells_fine = search in omega (arith, four t)
 
-returns-4 : tie.Need-returns-4
-returns-4 c = closes_open _ (fine c.before.before.before.before.before.before) c.before.before.before.before.if2.false c.before.before.if3.false c.if4.true
+returns-4 : tie.Need-returns-then-feed-lt2
+returns-4 c = closes_open _ (fine c.before.before.before.before.before.before) c.if-feed-ne0.false c.if-feed-ne0-2.false c.if-feed-lt2.true
 
-returns-5 : tie.Need-returns-5
-returns-5 c = closes_ended _ (fine c.before.before.before.before.before.before) c.before.before.before.before.if2.false c.before.before.if3.false (omega arith)
+returns-5 : tie.Need-returns
+returns-5 c = closes_ended _ (fine c.before.before.before.before.before.before) c.if-feed-ne0.false c.if-feed-ne0-2.false (omega arith)
 
 pub close_spec : {M : Type 1} → statement M
 close_spec =

@@ -6,27 +6,27 @@ use Rattle.file_journal_decide.proofs.undo_refusal.Statement.{statement}
 use Rattle.file_journal_decide.proofs.undo_refusal.Tie as tie
 
 abbrev sheet : tie.Start → Sheet
-sheet s = sheet_of (plan_of s.args.rows s.args.columns s.args.coefs.now s.args.costs.now s.args.lowers.now s.args.uppers.now s.args.lower-marks.now s.args.upper-marks.now s.args.rhs.now s.args.ops.now s.args.amounts.now s.args.mults.now) (kept_of s.args.r.now s.args.d.now s.args.c.now s.args.b.now s.args.counts.now)
+sheet s = sheet_of (plan_of s.args.rows s.args.columns s.args.coefs.now s.args.costs.now s.args.lowers.now s.args.uppers.now s.args.lower_marks.now s.args.upper_marks.now s.args.rhs.now s.args.ops.now s.args.amounts.now s.args.mults.now) (kept_of s.args.r.now s.args.d.now s.args.c.now s.args.b.now s.args.counts.now)
 
-returns : tie.Need-returns
-returns c = undo_first (sheet (c.before.before.before.before.before.before)) c.before.before.before.before.before.before.args.journal.now c.before.before.before.before.before.before.args.t c.before.before.before.before.before.before.requires c.if1.true
+returns : tie.Need-returns-then-t-ne0
+returns c = undo_first (sheet (c.before.before.before.before.before.before)) c.args.journal.now c.args.t c.requires c.if-t-ne0.true
 
-returns-2 : tie.Need-returns-2
-returns-2 c = undo_none (sheet (c.before.before.before.before.before.before.before.before)) c.before.before.before.before.before.before.before.before.args.journal.now c.before.before.before.before.before.before.before.before.args.t c.before.before.before.before.before.before.before.before.requires c.before.before.if1.false c.if2.true
+returns-2 : tie.Need-returns-then-t-eq0
+returns-2 c = undo_none (sheet (c.before.before.before.before.before.before.before.before)) c.args.journal.now c.args.t c.requires c.if-t-ne0.false c.if-t-eq0.true
 
-sub-entry-at : tie.Need-overflow-sub-entry-at
+sub-entry-at : tie.Need-overflow_sub-t
 sub-entry-at c = search rules
 
-entry-at-requires : tie.Need-entry-at-requires
-entry-at-requires c κs = last_in c.before.before.before.before.before.before.before.before.before.args.journal.now c.before.before.before.before.before.before.before.before.before.args.t c.before.before.before.before.before.before.before.before.before.requires c.before.before.before.if1.false c.before.if2.false
+entry-at-requires : tie.Need-entry_at-n-requires
+entry-at-requires c κs = last_in c.args.journal.now c.args.t c.requires c.if-t-ne0.false c.if-t-eq0.false
 
-take-refusal-requires : tie.Need-take-refusal-requires
+take-refusal-requires : tie.Need-take_refusal-requires
 take-refusal-requires c κs = search rules
 
-returns-3 : tie.Need-returns-3
-returns-3 c = undo_last (sheet (c.before.before.before.before.before.before.before.before.before.before.before)) c.before.before.before.before.before.before.before.before.before.before.before.args.journal.now c.before.before.before.before.before.before.before.before.before.before.before.args.t c.before.entry_at.result _ c.before.before.before.before.before.before.before.before.before.before.before.requires c.before.before.before.before.before.if1.false c.before.before.before.if2.false c.before.entry_at.ensures c.take-refusal.ensures
+returns-3 : tie.Need-returns
+returns-3 c = undo_last (sheet (c.before.before.before.before.before.before.before.before.before.before.before)) c.args.journal.now c.args.t c.entry_at-n.result _ c.requires c.if-t-ne0.false c.if-t-eq0.false c.entry_at-n.ensures c.take_refusal.ensures
 
-pub undo-refusal-spec : {M : Type 1} → statement M
-undo-refusal-spec =
+pub undo_refusal_spec : {M : Type 1} → statement M
+undo_refusal_spec =
     tie.close
     (tie.spec returns returns-2 sub-entry-at entry-at-requires take-refusal-requires returns-3)

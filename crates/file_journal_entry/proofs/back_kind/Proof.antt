@@ -3,20 +3,20 @@ use Rattle.file_journal_entry.proofs.Laws.{lower_dropped, lower_put, upper_dropp
 use Rattle.file_journal_entry.proofs.back_kind.Statement.{statement}
 use Rattle.file_journal_entry.proofs.back_kind.Tie as tie
 
-returns : tie.Need-returns
-returns c = lower_dropped c.before.before.args.kind c.before.before.args.before c.before.if1.true c.if2.true
+returns : tie.Need-returns-then-before-eq0
+returns c = lower_dropped c.args.kind c.args.before c.if-kind.true c.if-before-eq0.true
 
-returns-2 : tie.Need-returns-2
-returns-2 c = lower_put c.before.before.args.kind c.before.before.args.before c.before.if1.true c.if2.false
+returns-2 : tie.Need-returns-then-kind
+returns-2 c = lower_put c.args.kind c.args.before c.if-kind.true c.if-before-eq0.false
 
-returns-3 : tie.Need-returns-3
-returns-3 c = upper_dropped c.before.before.before.args.kind c.before.before.before.args.before c.before.if3.true c.if4.true
+returns-3 : tie.Need-returns-then-before-eq0-2
+returns-3 c = upper_dropped c.args.kind c.args.before c.if-kind-2.true c.if-before-eq0-2.true
 
-returns-4 : tie.Need-returns-4
-returns-4 c = upper_put c.before.before.before.args.kind c.before.before.before.args.before c.before.if3.true c.if4.false
+returns-4 : tie.Need-returns-then-kind-2
+returns-4 c = upper_put c.args.kind c.args.before c.if-kind-2.true c.if-before-eq0-2.false
 
-returns-5 : tie.Need-returns-5
-returns-5 c = other_kept c.before.before.args.kind c.before.before.args.before c.before.if1.false c.if3.false
+returns-5 : tie.Need-returns
+returns-5 c = other_kept c.args.kind c.args.before c.if-kind.false c.if-kind-2.false
 
-pub back-kind-spec : {M : Type 1} → statement M
-back-kind-spec = tie.close (tie.spec returns returns-2 returns-3 returns-4 returns-5)
+pub back_kind_spec : {M : Type 1} → statement M
+back_kind_spec = tie.close (tie.spec returns returns-2 returns-3 returns-4 returns-5)

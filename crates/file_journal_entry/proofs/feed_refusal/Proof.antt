@@ -6,14 +6,14 @@ use borrow.Author.Rules.{rules}
 use Rattle.file_journal_entry.proofs.feed_refusal.Statement.{statement}
 use Rattle.file_journal_entry.proofs.feed_refusal.Tie as tie
 
-forth-requires : tie.Need-forth-requires
+forth-requires : tie.Need-forth-e-requires
 forth-requires c κs = search rules
 
-where-refusal-requires : tie.Need-where-refusal-requires
-where-refusal-requires c κs = index_of (sheet_of (plan_of c.before.before.before.before.before.args.rows c.before.before.before.before.before.args.columns c.before.before.before.before.before.args.coefs.now c.before.before.before.before.before.args.costs.now c.before.before.before.before.before.args.lowers.now c.before.before.before.before.before.args.uppers.now c.before.before.before.before.before.args.lower-marks.now c.before.before.before.before.before.args.upper-marks.now c.before.before.before.before.before.args.rhs.now c.before.before.before.before.before.args.ops.now c.before.before.before.before.before.args.amounts.now c.before.before.before.before.before.args.mults.now) (kept_of c.before.before.before.before.before.args.r.now c.before.before.before.before.before.args.d.now c.before.before.before.before.before.args.c.now c.before.before.before.before.before.args.b.now c.before.before.before.before.before.args.counts.now)) c.before.forth.result
+where-refusal-requires : tie.Need-where_refusal-requires
+where-refusal-requires c κs = index_of (sheet_of (plan_of c.args.rows c.args.columns c.args.coefs.now c.args.costs.now c.args.lowers.now c.args.uppers.now c.args.lower_marks.now c.args.upper_marks.now c.args.rhs.now c.args.ops.now c.args.amounts.now c.args.mults.now) (kept_of c.args.r.now c.args.d.now c.args.c.now c.args.b.now c.args.counts.now)) c.forth-e.result
 
 returns : tie.Need-returns
-returns c = feed_is (sheet_of (plan_of c.before.before.before.before.before.before.args.rows c.before.before.before.before.before.before.args.columns c.before.before.before.before.before.before.args.coefs.now c.before.before.before.before.before.before.args.costs.now c.before.before.before.before.before.before.args.lowers.now c.before.before.before.before.before.before.args.uppers.now c.before.before.before.before.before.before.args.lower-marks.now c.before.before.before.before.before.before.args.upper-marks.now c.before.before.before.before.before.before.args.rhs.now c.before.before.before.before.before.before.args.ops.now c.before.before.before.before.before.before.args.amounts.now c.before.before.before.before.before.before.args.mults.now) (kept_of c.before.before.before.before.before.before.args.r.now c.before.before.before.before.before.before.args.d.now c.before.before.before.before.before.before.args.c.now c.before.before.before.before.before.before.args.b.now c.before.before.before.before.before.before.args.counts.now)) c.before.before.before.before.before.before.args.n c.before.before.forth.result _ _ c.before.before.forth.ensures (result c.before.before.before.before.before.before.args.n.old c.before.struct_told.given.1.1.1.0.1) c.where-refusal.ensures
+returns c = feed_is (sheet_of (plan_of c.args.rows c.args.columns c.args.coefs.now c.args.costs.now c.args.lowers.now c.args.uppers.now c.args.lower_marks.now c.args.upper_marks.now c.args.rhs.now c.args.ops.now c.args.amounts.now c.args.mults.now) (kept_of c.args.r.now c.args.d.now c.args.c.now c.args.b.now c.args.counts.now)) c.args.n c.forth-e.result _ _ c.forth-e.ensures (result c.args.n.old c.struct_told-1.given.1.1.1.0.1) c.where_refusal.ensures
 
-pub feed-refusal-spec : {M : Type 1} → statement M
-feed-refusal-spec = tie.close (tie.spec forth-requires where-refusal-requires returns)
+pub feed_refusal_spec : {M : Type 1} → statement M
+feed_refusal_spec = tie.close (tie.spec forth-requires where-refusal-requires returns)

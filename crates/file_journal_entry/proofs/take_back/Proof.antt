@@ -5,11 +5,11 @@ use borrow.Author.Rules.{rules}
 use Rattle.file_journal_entry.proofs.take_back.Statement.{statement}
 use Rattle.file_journal_entry.proofs.take_back.Tie as tie
 
-back-kind-requires : tie.Need-back-kind-requires
+back-kind-requires : tie.Need-back_kind-kind-requires
 back-kind-requires c κs = search rules
 
 returns : tie.Need-returns
-returns c = back_is c.before.before.args.n _ _ c.before.back-kind.ensures (result c.before.before.args.n.old c.struct_told.given.1.1.1.0.1)
+returns c = back_is c.args.n _ _ c.back_kind-kind.ensures (result c.args.n.old c.struct_told-1.given.1.1.1.0.1)
 
-pub take-back-spec : {M : Type 1} → statement M
-take-back-spec = tie.close (tie.spec back-kind-requires returns)
+pub take_back_spec : {M : Type 1} → statement M
+take_back_spec = tie.close (tie.spec back-kind-requires returns)

@@ -3,13 +3,13 @@ use Rattle.file_journal_rules.specs.Journal.{used}
 use Rattle.file_journal_entry.proofs.used.Statement.{statement}
 use Rattle.file_journal_entry.proofs.used.Tie as tie
 
-returns : tie.Need-returns
+returns : tie.Need-returns-then-uses
 unfolding used
-returns c = rw c.if1.true
+returns c = rw c.if-uses.true
 
-returns-2 : tie.Need-returns-2
+returns-2 : tie.Need-returns
 unfolding used
-returns-2 c = rw c.if1.false
+returns-2 c = rw c.if-uses.false
 
-pub used-spec : {M : Type 1} → statement M
-used-spec = tie.close (tie.spec returns returns-2)
+pub used_spec : {M : Type 1} → statement M
+used_spec = tie.close (tie.spec returns returns-2)

@@ -7,39 +7,39 @@ use borrow.Author.Rules.{rules}
 use Rattle.file_journal_push.proofs.cut_block.Statement.{statement}
 use Rattle.file_journal_push.proofs.cut_block.Tie as tie
 
-write-block-requires : tie.Need-write-block-requires
+write-block-requires : tie.Need-write_block-requires
 write-block-requires c κs = search rules
 
-same_length : tie.Need-same-length
+same_length : tie.Need-shape_of-b-then-c-eq0
 same_length c = search rules
 
-returns : tie.Need-returns
+returns : tie.Need-returns-then-c-eq0
 unfolding shorter
-returns c = c.before.before.write-block.ensures ∙ rw c.before.before.before.before.if1.true
+returns c = c.write_block.ensures ∙ rw c.if-c-eq0.true
 
-cast-b : tie.Need-overflow-cast-b
+cast-b : tie.Need-overflow_cast-b
 cast-b c = search rules
 
-slice-write-b : tie.Need-slice-write-b
+slice-write-b : tie.Need-bounds-b-3
 slice-write-b c = search rules
 
-mul-write-block : tie.Need-overflow-mul-write-block
+mul-write-block : tie.Need-overflow_mul-c
 mul-write-block c = search rules
 
-add-write-block : tie.Need-overflow-add-write-block
+add-write-block : tie.Need-overflow_add-c
 add-write-block c = search rules
 
-write-block-requires-2 : tie.Need-write-block-requires-2
+write-block-requires-2 : tie.Need-write_block-requires-2
 write-block-requires-2 c κs = search rules
 
-same-length-2 : tie.Need-same-length-2
-same-length-2 c = ap length (c.before.before.write-block2.ensures ∙ cut c.before.before.before.before.before.before.args.b.now c.before.before.before.before.before.before.args.place c.before.before.before.before.before.before.args.c c.before.before.before.before.before.before.requires.0 c.before.before.before.before.if1.false) ∙ shorter_length c.before.before.before.before.before.before.args.c c.before.before.before.before.before.before.args.place c.before.before.before.before.before.before.args.b.now c.before.before.before.before.before.before.requires.1 ∙ sym c.before.before.before.before.before.before.requires.0
+same-length-2 : tie.Need-shape_of-b
+same-length-2 c = ap length (c.write_block-2.ensures ∙ cut c.args.b.now c.args.place c.args.c c.requires.0 c.if-c-eq0.false) ∙ shorter_length c.args.c c.args.place c.args.b.now c.requires.1 ∙ sym c.requires.0
 
-returns-2 : tie.Need-returns-2
-returns-2 c = c.before.before.write-block2.ensures ∙ cut c.before.before.before.before.before.before.args.b.now c.before.before.before.before.before.before.args.place c.before.before.before.before.before.before.args.c c.before.before.before.before.before.before.requires.0 c.before.before.before.before.if1.false
+returns-2 : tie.Need-returns
+returns-2 c = c.write_block-2.ensures ∙ cut c.args.b.now c.args.place c.args.c c.requires.0 c.if-c-eq0.false
 
-pub cut-block-spec : {M : Type 1} → statement M
-cut-block-spec =
+pub cut_block_spec : {M : Type 1} → statement M
+cut_block_spec =
     tie.close
     (tie.spec
     write-block-requires

@@ -4,29 +4,29 @@ use borrow.Author.Rules.{rules}
 use Rattle.file_journal_push.proofs.pop.Statement.{statement}
 use Rattle.file_journal_push.proofs.pop.Tie as tie
 
-mul-start : tie.Need-overflow-mul-start
+mul-start : tie.Need-overflow_mul-start
 mul-start c = search rules
 
-add-end : tie.Need-overflow-add-end
+add-end : tie.Need-overflow_add-end
 add-end c = search rules
 
-sub-cut-block : tie.Need-overflow-sub-cut-block
+sub-cut-block : tie.Need-slice_bounds-cut_block-count
 sub-cut-block c = search rules
 
-part-cut-block-start : tie.Need-slice-bounds-cut-block-start
+part-cut-block-start : tie.Need-slice_bounds-cut_block-start
 part-cut-block-start c = search rules
 
-part-cut-block-end : tie.Need-slice-bounds-cut-block-end
+part-cut-block-end : tie.Need-slice_bounds-cut_block-end
 part-cut-block-end c = search rules
 
-cut-block-requires : tie.Need-cut-block-requires
+cut-block-requires : tie.Need-cut_block-requires
 cut-block-requires c κs = search rules
 
-same_length : tie.Need-same-length
+same_length : tie.Need-shape_of-journal
 same_length c = search rules
 
 returns : tie.Need-returns
-returns c = popped_is c.before.before.before.before.before.args.journal.now c.before.before.before.before.before.args.m _ c.before.before.before.before.before.requires c.before.before.cut-block.ensures
+returns c = popped_is c.args.journal.now c.args.m _ c.requires c.cut_block.ensures
 
 pub pop_spec : {M : Type 1} → statement M
 pop_spec =

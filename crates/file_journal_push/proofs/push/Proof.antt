@@ -5,53 +5,53 @@ use borrow.Author.Rules.{rules}
 use Rattle.file_journal_push.proofs.push.Statement.{statement}
 use Rattle.file_journal_push.proofs.push.Tie as tie
 
-mul-start : tie.Need-overflow-mul-start
-mul-start c = omega (arith, two_blocks c.before.args.journal.now c.before.args.n c.before.requires.0)
+mul-start : tie.Need-overflow_mul-start
+mul-start c = omega (arith, two_blocks c.args.journal.now c.args.n c.requires.0)
 
-add-end : tie.Need-overflow-add-end
-add-end c = omega (arith, two_blocks c.before.args.journal.now c.before.args.n c.before.requires.0)
+add-end : tie.Need-overflow_add-end
+add-end c = omega (arith, two_blocks c.args.journal.now c.args.n c.requires.0)
 
-sub-add-entry : tie.Need-overflow-sub-add-entry
+sub-add-entry : tie.Need-slice_bounds-add_entry-count
 sub-add-entry c = search rules
 
-part-add-entry-start : tie.Need-slice-bounds-add-entry-start
+part-add-entry-start : tie.Need-slice_bounds-add_entry-start
 part-add-entry-start c = search rules
 
-part-add-entry-end : tie.Need-slice-bounds-add-entry-end
-part-add-entry-end c = omega (arith, two_blocks c.before.args.journal.now c.before.args.n c.before.requires.0)
+part-add-entry-end : tie.Need-slice_bounds-add_entry-end
+part-add-entry-end c = omega (arith, two_blocks c.args.journal.now c.args.n c.requires.0)
 
-add-entry-requires : tie.Need-add-entry-requires
+add-entry-requires : tie.Need-add_entry-requires
 add-entry-requires c κs = search rules
 
-add-next : tie.Need-overflow-add-next
-add-next c = omega (arith, two_blocks c.before.before.before.before.before.before.args.journal.now c.before.before.before.before.before.before.args.n c.before.before.before.before.before.before.requires.0)
+add-next : tie.Need-overflow_add-next
+add-next c = omega (arith, two_blocks c.args.journal.now c.args.n c.requires.0)
 
-sub-write-block : tie.Need-overflow-sub-write-block
+sub-write-block : tie.Need-slice_bounds-write_block-count
 sub-write-block c = search rules
 
-part-write-block-start : tie.Need-slice-bounds-write-block-start
+part-write-block-start : tie.Need-slice_bounds-write_block-start
 part-write-block-start c = search rules
 
-part-write-block-end : tie.Need-slice-bounds-write-block-end
-part-write-block-end c = omega (arith, two_blocks c.before.before.before.before.before.before.args.journal.now c.before.before.before.before.before.before.args.n c.before.before.before.before.before.before.requires.0, same_there c.before.before.before.before.before.before.args.journal.now c.before.before.before.before.before.before.args.n c.before.before.before.before.before.before.args.e c.before.before.before.before.before.before.requires.0 _ c.before.before.before.add-entry.ensures)
+part-write-block-end : tie.Need-slice_bounds-write_block-end
+part-write-block-end c = omega (arith, two_blocks c.args.journal.now c.args.n c.requires.0, same_there c.args.journal.now c.args.n c.args.e c.requires.0 _ c.add_entry.ensures)
 
-add-write-block : tie.Need-overflow-add-write-block
+add-write-block : tie.Need-overflow_add-k
 add-write-block c = search rules
 
-write-block-requires : tie.Need-write-block-requires
+write-block-requires : tie.Need-write_block-requires
 write-block-requires c κs = search rules
 
-same_length : tie.Need-same-length
+same_length : tie.Need-shape_of-journal-then-c-eq0
 same_length c = search rules
 
-returns : tie.Need-returns
-returns c = pushed_first c.before.before.before.before.before.before.before.before.before.before.args.journal.now c.before.before.before.before.before.before.before.before.before.before.args.n c.before.before.before.before.before.before.before.before.before.before.args.e c.before.before.before.before.before.before.before.before.before.before.requires.0 _ _ c.before.before.before.before.if1.true c.before.before.before.before.before.before.before.add-entry.ensures c.before.before.write-block.ensures
+returns : tie.Need-returns-then-c-eq0
+returns c = pushed_first c.args.journal.now c.args.n c.args.e c.requires.0 _ _ c.if-c-eq0.true c.add_entry.ensures c.write_block.ensures
 
-same-length-2 : tie.Need-same-length-2
+same-length-2 : tie.Need-shape_of-journal-else-c-eq0
 same-length-2 c = search rules
 
-returns-2 : tie.Need-returns-2
-returns-2 c = pushed_more c.before.before.before.before.before.before.args.journal.now c.before.before.before.before.before.before.args.n c.before.before.before.before.before.before.args.e c.before.before.before.before.before.before.requires.0 _ c.if1.false c.before.before.before.add-entry.ensures
+returns-2 : tie.Need-returns-else-c-eq0
+returns-2 c = pushed_more c.args.journal.now c.args.n c.args.e c.requires.0 _ c.if-c-eq0.false c.add_entry.ensures
 
 pub push_spec : {M : Type 1} → statement M
 push_spec =

@@ -9,190 +9,183 @@ use Rattle.file_journal_take.proofs.Laws.{lengths, Going, going_start, going_on,
 use Rattle.file_journal_take.proofs.feed_entries.Statement.{statement}
 use Rattle.file_journal_take.proofs.feed_entries.Tie as tie
 
-abbrev invariant-loop : tie.invariant-loop
+abbrev invariant-loop : tie.invariant-loop-k
 invariant-loop waiting count rows columns coefs₀ costs₀ lowers₀ uppers₀ lower-marks₀ upper-marks₀ rights₀ ops amounts₀ mults₀ r₀ d₀ c₀ b₀ counts₀ k₀ coefs costs lowers uppers lower-marks upper-marks rhs amounts mults r d c b counts k =
     Going waiting count
     (sheet_of (plan_of rows columns coefs₀ costs₀ lowers₀ uppers₀ lower-marks₀ upper-marks₀ rights₀ ops amounts₀ mults₀) (kept_of r₀ d₀ c₀ b₀ counts₀))
     (sheet_of (plan_of rows columns coefs costs lowers uppers lower-marks upper-marks rhs ops amounts mults) (kept_of r d c b counts))
     k
 
-abbrev decreases-loop : tie.decreases-loop
+abbrev decreases-loop : tie.decreases-loop-k
 decreases-loop waiting count rows columns coefs₀ costs₀ lowers₀ uppers₀ lower-marks₀ upper-marks₀ rights₀ ops amounts₀ mults₀ r₀ d₀ c₀ b₀ counts₀ k₀ coefs costs lowers uppers lower-marks upper-marks rhs amounts mults r d c b counts k = count - k
 
--- the way back: from an entry to the loop's head, and from there to the start
-
-abbrev start : tie.At-loop invariant-loop decreases-loop → tie.Start invariant-loop decreases-loop
-start c = c.before.before.before.before.before
-
-abbrev fed-at : tie.After-counts invariant-loop decreases-loop → tie.After-feed-entry invariant-loop decreases-loop
-fed-at c = c.before.before.before.before.before.before.before.before.before.before.before.before.before.before.before.before
-
-abbrev read_at : tie.After-feed-entry-arg14 invariant-loop decreases-loop → tie.After-entry-from invariant-loop decreases-loop
-read_at c = c.before.before.before.before.before.before.before.before.before.before.before.before.before.before
+-- the way back, from the loop's head to the start
+abbrev start : tie.At-loop-k invariant-loop decreases-loop → tie.Start invariant-loop decreases-loop
+start c = search
 
 -- the sheet at the head, and the one that an entry leaves
-abbrev head : tie.At-loop invariant-loop decreases-loop → Sheet
+abbrev head : tie.At-loop-k invariant-loop decreases-loop → Sheet
 head h =
     let s = (start h).args in
-    let l = h.loop in
-    sheet_of (plan_of s.rows s.columns l.coefs l.costs l.lowers l.uppers l.lower-marks l.upper-marks l.rhs s.ops.now l.amounts l.mults) (kept_of l.r l.d l.c l.b l.counts)
+    let l = h.loop-k in
+    sheet_of (plan_of s.rows s.columns l.coefs l.costs l.lowers l.uppers l.lower_marks l.upper_marks l.rhs s.ops.now l.amounts l.mults) (kept_of l.r l.d l.c l.b l.counts)
 
-abbrev after : tie.After-feed-entry invariant-loop decreases-loop → Sheet
+abbrev after : tie.After-feed_entry-refusal invariant-loop decreases-loop → Sheet
 after c =
-    let s = (start (read_at c.before).before.before).args in
-    let l = c.feed-entry.new in
-    sheet_of (plan_of s.rows s.columns l.1.1.1.0 l.1.1.1.1.0 l.1.1.1.1.1.0 l.1.1.1.1.1.1.0 l.1.1.1.1.1.1.1.0 l.1.1.1.1.1.1.1.1.0 l.1.1.1.1.1.1.1.1.1.0 s.ops.now l.1.1.1.1.1.1.1.1.1.1.1.0 l.1.1.1.1.1.1.1.1.1.1.1.1.0) (kept_of l.1.1.1.1.1.1.1.1.1.1.1.1.1.0 l.1.1.1.1.1.1.1.1.1.1.1.1.1.1.0 l.1.1.1.1.1.1.1.1.1.1.1.1.1.1.1.0 l.1.1.1.1.1.1.1.1.1.1.1.1.1.1.1.1.0 l.1.1.1.1.1.1.1.1.1.1.1.1.1.1.1.1.1.0)
+    let s = c.args in
+    let l = c.feed_entry-refusal.new in
+    sheet_of (plan_of s.rows s.columns l.coefs l.costs l.lowers l.uppers l.lower_marks l.upper_marks l.rhs s.ops.now l.amounts l.mults) (kept_of l.r l.d l.c l.b l.counts)
 
 -- the lengths, as a call leaves them
-same : (c : tie.After-feed-entry invariant-loop decreases-loop) → lengths (after c) ≡ lengths (head (read_at c.before).before.before)
-same c = let k = c.feed-entry.auto in λ i. k.1.1.1.0 i ∷ k.1.1.1.1.0 i ∷ k.1.1.1.1.1.0 i ∷ k.1.1.1.1.1.1.0 i ∷ k.1.1.1.1.1.1.1.0 i ∷ k.1.1.1.1.1.1.1.1.0 i ∷ k.1.1.1.1.1.1.1.1.1.0 i ∷ k.1.1.1.1.1.1.1.1.1.1.1.0 i ∷ k.1.1.1.1.1.1.1.1.1.1.1.1.0 i ∷ k.1.1.1.1.1.1.1.1.1.1.1.1.1.0 i ∷ k.1.1.1.1.1.1.1.1.1.1.1.1.1.1.0 i ∷ k.1.1.1.1.1.1.1.1.1.1.1.1.1.1.1.0 i ∷ k.1.1.1.1.1.1.1.1.1.1.1.1.1.1.1.1.0 i ∷ k.1.1.1.1.1.1.1.1.1.1.1.1.1.1.1.1.1.0 i ∷ []
+same : (c : tie.After-feed_entry-refusal invariant-loop decreases-loop) → lengths (after c) ≡ lengths (head search)
+same c = let k = c.feed_entry-refusal.auto in λ i. k.coefs i ∷ k.costs i ∷ k.lowers i ∷ k.uppers i ∷ k.lower_marks i ∷ k.upper_marks i ∷ k.rhs i ∷ k.amounts i ∷ k.mults i ∷ k.r i ∷ k.d i ∷ k.c i ∷ k.b i ∷ k.counts i ∷ []
 
-loop-holds : tie.Need-loop-init invariant-loop decreases-loop
+loop-holds : tie.Need-loop-k-init invariant-loop decreases-loop
 loop-holds c = going_start _ _ _
 
-mul-entry-from : tie.Need-overflow-mul-entry-from invariant-loop decreases-loop
-mul-entry-from c = omega (arith, (start c.before).pre)
+mul-entry-from : tie.Need-overflow_mul-k invariant-loop decreases-loop
+mul-entry-from c = omega (arith, c.requires)
 
-add-entry-from : tie.Need-overflow-add-entry-from invariant-loop decreases-loop
-add-entry-from c = omega (arith, (start c.before).pre)
+add-entry-from : tie.Need-overflow_add-k invariant-loop decreases-loop
+add-entry-from c = omega (arith, c.requires)
 
-entry-from-requires : tie.Need-entry-from-requires invariant-loop decreases-loop
-entry-from-requires c κs = omega (arith, (start c.before).pre)
+entry-from-requires : tie.Need-entry_from-n-requires invariant-loop decreases-loop
+entry-from-requires c κs = omega (arith, c.requires)
 
-feed-entry-requires : tie.Need-feed-entry-requires invariant-loop decreases-loop
+feed-entry-requires : tie.Need-feed_entry-refusal-requires invariant-loop decreases-loop
 feed-entry-requires c κs = tt
 
-same_length : tie.Need-same-length invariant-loop decreases-loop
+same_length : tie.Need-shape_of-coefs-then-refusal-ne0 invariant-loop decreases-loop
 same_length c =
-    let x = fed-at c.before in ap (λ (l : List ℕ). l # 0) (same x ∙ (read_at x.before).before.before.loop.inv.same)
+    let x : tie.After-feed_entry-refusal invariant-loop decreases-loop = search in ap (λ (l : List ℕ). l # 0) (same x ∙ x.loop-k.invariant.same)
 
-same-length-2 : tie.Need-same-length-2 invariant-loop decreases-loop
+same-length-2 : tie.Need-shape_of-costs-then-refusal-ne0 invariant-loop decreases-loop
 same-length-2 c =
-    let x = fed-at c.before in ap (λ (l : List ℕ). l # 1) (same x ∙ (read_at x.before).before.before.loop.inv.same)
+    let x : tie.After-feed_entry-refusal invariant-loop decreases-loop = search in ap (λ (l : List ℕ). l # 1) (same x ∙ x.loop-k.invariant.same)
 
-same-length-3 : tie.Need-same-length-3 invariant-loop decreases-loop
+same-length-3 : tie.Need-shape_of-lowers-then-refusal-ne0 invariant-loop decreases-loop
 same-length-3 c =
-    let x = fed-at c.before in ap (λ (l : List ℕ). l # 2) (same x ∙ (read_at x.before).before.before.loop.inv.same)
+    let x : tie.After-feed_entry-refusal invariant-loop decreases-loop = search in ap (λ (l : List ℕ). l # 2) (same x ∙ x.loop-k.invariant.same)
 
-same-length-4 : tie.Need-same-length-4 invariant-loop decreases-loop
+same-length-4 : tie.Need-shape_of-uppers-then-refusal-ne0 invariant-loop decreases-loop
 same-length-4 c =
-    let x = fed-at c.before in ap (λ (l : List ℕ). l # 3) (same x ∙ (read_at x.before).before.before.loop.inv.same)
+    let x : tie.After-feed_entry-refusal invariant-loop decreases-loop = search in ap (λ (l : List ℕ). l # 3) (same x ∙ x.loop-k.invariant.same)
 
-same-length-5 : tie.Need-same-length-5 invariant-loop decreases-loop
+same-length-5 : tie.Need-shape_of-lower_marks-then-refusal-ne0 invariant-loop decreases-loop
 same-length-5 c =
-    let x = fed-at c.before in ap (λ (l : List ℕ). l # 4) (same x ∙ (read_at x.before).before.before.loop.inv.same)
+    let x : tie.After-feed_entry-refusal invariant-loop decreases-loop = search in ap (λ (l : List ℕ). l # 4) (same x ∙ x.loop-k.invariant.same)
 
-same-length-6 : tie.Need-same-length-6 invariant-loop decreases-loop
+same-length-6 : tie.Need-shape_of-upper_marks-then-refusal-ne0 invariant-loop decreases-loop
 same-length-6 c =
-    let x = fed-at c.before in ap (λ (l : List ℕ). l # 5) (same x ∙ (read_at x.before).before.before.loop.inv.same)
+    let x : tie.After-feed_entry-refusal invariant-loop decreases-loop = search in ap (λ (l : List ℕ). l # 5) (same x ∙ x.loop-k.invariant.same)
 
-same-length-7 : tie.Need-same-length-7 invariant-loop decreases-loop
+same-length-7 : tie.Need-shape_of-rhs-then-refusal-ne0 invariant-loop decreases-loop
 same-length-7 c =
-    let x = fed-at c.before in ap (λ (l : List ℕ). l # 6) (same x ∙ (read_at x.before).before.before.loop.inv.same)
+    let x : tie.After-feed_entry-refusal invariant-loop decreases-loop = search in ap (λ (l : List ℕ). l # 6) (same x ∙ x.loop-k.invariant.same)
 
-same-length-8 : tie.Need-same-length-8 invariant-loop decreases-loop
+same-length-8 : tie.Need-shape_of-amounts-then-refusal-ne0 invariant-loop decreases-loop
 same-length-8 c =
-    let x = fed-at c.before in ap (λ (l : List ℕ). l # 7) (same x ∙ (read_at x.before).before.before.loop.inv.same)
+    let x : tie.After-feed_entry-refusal invariant-loop decreases-loop = search in ap (λ (l : List ℕ). l # 7) (same x ∙ x.loop-k.invariant.same)
 
-same-length-9 : tie.Need-same-length-9 invariant-loop decreases-loop
+same-length-9 : tie.Need-shape_of-mults-then-refusal-ne0 invariant-loop decreases-loop
 same-length-9 c =
-    let x = fed-at c.before in ap (λ (l : List ℕ). l # 8) (same x ∙ (read_at x.before).before.before.loop.inv.same)
+    let x : tie.After-feed_entry-refusal invariant-loop decreases-loop = search in ap (λ (l : List ℕ). l # 8) (same x ∙ x.loop-k.invariant.same)
 
-same-length-10 : tie.Need-same-length-10 invariant-loop decreases-loop
+same-length-10 : tie.Need-shape_of-r-then-refusal-ne0 invariant-loop decreases-loop
 same-length-10 c =
-    let x = fed-at c.before in ap (λ (l : List ℕ). l # 9) (same x ∙ (read_at x.before).before.before.loop.inv.same)
+    let x : tie.After-feed_entry-refusal invariant-loop decreases-loop = search in ap (λ (l : List ℕ). l # 9) (same x ∙ x.loop-k.invariant.same)
 
-same-length-11 : tie.Need-same-length-11 invariant-loop decreases-loop
+same-length-11 : tie.Need-shape_of-d-then-refusal-ne0 invariant-loop decreases-loop
 same-length-11 c =
-    let x = fed-at c.before in ap (λ (l : List ℕ). l # 10) (same x ∙ (read_at x.before).before.before.loop.inv.same)
+    let x : tie.After-feed_entry-refusal invariant-loop decreases-loop = search in ap (λ (l : List ℕ). l # 10) (same x ∙ x.loop-k.invariant.same)
 
-same-length-12 : tie.Need-same-length-12 invariant-loop decreases-loop
+same-length-12 : tie.Need-shape_of-c-then-refusal-ne0 invariant-loop decreases-loop
 same-length-12 c =
-    let x = fed-at c.before in ap (λ (l : List ℕ). l # 11) (same x ∙ (read_at x.before).before.before.loop.inv.same)
+    let x : tie.After-feed_entry-refusal invariant-loop decreases-loop = search in ap (λ (l : List ℕ). l # 11) (same x ∙ x.loop-k.invariant.same)
 
-same-length-13 : tie.Need-same-length-13 invariant-loop decreases-loop
+same-length-13 : tie.Need-shape_of-b-then-refusal-ne0 invariant-loop decreases-loop
 same-length-13 c =
-    let x = fed-at c.before in ap (λ (l : List ℕ). l # 12) (same x ∙ (read_at x.before).before.before.loop.inv.same)
+    let x : tie.After-feed_entry-refusal invariant-loop decreases-loop = search in ap (λ (l : List ℕ). l # 12) (same x ∙ x.loop-k.invariant.same)
 
-same-length-14 : tie.Need-same-length-14 invariant-loop decreases-loop
+same-length-14 : tie.Need-shape_of-counts-then-refusal-ne0 invariant-loop decreases-loop
 same-length-14 c =
-    let x = fed-at c.before in ap (λ (l : List ℕ). l # 13) (same x ∙ (read_at x.before).before.before.loop.inv.same)
+    let x : tie.After-feed_entry-refusal invariant-loop decreases-loop = search in ap (λ (l : List ℕ). l # 13) (same x ∙ x.loop-k.invariant.same)
 
-returns : tie.Need-returns invariant-loop decreases-loop
+returns : tie.Need-returns-then-refusal-ne0 invariant-loop decreases-loop
 returns c =
-    let x = fed-at c.before in
-    let e = read_at x.before in
-    let h = e.before.before in
-    going_refused h.loop.inv (after x) e.entry-from.result x.feed-entry.result e.before.loop-test.taken e.entry-from.ensures x.feed-entry.ensures c.if1.true
+    let x : tie.After-feed_entry-refusal invariant-loop decreases-loop = search in
+    let e : tie.After-entry_from-n invariant-loop decreases-loop = search in
+    let h : tie.At-loop-k invariant-loop decreases-loop = search in
+    going_refused h.loop-k.invariant (after x) e.entry_from-n.result x.feed_entry-refusal.result e.loop-k-test.true e.entry_from-n.ensures x.feed_entry-refusal.ensures c.if-refusal-ne0.true
 
-add-k : tie.Need-overflow-add-k invariant-loop decreases-loop
+add-k : tie.Need-overflow_add-k-in-loop-k invariant-loop decreases-loop
 add-k c =
-    let x = fed-at c.before in
-    let e = read_at x.before in
-    let h = e.before.before in
-    omega (arith, (start h).pre, e.before.loop-test.taken)
+    let x : tie.After-feed_entry-refusal invariant-loop decreases-loop = search in
+    let e : tie.After-entry_from-n invariant-loop decreases-loop = search in
+    let h : tie.At-loop-k invariant-loop decreases-loop = search in
+    omega (arith, c.requires, e.loop-k-test.true)
 
-loop-less : tie.Need-loop-smaller invariant-loop decreases-loop
+loop-less : tie.Need-loop-k-smaller invariant-loop decreases-loop
 loop-less c =
-    let x = fed-at c.before in
-    let e = read_at x.before in
-    let h = e.before.before in
-    omega (arith, e.before.loop-test.taken)
+    let x : tie.After-feed_entry-refusal invariant-loop decreases-loop = search in
+    let e : tie.After-entry_from-n invariant-loop decreases-loop = search in
+    let h : tie.At-loop-k invariant-loop decreases-loop = search in
+    omega (arith, e.loop-k-test.true)
 
-loop-again : tie.Need-loop-preserved invariant-loop decreases-loop
+loop-again : tie.Need-loop-k-preserved invariant-loop decreases-loop
 loop-again c =
-    let x = fed-at c.before in
-    let e = read_at x.before in
-    let h = e.before.before in
-    going_on h.loop.inv (after x) e.entry-from.result x.feed-entry.result e.before.loop-test.taken e.entry-from.ensures x.feed-entry.ensures c.if1.false (same x)
+    let x : tie.After-feed_entry-refusal invariant-loop decreases-loop = search in
+    let e : tie.After-entry_from-n invariant-loop decreases-loop = search in
+    let h : tie.At-loop-k invariant-loop decreases-loop = search in
+    going_on h.loop-k.invariant (after x) e.entry_from-n.result x.feed_entry-refusal.result e.loop-k-test.true e.entry_from-n.ensures x.feed_entry-refusal.ensures c.if-refusal-ne0.false (same x)
 
-same-length-15 : tie.Need-same-length-15 invariant-loop decreases-loop
-same-length-15 c = ap (λ (l : List ℕ). l # 0) c.before.loop.invariant.same
+same-length-15 : tie.Need-shape_of-coefs invariant-loop decreases-loop
+same-length-15 c = ap (λ (l : List ℕ). l # 0) c.loop-k.invariant.same
 
-same-length-16 : tie.Need-same-length-16 invariant-loop decreases-loop
-same-length-16 c = ap (λ (l : List ℕ). l # 1) c.before.loop.invariant.same
+same-length-16 : tie.Need-shape_of-costs invariant-loop decreases-loop
+same-length-16 c = ap (λ (l : List ℕ). l # 1) c.loop-k.invariant.same
 
-same-length-17 : tie.Need-same-length-17 invariant-loop decreases-loop
-same-length-17 c = ap (λ (l : List ℕ). l # 2) c.before.loop.invariant.same
+same-length-17 : tie.Need-shape_of-lowers invariant-loop decreases-loop
+same-length-17 c = ap (λ (l : List ℕ). l # 2) c.loop-k.invariant.same
 
-same-length-18 : tie.Need-same-length-18 invariant-loop decreases-loop
-same-length-18 c = ap (λ (l : List ℕ). l # 3) c.before.loop.invariant.same
+same-length-18 : tie.Need-shape_of-uppers invariant-loop decreases-loop
+same-length-18 c = ap (λ (l : List ℕ). l # 3) c.loop-k.invariant.same
 
-same-length-19 : tie.Need-same-length-19 invariant-loop decreases-loop
-same-length-19 c = ap (λ (l : List ℕ). l # 4) c.before.loop.invariant.same
+same-length-19 : tie.Need-shape_of-lower_marks invariant-loop decreases-loop
+same-length-19 c = ap (λ (l : List ℕ). l # 4) c.loop-k.invariant.same
 
-same-length-20 : tie.Need-same-length-20 invariant-loop decreases-loop
-same-length-20 c = ap (λ (l : List ℕ). l # 5) c.before.loop.invariant.same
+same-length-20 : tie.Need-shape_of-upper_marks invariant-loop decreases-loop
+same-length-20 c = ap (λ (l : List ℕ). l # 5) c.loop-k.invariant.same
 
-same-length-21 : tie.Need-same-length-21 invariant-loop decreases-loop
-same-length-21 c = ap (λ (l : List ℕ). l # 6) c.before.loop.invariant.same
+same-length-21 : tie.Need-shape_of-rhs invariant-loop decreases-loop
+same-length-21 c = ap (λ (l : List ℕ). l # 6) c.loop-k.invariant.same
 
-same-length-22 : tie.Need-same-length-22 invariant-loop decreases-loop
-same-length-22 c = ap (λ (l : List ℕ). l # 7) c.before.loop.invariant.same
+same-length-22 : tie.Need-shape_of-amounts invariant-loop decreases-loop
+same-length-22 c = ap (λ (l : List ℕ). l # 7) c.loop-k.invariant.same
 
-same-length-23 : tie.Need-same-length-23 invariant-loop decreases-loop
-same-length-23 c = ap (λ (l : List ℕ). l # 8) c.before.loop.invariant.same
+same-length-23 : tie.Need-shape_of-mults invariant-loop decreases-loop
+same-length-23 c = ap (λ (l : List ℕ). l # 8) c.loop-k.invariant.same
 
-same-length-24 : tie.Need-same-length-24 invariant-loop decreases-loop
-same-length-24 c = ap (λ (l : List ℕ). l # 9) c.before.loop.invariant.same
+same-length-24 : tie.Need-shape_of-r invariant-loop decreases-loop
+same-length-24 c = ap (λ (l : List ℕ). l # 9) c.loop-k.invariant.same
 
-same-length-25 : tie.Need-same-length-25 invariant-loop decreases-loop
-same-length-25 c = ap (λ (l : List ℕ). l # 10) c.before.loop.invariant.same
+same-length-25 : tie.Need-shape_of-d invariant-loop decreases-loop
+same-length-25 c = ap (λ (l : List ℕ). l # 10) c.loop-k.invariant.same
 
-same-length-26 : tie.Need-same-length-26 invariant-loop decreases-loop
-same-length-26 c = ap (λ (l : List ℕ). l # 11) c.before.loop.invariant.same
+same-length-26 : tie.Need-shape_of-c invariant-loop decreases-loop
+same-length-26 c = ap (λ (l : List ℕ). l # 11) c.loop-k.invariant.same
 
-same-length-27 : tie.Need-same-length-27 invariant-loop decreases-loop
-same-length-27 c = ap (λ (l : List ℕ). l # 12) c.before.loop.invariant.same
+same-length-27 : tie.Need-shape_of-b invariant-loop decreases-loop
+same-length-27 c = ap (λ (l : List ℕ). l # 12) c.loop-k.invariant.same
 
-same-length-28 : tie.Need-same-length-28 invariant-loop decreases-loop
-same-length-28 c = ap (λ (l : List ℕ). l # 13) c.before.loop.invariant.same
+same-length-28 : tie.Need-shape_of-counts invariant-loop decreases-loop
+same-length-28 c = ap (λ (l : List ℕ). l # 13) c.loop-k.invariant.same
 
-returns-2 : tie.Need-returns-2 invariant-loop decreases-loop
-returns-2 c = going_done c.before.loop.invariant (omega (arith, c.loop-test.false))
+returns-2 : tie.Need-returns invariant-loop decreases-loop
+returns-2 c = going_done c.loop-k.invariant (omega (arith, c.loop-k-test.false))
 
-pub feed-entries-spec : {M : Type 1} → statement M
-feed-entries-spec =
+pub feed_entries_spec : {M : Type 1} → statement M
+feed_entries_spec =
     tie.close
     (tie.spec
     invariant-loop

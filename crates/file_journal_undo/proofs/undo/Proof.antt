@@ -12,118 +12,118 @@ use Rattle.file_journal_undo.proofs.undo.Tie as tie
 abbrev sheet : tie.Start → Sheet
 sheet s =
     sheet_of
-    (plan_of s.args.rows s.args.columns s.args.coefs.now s.args.costs.now s.args.lowers.now s.args.uppers.now s.args.lower-marks.now s.args.upper-marks.now s.args.rhs.now s.args.ops.now s.args.amounts.now s.args.mults.now)
+    (plan_of s.args.rows s.args.columns s.args.coefs.now s.args.costs.now s.args.lowers.now s.args.uppers.now s.args.lower_marks.now s.args.upper_marks.now s.args.rhs.now s.args.ops.now s.args.amounts.now s.args.mults.now)
     (kept_of s.args.r.now s.args.d.now s.args.c.now s.args.b.now s.args.counts.now)
 
 -- the way back: from before a call, or from the end, to where the call or the test before it left off
 
-abbrev start : tie.After-test → tie.Start
-start c = c.before.before.before.before.before.before
+abbrev start : tie.After-test-t → tie.Start
+start c = search
 
-abbrev tested : tie.After-undo-refusal → tie.After-test
-tested c = c.before.before.before.before.before.before.before.before.before.before.before.before.before.before.before.before
+abbrev tested : tie.After-undo_refusal-refusal → tie.After-test-t
+tested c = search
 
-abbrev answered : tie.After-entry-at → tie.Then1
-answered c = c.before.before.before
+abbrev answered : tie.After-entry_at-n → tie.Then-refusal-eq0
+answered c = search
 
-abbrev made : tie.After-apply-edit → tie.After-take-back
-made c = c.before.before.before.before.before.before.before.before.before.before.before.before.before.before.before
+abbrev made : tie.After-apply_edit → tie.After-take_back-e
+made c = search
 
-abbrev applied-at : tie.After-pop → tie.After-apply-edit
-applied-at c = c.before.before.before.before.before.before.before.before.before.before.before.before.before.before.before.before.before.before
+abbrev applied-at : tie.After-pop → tie.After-apply_edit
+applied-at c = search
 
-abbrev popped-at : tie.After-slice-known6 → tie.After-pop
-popped-at c = c.before.before
+abbrev popped-at : tie.After-slice_known-then-refusal-eq0-3-1 → tie.After-pop
+popped-at c = search
 
 -- an answer of 0: the journal has a last entry
-last : (b : tie.Then1) → let t = tested b.before in 512 * ((t.test.result.entries - 1) / 22) + 512 ≤ length (start t).args.journal.now
+last : (b : tie.Then-refusal-eq0) → let t = tested b.before in 512 * ((t.test-t.result.entries - 1) / 22) + 512 ≤ length t.args.journal.now
 last b =
     let u = b.before in
     let t = tested u in
     let s = start t in
-    last_in s.args.journal.now t.test.result t.test.ensures (passed_test (sheet s) s.args.journal.now t.test.result u.undo-refusal.result t.test.ensures u.undo-refusal.ensures b.if1.true) (has_entry (sheet s) s.args.journal.now t.test.result u.undo-refusal.result t.test.ensures u.undo-refusal.ensures b.if1.true)
+    last_in s.args.journal.now t.test-t.result t.test-t.ensures (passed_test (sheet s) s.args.journal.now t.test-t.result u.undo_refusal-refusal.result t.test-t.ensures u.undo_refusal-refusal.ensures b.if-refusal-eq0.true) (has_entry (sheet s) s.args.journal.now t.test-t.result u.undo_refusal-refusal.result t.test-t.ensures u.undo_refusal-refusal.ensures b.if-refusal-eq0.true)
 
-test-requires : tie.Need-test-requires
+test-requires : tie.Need-test-t-requires
 test-requires c κs = tt
 
-undo-refusal-requires : tie.Need-undo-refusal-requires
+undo-refusal-requires : tie.Need-undo_refusal-refusal-requires
 undo-refusal-requires c κs =
-    c.before.before.before.before.before.before.before.before.before.before.before.before.before.before.before.test.ensures
+    c.test-t.ensures
 
-sub-last : tie.Need-overflow-sub-last
+sub-last : tie.Need-overflow_sub-last
 sub-last c =
-    let b : tie.Then1 = c.before in
+    let b : tie.Then-refusal-eq0 = search in
     let u = b.before in
     let t = tested u in
     let s = start t in
-    omega (arith, some t.test.result.entries (has_entry (sheet s) s.args.journal.now t.test.result u.undo-refusal.result t.test.ensures u.undo-refusal.ensures b.if1.true))
+    omega (arith, some t.test-t.result.entries (has_entry (sheet s) s.args.journal.now t.test-t.result u.undo_refusal-refusal.result t.test-t.ensures u.undo_refusal-refusal.ensures b.if-refusal-eq0.true))
 
-entry-at-requires : tie.Need-entry-at-requires
-entry-at-requires c κs = last c.before.before
+entry-at-requires : tie.Need-entry_at-n-requires
+entry-at-requires c κs = last search
 
-take-back-requires : tie.Need-take-back-requires
+take-back-requires : tie.Need-take_back-e-requires
 take-back-requires c κs = tt
 
-apply-edit-requires : tie.Need-apply-edit-requires
+apply-edit-requires : tie.Need-apply_edit-requires
 apply-edit-requires c κs =
-    let k : tie.After-take-back = c.before.before.before.before.before.before.before.before.before.before.before.before.before.before in
+    let k : tie.After-take_back-e = search in
     let n = k.before in
     let b = answered n in
     let u = b.before in
     let t = tested u in
     let s = start t in
-    edited_so (sheet s) k.take_back.result (back_accepted (sheet s) s.args.journal.now t.test.result u.undo-refusal.result t.test.ensures u.undo-refusal.ensures b.if1.taken n.entry_at.result k.take_back.result n.entry_at.ensures k.take_back.ensures)
+    edited_so (sheet s) k.take_back-e.result (back_accepted (sheet s) s.args.journal.now t.test-t.result u.undo_refusal-refusal.result t.test-t.ensures u.undo_refusal-refusal.ensures b.if-refusal-eq0.true n.entry_at-n.result k.take_back-e.result n.entry_at-n.ensures k.take_back-e.ensures)
 
 pop-requires : tie.Need-pop-requires
 pop-requires c κs =
-    last (answered (made c.before.before.before.before.before.before.before.before.before.before.before.before.before.before.before.before.before).before)
+    last search
 
-same_length : tie.Need-same-length
-same_length c = (applied-at (popped-at c)).apply-edit.auto.1.1.1.0
+same_length : tie.Need-shape_of-coefs-then-refusal-eq0
+same_length c = c.apply_edit.auto.coefs
 
-same-length-2 : tie.Need-same-length-2
-same-length-2 c = (applied-at (popped-at c)).apply-edit.auto.1.1.1.1.0
+same-length-2 : tie.Need-shape_of-costs-then-refusal-eq0
+same-length-2 c = c.apply_edit.auto.costs
 
-same-length-3 : tie.Need-same-length-3
-same-length-3 c = (applied-at (popped-at c)).apply-edit.auto.1.1.1.1.1.0
+same-length-3 : tie.Need-shape_of-lowers-then-refusal-eq0
+same-length-3 c = c.apply_edit.auto.lowers
 
-same-length-4 : tie.Need-same-length-4
-same-length-4 c = (applied-at (popped-at c)).apply-edit.auto.1.1.1.1.1.1.0
+same-length-4 : tie.Need-shape_of-uppers-then-refusal-eq0
+same-length-4 c = c.apply_edit.auto.uppers
 
-same-length-5 : tie.Need-same-length-5
-same-length-5 c = (applied-at (popped-at c)).apply-edit.auto.1.1.1.1.1.1.1.0
+same-length-5 : tie.Need-shape_of-lower_marks-then-refusal-eq0
+same-length-5 c = c.apply_edit.auto.lower_marks
 
-same-length-6 : tie.Need-same-length-6
-same-length-6 c = (applied-at (popped-at c)).apply-edit.auto.1.1.1.1.1.1.1.1.0
+same-length-6 : tie.Need-shape_of-upper_marks-then-refusal-eq0
+same-length-6 c = c.apply_edit.auto.upper_marks
 
-same-length-7 : tie.Need-same-length-7
-same-length-7 c = (applied-at (popped-at c)).apply-edit.auto.1.1.1.1.1.1.1.1.1.0
+same-length-7 : tie.Need-shape_of-rhs-then-refusal-eq0
+same-length-7 c = c.apply_edit.auto.rhs
 
-same-length-8 : tie.Need-same-length-8
-same-length-8 c = (applied-at (popped-at c)).apply-edit.auto.1.1.1.1.1.1.1.1.1.1.1.0
+same-length-8 : tie.Need-shape_of-amounts-then-refusal-eq0
+same-length-8 c = c.apply_edit.auto.amounts
 
-same-length-9 : tie.Need-same-length-9
-same-length-9 c = (applied-at (popped-at c)).apply-edit.auto.1.1.1.1.1.1.1.1.1.1.1.1.0
+same-length-9 : tie.Need-shape_of-mults-then-refusal-eq0
+same-length-9 c = c.apply_edit.auto.mults
 
-same-length-10 : tie.Need-same-length-10
-same-length-10 c = (applied-at (popped-at c)).apply-edit.auto.1.1.1.1.1.1.1.1.1.1.1.1.1.0
+same-length-10 : tie.Need-shape_of-r-then-refusal-eq0
+same-length-10 c = c.apply_edit.auto.r
 
-same-length-11 : tie.Need-same-length-11
-same-length-11 c = (applied-at (popped-at c)).apply-edit.auto.1.1.1.1.1.1.1.1.1.1.1.1.1.1.0
+same-length-11 : tie.Need-shape_of-d-then-refusal-eq0
+same-length-11 c = c.apply_edit.auto.d
 
-same-length-12 : tie.Need-same-length-12
-same-length-12 c = (applied-at (popped-at c)).apply-edit.auto.1.1.1.1.1.1.1.1.1.1.1.1.1.1.1.0
+same-length-12 : tie.Need-shape_of-c-then-refusal-eq0
+same-length-12 c = c.apply_edit.auto.c
 
-same-length-13 : tie.Need-same-length-13
-same-length-13 c = (applied-at (popped-at c)).apply-edit.auto.1.1.1.1.1.1.1.1.1.1.1.1.1.1.1.1.0
+same-length-13 : tie.Need-shape_of-b-then-refusal-eq0
+same-length-13 c = c.apply_edit.auto.b
 
-same-length-14 : tie.Need-same-length-14
-same-length-14 c = (applied-at (popped-at c)).apply-edit.auto.1.1.1.1.1.1.1.1.1.1.1.1.1.1.1.1.1.0
+same-length-14 : tie.Need-shape_of-counts-then-refusal-eq0
+same-length-14 c = c.apply_edit.auto.counts
 
-same-length-15 : tie.Need-same-length-15
-same-length-15 c = (popped-at c).pop.auto.0
+same-length-15 : tie.Need-shape_of-journal-then-refusal-eq0
+same-length-15 c = c.pop.auto.journal
 
-returns : tie.Need-returns
+returns : tie.Need-returns-then-refusal-eq0
 returns c =
     let p = popped-at c in
     let x = applied-at p in
@@ -133,61 +133,61 @@ returns c =
     let u = b.before in
     let t = tested u in
     let s = start t in
-    undoes_new (sheet s) s.args.journal.now t.test.result u.undo-refusal.result t.test.ensures u.undo-refusal.ensures b.if1.taken n.entry_at.result k.take_back.result _ _ n.entry_at.ensures k.take_back.ensures x.apply-edit.ensures p.pop.ensures
+    undoes_new (sheet s) s.args.journal.now t.test-t.result u.undo_refusal-refusal.result t.test-t.ensures u.undo_refusal-refusal.ensures b.if-refusal-eq0.true n.entry_at-n.result k.take_back-e.result _ _ n.entry_at-n.ensures k.take_back-e.ensures x.apply_edit.ensures p.pop.ensures
 
-same-length-16 : tie.Need-same-length-16
+same-length-16 : tie.Need-shape_of-coefs-else-refusal-eq0
 same-length-16 c = refl
 
-same-length-17 : tie.Need-same-length-17
+same-length-17 : tie.Need-shape_of-costs-else-refusal-eq0
 same-length-17 c = refl
 
-same-length-18 : tie.Need-same-length-18
+same-length-18 : tie.Need-shape_of-lowers-else-refusal-eq0
 same-length-18 c = refl
 
-same-length-19 : tie.Need-same-length-19
+same-length-19 : tie.Need-shape_of-uppers-else-refusal-eq0
 same-length-19 c = refl
 
-same-length-20 : tie.Need-same-length-20
+same-length-20 : tie.Need-shape_of-lower_marks-else-refusal-eq0
 same-length-20 c = refl
 
-same-length-21 : tie.Need-same-length-21
+same-length-21 : tie.Need-shape_of-upper_marks-else-refusal-eq0
 same-length-21 c = refl
 
-same-length-22 : tie.Need-same-length-22
+same-length-22 : tie.Need-shape_of-rhs-else-refusal-eq0
 same-length-22 c = refl
 
-same-length-23 : tie.Need-same-length-23
+same-length-23 : tie.Need-shape_of-amounts-else-refusal-eq0
 same-length-23 c = refl
 
-same-length-24 : tie.Need-same-length-24
+same-length-24 : tie.Need-shape_of-mults-else-refusal-eq0
 same-length-24 c = refl
 
-same-length-25 : tie.Need-same-length-25
+same-length-25 : tie.Need-shape_of-r-else-refusal-eq0
 same-length-25 c = refl
 
-same-length-26 : tie.Need-same-length-26
+same-length-26 : tie.Need-shape_of-d-else-refusal-eq0
 same-length-26 c = refl
 
-same-length-27 : tie.Need-same-length-27
+same-length-27 : tie.Need-shape_of-c-else-refusal-eq0
 same-length-27 c = refl
 
-same-length-28 : tie.Need-same-length-28
+same-length-28 : tie.Need-shape_of-b-else-refusal-eq0
 same-length-28 c = refl
 
-same-length-29 : tie.Need-same-length-29
+same-length-29 : tie.Need-shape_of-counts-else-refusal-eq0
 same-length-29 c = refl
 
-same-length-30 : tie.Need-same-length-30
+same-length-30 : tie.Need-shape_of-journal-else-refusal-eq0
 same-length-30 c = refl
 
-returns-2 : tie.Need-returns-2
+returns-2 : tie.Need-returns-else-refusal-eq0
 returns-2 c =
     let u = c.before in
     let s = start (tested u) in
-    undoes_old (sheet s) s.args.journal.now u.undo-refusal.result u.undo-refusal.ensures c.if1.false
+    undoes_old (sheet s) s.args.journal.now u.undo_refusal-refusal.result u.undo_refusal-refusal.ensures c.if-refusal-eq0.false
 
-pub undo-spec : {M : Type 1} → statement M
-undo-spec =
+pub undo_spec : {M : Type 1} → statement M
+undo_spec =
     tie.close
     (tie.spec
     test-requires

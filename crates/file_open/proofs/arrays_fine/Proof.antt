@@ -8,48 +8,48 @@ use Rattle.file_open.proofs.Laws.{Placed, placed, within_table, bounds_table, op
 use Rattle.file_open.proofs.arrays_fine.Statement.{statement}
 use Rattle.file_open.proofs.arrays_fine.Tie as tie
 
-in_file : (c : tie.After-layout) → Placed c.before.before.args.rows c.before.before.args.columns c.layout.result (length c.before.before.args.file.now)
-in_file c = placed _ _ _ _ c.layout.ensures c.before.before.requires.there
+in_file : (c : tie.After-layout-p) → Placed c.args.rows c.args.columns c.layout-p.result (length c.args.file.now)
+in_file c = placed _ _ _ _ c.layout-p.ensures c.requires.there
 
-layout-requires : tie.Need-layout-requires
+layout-requires : tie.Need-layout-p-requires
 layout-requires c κs = search rules
 
-all-within-requires : tie.Need-all-within-requires
-all-within-requires c κs = let l : tie.After-layout = search in (in_file l).costs_in
+all-within-requires : tie.Need-all_within-requires
+all-within-requires c κs = let l : tie.After-layout-p = search in (in_file l).costs_in
 
-bounds-fine-requires : tie.Need-bounds-fine-requires
-bounds-fine-requires c κs = let l : tie.After-layout = search in ((in_file l).lower_marks_in, (in_file l).lowers_in)
+bounds-fine-requires : tie.Need-bounds_fine-requires
+bounds-fine-requires c κs = let l : tie.After-layout-p = search in ((in_file l).lower_marks_in, (in_file l).lowers_in)
 
-bounds-fine-requires-2 : tie.Need-bounds-fine-requires-2
-bounds-fine-requires-2 c κs = let l : tie.After-layout = search in ((in_file l).upper_marks_in, (in_file l).uppers_in)
+bounds-fine-requires-2 : tie.Need-bounds_fine-requires-2
+bounds-fine-requires-2 c κs = let l : tie.After-layout-p = search in ((in_file l).upper_marks_in, (in_file l).uppers_in)
 
-all-within-requires-2 : tie.Need-all-within-requires-2
-all-within-requires-2 c κs = let l : tie.After-layout = search in (in_file l).rhs_in
+all-within-requires-2 : tie.Need-all_within-requires-2
+all-within-requires-2 c κs = let l : tie.After-layout-p = search in (in_file l).rhs_in
 
-ops-fine-requires : tie.Need-ops-fine-requires
-ops-fine-requires c κs = let l : tie.After-layout = search in (in_file l).ops_in
+ops-fine-requires : tie.Need-ops_fine-requires
+ops-fine-requires c κs = let l : tie.After-layout-p = search in (in_file l).ops_in
 
-all-within-requires-3 : tie.Need-all-within-requires-3
-all-within-requires-3 c κs = let l : tie.After-layout = search in (in_file l).amounts_in
+all-within-requires-3 : tie.Need-all_within-requires-3
+all-within-requires-3 c κs = let l : tie.After-layout-p = search in (in_file l).amounts_in
 
-all-within-requires-4 : tie.Need-all-within-requires-4
-all-within-requires-4 c κs = let l : tie.After-layout = search in (in_file l).mults_in
+all-within-requires-4 : tie.Need-all_within-requires-4
+all-within-requires-4 c κs = let l : tie.After-layout-p = search in (in_file l).mults_in
 
 returns : tie.Need-returns
 unfolding arrays_fine plan_at
 returns c =
-    let l : tie.After-layout = search in
-    let a : tie.After-all-within = search in
-    let b : tie.After-bounds-fine = search in
-    let d : tie.After-bounds-fine2 = search in
-    let e : tie.After-all-within2 = search in
-    let o : tie.After-ops-fine = search in
-    let x : tie.After-all-within3 = search in
-    rw (a.all_within.ensures, b.bounds-fine.ensures, d.bounds-fine2.ensures, e.all-within2.ensures, o.ops-fine.ensures, x.all-within3.ensures, c.all-within4.ensures, l.layout.ensures)
+    let l : tie.After-layout-p = search in
+    let a : tie.After-all_within = search in
+    let b : tie.After-bounds_fine = search in
+    let d : tie.After-bounds_fine-2 = search in
+    let e : tie.After-all_within-2 = search in
+    let o : tie.After-ops_fine = search in
+    let x : tie.After-all_within-3 = search in
+    rw (a.all_within.ensures, b.bounds_fine.ensures, d.bounds_fine-2.ensures, e.all_within-2.ensures, o.ops_fine.ensures, x.all_within-3.ensures, c.all_within-4.ensures, l.layout-p.ensures)
     (simp (within_table, bounds_table, ops_table))
 
-pub arrays-fine-spec : {M : Type 1} → statement M
-arrays-fine-spec =
+pub arrays_fine_spec : {M : Type 1} → statement M
+arrays_fine_spec =
     tie.close
     (tie.spec
     layout-requires

@@ -8,19 +8,19 @@ use Rattle.file_open.proofs.Laws.{within_table}
 use Rattle.file_open.proofs.numbers_fine.Statement.{statement}
 use Rattle.file_open.proofs.numbers_fine.Tie as tie
 
-mul-all-within : tie.Need-overflow-mul-all-within
+mul-all-within : tie.Need-overflow_mul-rows
 mul-all-within c = search rules
 
-all-within-requires : tie.Need-all-within-requires
+all-within-requires : tie.Need-all_within-requires
 all-within-requires c κs = search rules
 
-arrays-fine-requires : tie.Need-arrays-fine-requires
+arrays-fine-requires : tie.Need-arrays_fine-requires
 arrays-fine-requires c κs = search rules
 
 returns : tie.Need-returns
 unfolding numbers_fine plan_at
-returns c = let a : tie.After-all-within = search in rw (a.all_within.ensures, c.arrays-fine.ensures) (simp within_table)
+returns c = let a : tie.After-all_within = search in rw (a.all_within.ensures, c.arrays_fine.ensures) (simp within_table)
 
-pub numbers-fine-spec : {M : Type 1} → statement M
-numbers-fine-spec =
+pub numbers_fine_spec : {M : Type 1} → statement M
+numbers_fine_spec =
     tie.close (tie.spec mul-all-within all-within-requires arrays-fine-requires returns)

@@ -11,41 +11,41 @@ use Rattle.file_read.proofs.Laws.{number_in}
 use Rattle.file_read.proofs.take_numbers.Statement.{statement}
 use Rattle.file_read.proofs.take_numbers.Tie as tie
 
-abbrev invariant-loop : tie.invariant-loop
+abbrev invariant-loop : tie.invariant-loop-k
 invariant-loop file place n out₀ k₀ out k = (k ≤ n) × Filled (number_at file place) out₀ k out
 
-abbrev decreases-loop : tie.decreases-loop
+abbrev decreases-loop : tie.decreases-loop-k
 decreases-loop file place n out₀ k₀ out k = n - k
 
-loop-holds : tie.Need-loop-init invariant-loop decreases-loop
+loop-holds : tie.Need-loop-k-init invariant-loop decreases-loop
 loop-holds c = (omega arith, filled_none)
 
-number-at-requires : tie.Need-number-at-requires invariant-loop decreases-loop
-number-at-requires c κs = let s : tie.Start invariant-loop decreases-loop = search in let t : tie.At-loop invariant-loop decreases-loop = search in number_in s.args.place s.args.n t.loop.k (length s.args.file.now) (omega arith) s.pre.0
+number-at-requires : tie.Need-number_at-requires invariant-loop decreases-loop
+number-at-requires c κs = let s : tie.Start invariant-loop decreases-loop = search in let t : tie.At-loop-k invariant-loop decreases-loop = search in number_in s.args.place s.args.n t.loop-k.k (length s.args.file.now) (omega arith) s.requires.0
 
-mul-t8 : tie.Need-overflow-mul-t8 invariant-loop decreases-loop
-mul-t8 c = let s : tie.Start invariant-loop decreases-loop = search in let t : tie.At-loop invariant-loop decreases-loop = search in let l = filled_length t.loop.inv.1 (omega (arith, s.pre.1)) in omega (arith, s.pre.1, l)
+mul-t8 : tie.Need-offset_bounds-out-k invariant-loop decreases-loop
+mul-t8 c = let s : tie.Start invariant-loop decreases-loop = search in let t : tie.At-loop-k invariant-loop decreases-loop = search in let l = filled_length t.loop-k.invariant.1 (omega (arith, s.requires.1)) in omega (arith, s.requires.1, l)
 
-slice-set-from-out : tie.Need-slice-set-from-out invariant-loop decreases-loop
-slice-set-from-out c = let s : tie.Start invariant-loop decreases-loop = search in let t : tie.At-loop invariant-loop decreases-loop = search in let l = filled_length t.loop.inv.1 (omega (arith, s.pre.1)) in omega (arith, s.pre.1, l)
+slice-set-from-out : tie.Need-bounds-out-k invariant-loop decreases-loop
+slice-set-from-out c = let s : tie.Start invariant-loop decreases-loop = search in let t : tie.At-loop-k invariant-loop decreases-loop = search in let l = filled_length t.loop-k.invariant.1 (omega (arith, s.requires.1)) in omega (arith, s.requires.1, l)
 
-add-k : tie.Need-overflow-add-k invariant-loop decreases-loop
+add-k : tie.Need-overflow_add-k invariant-loop decreases-loop
 add-k c = search rules
 
-loop-less : tie.Need-loop-smaller invariant-loop decreases-loop
+loop-less : tie.Need-loop-k-smaller invariant-loop decreases-loop
 loop-less c = search rules
 
-loop-again : tie.Need-loop-preserved invariant-loop decreases-loop
-loop-again c = let s : tie.Start invariant-loop decreases-loop = search in let t : tie.At-loop invariant-loop decreases-loop = search in (omega arith, filled_more t.loop.inv.1 (omega (arith, s.pre.1)) (result c.number_at.result c.number_at.type-inv ∙ c.number_at.ensures))
+loop-again : tie.Need-loop-k-preserved invariant-loop decreases-loop
+loop-again c = let s : tie.Start invariant-loop decreases-loop = search in let t : tie.At-loop-k invariant-loop decreases-loop = search in (omega arith, filled_more t.loop-k.invariant.1 (omega (arith, s.requires.1)) (result c.number_at.result c.number_at.type_inv ∙ c.number_at.ensures))
 
-same_length : tie.Need-same-length invariant-loop decreases-loop
-same_length c = let s : tie.Start invariant-loop decreases-loop = search in let t : tie.At-loop invariant-loop decreases-loop = search in filled_length t.loop.inv.1 (omega (arith, s.pre.1))
+same_length : tie.Need-shape_of-out invariant-loop decreases-loop
+same_length c = let s : tie.Start invariant-loop decreases-loop = search in let t : tie.At-loop-k invariant-loop decreases-loop = search in filled_length t.loop-k.invariant.1 (omega (arith, s.requires.1))
 
 returns : tie.Need-returns invariant-loop decreases-loop
-returns c = let s : tie.Start invariant-loop decreases-loop = search in let t : tie.At-loop invariant-loop decreases-loop = search in filled_done s.args.n (omega arith) (omega arith) t.loop.inv.1
+returns c = let s : tie.Start invariant-loop decreases-loop = search in let t : tie.At-loop-k invariant-loop decreases-loop = search in filled_done s.args.n (omega arith) (omega arith) t.loop-k.invariant.1
 
-pub take-numbers-spec : {M : Type 1} → statement M
-take-numbers-spec =
+pub take_numbers_spec : {M : Type 1} → statement M
+take_numbers_spec =
     tie.close
     (tie.spec
     invariant-loop

@@ -11,32 +11,32 @@ use Rattle.file_walk.proofs.Laws.{cut_short, whole_part}
 use Rattle.file_walk.proofs.stray_at.Statement.{statement}
 use Rattle.file_walk.proofs.stray_at.Tie as tie
 
-mul-start : tie.Need-overflow-mul-start
+mul-start : tie.Need-overflow_mul-start
 mul-start c = search rules
 
-add-end : tie.Need-overflow-add-end
+add-end : tie.Need-overflow_add-end
 add-end c = search rules
 
-returns : tie.Need-returns
+returns : tie.Need-returns-then-file-end
 returns c = let s : tie.Start = search in stray_cut plan_kind _ (cut_short s.args.file.now s.args.place (omega arith))
 
-sub-check-stray : tie.Need-overflow-sub-check-stray
+sub-check-stray : tie.Need-slice_bounds-check_stray-count
 sub-check-stray c = search rules
 
-part-check-stray-start : tie.Need-slice-bounds-check-stray-start
+part-check-stray-start : tie.Need-slice_bounds-check_stray-start
 part-check-stray-start c = search rules
 
-part-check-stray-end : tie.Need-slice-bounds-check-stray-end
+part-check-stray-end : tie.Need-slice_bounds-check_stray-end
 part-check-stray-end c = search rules
 
-check-stray-requires : tie.Need-check-stray-requires
+check-stray-requires : tie.Need-check_stray-requires
 check-stray-requires c κs = search rules
 
-returns-2 : tie.Need-returns-2
-returns-2 c = let s : tie.Start = search in c.check-stray.ensures ∙ ap (λ (b : List ℕ). stray_refusal plan_kind b) (whole_part s.args.file.now s.args.place)
+returns-2 : tie.Need-returns
+returns-2 c = let s : tie.Start = search in c.check_stray.ensures ∙ ap (λ (b : List ℕ). stray_refusal plan_kind b) (whole_part s.args.file.now s.args.place)
 
-pub stray-at-spec : {M : Type 1} → statement M
-stray-at-spec =
+pub stray_at_spec : {M : Type 1} → statement M
+stray_at_spec =
     tie.close
     (tie.spec
     mul-start

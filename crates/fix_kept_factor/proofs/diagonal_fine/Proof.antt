@@ -12,50 +12,50 @@ use Rattle.fix_rules.specs.Kept.{diagonal_fine}
 use Rattle.fix_kept_factor.proofs.diagonal_fine.Statement.{statement}
 use Rattle.fix_kept_factor.proofs.diagonal_fine.Tie as tie
 
-abbrev invariant-loop : tie.invariant-loop
+abbrev invariant-loop : tie.invariant-loop-i
 invariant-loop m diag i₀ i = (i ≤ m) × (all i (λ k. not (lt (size (diag ! k)) eps)) ≡ true)
 
-abbrev decreases-loop : tie.decreases-loop
+abbrev decreases-loop : tie.decreases-loop-i
 decreases-loop m diag i₀ i = m - i
 
-loop-holds : tie.Need-loop-init invariant-loop decreases-loop
+loop-holds : tie.Need-loop-i-init invariant-loop decreases-loop
 unfolding all
 loop-holds c = (omega arith, refl)
 
-mul-under-eps : tie.Need-overflow-mul-under-eps invariant-loop decreases-loop
+mul-under-eps : tie.Need-offset_bounds-diag-i invariant-loop decreases-loop
 mul-under-eps c = omega arith
 
-shared-slice-read-under-eps : tie.Need-shared-slice-read-under-eps invariant-loop decreases-loop
+shared-slice-read-under-eps : tie.Need-bounds-diag-i invariant-loop decreases-loop
 shared-slice-read-under-eps c = omega arith
 
-under-eps-requires : tie.Need-under-eps-requires invariant-loop decreases-loop
+under-eps-requires : tie.Need-under_eps-requires invariant-loop decreases-loop
 under-eps-requires c κs = tt
 
-returns : tie.Need-returns invariant-loop decreases-loop
+returns : tie.Need-returns-then-under_eps invariant-loop decreases-loop
 unfolding diagonal_fine
 returns c =
-    let t : tie.In-loop invariant-loop decreases-loop = search in
-    let e = sym c.before.under-eps.ensures ∙ c.if1.true in
-    sym (all_fails _ _ t.before.loop.i t.loop-test.taken (ap not e))
+    let t : tie.In-loop-i invariant-loop decreases-loop = search in
+    let e = sym c.under_eps.ensures ∙ c.if-under_eps.true in
+    sym (all_fails _ _ t.loop-i.i t.loop-i-test.true (ap not e))
 
-add-i : tie.Need-overflow-add-i invariant-loop decreases-loop
+add-i : tie.Need-overflow_add-i invariant-loop decreases-loop
 add-i c = omega arith
 
-loop-less : tie.Need-loop-smaller invariant-loop decreases-loop
+loop-less : tie.Need-loop-i-smaller invariant-loop decreases-loop
 loop-less c = omega arith
 
-loop-again : tie.Need-loop-preserved invariant-loop decreases-loop
+loop-again : tie.Need-loop-i-preserved invariant-loop decreases-loop
 loop-again c =
-    let t : tie.In-loop invariant-loop decreases-loop = search in
-    let e = sym c.before.under-eps.ensures ∙ c.if1.false in
-    (omega (arith, t.loop-test.taken), all_next _ t.before.loop.i t.before.loop.inv.1 (ap not e))
+    let t : tie.In-loop-i invariant-loop decreases-loop = search in
+    let e = sym c.under_eps.ensures ∙ c.if-under_eps.false in
+    (omega (arith, t.loop-i-test.true), all_next _ t.loop-i.i t.loop-i.invariant.1 (ap not e))
 
-returns-2 : tie.Need-returns-2 invariant-loop decreases-loop
+returns-2 : tie.Need-returns invariant-loop decreases-loop
 unfolding diagonal_fine
-returns-2 c = sym (all_done _ _ _ c.before.loop.invariant.0 c.loop-test.false c.before.loop.invariant.1)
+returns-2 c = sym (all_done _ _ _ c.loop-i.invariant.0 c.loop-i-test.false c.loop-i.invariant.1)
 
-pub diagonal-fine-spec : {M : Type 1} → statement M
-diagonal-fine-spec =
+pub diagonal_fine_spec : {M : Type 1} → statement M
+diagonal_fine_spec =
     tie.close
     (tie.spec
     invariant-loop

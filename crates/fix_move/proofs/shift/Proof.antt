@@ -32,15 +32,15 @@ abbrev Turned : tie.Start → List ℕ → List ℕ → List Float → Type 0
 Turned s starts cols coeffs = ByColumns (Q s starts cols coeffs) s.args.cstarts.now s.args.crows.now s.args.ccoeffs.now
 
 -- the way back to the entry, and the column that the solve leaves
-abbrev entry : tie.After-column → tie.Start
+abbrev entry : tie.After-column-count → tie.Start
 entry b = search
 
-abbrev vec : tie.After-column → Sv
-vec b = let l = b.column.new in sv l.0 l.1.0 l.1.1.0 b.column.result
+abbrev vec : tie.After-column-count → Sv
+vec b = let l = b.column-count.new in sv l.values l.marks l.list b.column-count.result
 
-is_column : (b : tie.After-column) (starts cols : List ℕ) (coeffs : List Float) → Turned (entry b) starts cols coeffs
+is_column : (b : tie.After-column-count) (starts cols : List ℕ) (coeffs : List Float) → Turned (entry b) starts cols coeffs
     → vec b ≡ fix_column (Q (entry b) starts cols coeffs) (S (entry b)) (entry b).args.col (entry b).args.value
-is_column b starts cols coeffs m = b.column.ensures (Q (entry b) starts cols coeffs) refl refl m
+is_column b starts cols coeffs m = b.column-count.ensures (Q (entry b) starts cols coeffs) refl refl m
 
 -- the problem that is asked for, whose bounds aren't lent
 abbrev whole : tie.Start → Problem
@@ -49,93 +49,93 @@ whole s =
     let r = a.ready_by in
     stepped s.args.n a.lowers a.uppers r.starts r.cols r.coeffs a.ops s.args.kept.now
 
-column_asked : (b : tie.After-column)
+column_asked : (b : tie.After-column-count)
     → vec b ≡ column_coeffs (whole (entry b)) (S (entry b)) ((S (entry b)).ws.nb_vars # (entry b).args.col)
-column_asked b = b.column.ensures (whole (entry b)) refl refl (columns_part (whole (entry b)) (entry b).requires.0.ready_by.by_columns)
+column_asked b = b.column-count.ensures (whole (entry b)) refl refl (columns_part (whole (entry b)) (entry b).requires.0.ready_by.by_columns)
 
 -- and from place to place
-abbrev column_at_holds : tie.Else1 → tie.After-column
+abbrev column_at_holds : tie.Else-not-listed_finite → tie.After-column-count
 column_at_holds x = search
 
-abbrev tested : tie.Else2 → tie.Else1
+abbrev tested : tie.Else-not-shift_finite → tie.Else-not-listed_finite
 tested x = search
 
-column-requires : tie.Need-column-requires
+column-requires : tie.Need-column-count-requires
 column-requires c κs =
     let s : tie.Start = search in
-    let a = s.pre.0.ready_by in
-    let q = column_asks a.ready (at_place s.args.col) s.pre.1 a.by_columns a.starts_long in
+    let a = s.requires.0.ready_by in
+    let q = column_asks a.ready (at_place s.args.col) s.requires.1 a.by_columns a.starts_long in
     ((a.ready.sized, fresh_blank, q.0), (q.1, q.2))
 
-listed-finite-requires : tie.Need-listed-finite-requires
+listed-finite-requires : tie.Need-listed_finite-requires
 listed-finite-requires c κs =
-    let b : tie.After-column = search in
+    let b : tie.After-column-count = search in
     let s = entry b in
-    listed_asks s.pre.0.ready_by.ready (at_place s.args.col) s.pre.1 (column_asked b)
+    listed_asks s.requires.0.ready_by.ready (at_place s.args.col) s.requires.1 (column_asked b)
 
-same_length : tie.Need-same-length
+same_length : tie.Need-shape_of-numbers-then-not-listed_finite
 same_length c = search rules
 
-same-length-2 : tie.Need-same-length-2
+same-length-2 : tie.Need-shape_of-doubles-then-not-listed_finite
 same-length-2 c = search rules
 
-returns : tie.Need-returns
+returns : tie.Need-returns-then-not-listed_finite
 returns c st co cf m =
-    let b : tie.After-column = search in
+    let b : tie.After-column-count = search in
     let s = entry b in
     shift_bad (Q s st co cf) (S s) s.args.col s.args.value (vec b) (is_column b st co cf m)
-    (sym (c.before.listed-finite.ensures _) ∙ not-true _ c.if1.true)
+    (sym (c.listed_finite.ensures _) ∙ not-true _ c.if-not-listed_finite.true-raw)
 
-shift-finite-requires : tie.Need-shift-finite-requires
+shift-finite-requires : tie.Need-shift_finite-requires
 shift-finite-requires c κs =
-    let b : tie.After-column = search in
+    let b : tie.After-column-count = search in
     let s = entry b in
-    let a = s.pre.0.ready_by in
-    let q = column_asks a.ready (at_place s.args.col) s.pre.1 a.by_columns a.starts_long in
-    (a.ready.sized.doubles_long, q.0, column_listing a.ready (at_place s.args.col) s.pre.1 (column_asked b))
+    let a = s.requires.0.ready_by in
+    let q = column_asks a.ready (at_place s.args.col) s.requires.1 a.by_columns a.starts_long in
+    (a.ready.sized.doubles_long, q.0, column_listing a.ready (at_place s.args.col) s.requires.1 (column_asked b))
 
-same-length-3 : tie.Need-same-length-3
+same-length-3 : tie.Need-shape_of-numbers-then-not-shift_finite
 same-length-3 c = search rules
 
-same-length-4 : tie.Need-same-length-4
+same-length-4 : tie.Need-shape_of-doubles-then-not-shift_finite
 same-length-4 c = search rules
 
-returns-2 : tie.Need-returns-2
+returns-2 : tie.Need-returns-then-not-shift_finite
 returns-2 c st co cf m =
-    let x : tie.Else1 = search in
+    let x : tie.Else-not-listed_finite = search in
     let b = column_at_holds x in
     let s = entry b in
     shift_unsound (Q s st co cf) (S s) s.args.col s.args.value (vec b) (is_column b st co cf m)
-    (sym (x.before.listed-finite.ensures _) ∙ not-false _ x.if1.left)
-    (sym (c.before.shift-finite.ensures s.args.numbers.now s.args.factor_numbers.now s.args.factor_coeffs.now b.column.last.1.0) ∙ not-true _ c.if2.true)
+    (sym (x.listed_finite.ensures _) ∙ not-false _ x.if-not-listed_finite.false-raw)
+    (sym (c.shift_finite.ensures s.args.numbers.now s.args.factor_numbers.now s.args.factor_coeffs.now b.column-count.new.marks) ∙ not-true _ c.if-not-shift_finite.true-raw)
 
-store-shift-requires : tie.Need-store-shift-requires
+store-shift-requires : tie.Need-store_shift-requires
 store-shift-requires c κs =
-    let b : tie.After-column = search in
+    let b : tie.After-column-count = search in
     let s = entry b in
-    let a = s.pre.0.ready_by in
-    let q = column_asks a.ready (at_place s.args.col) s.pre.1 a.by_columns a.starts_long in
-    (a.ready.sized, q.0, column_listing a.ready (at_place s.args.col) s.pre.1 (column_asked b))
+    let a = s.requires.0.ready_by in
+    let q = column_asks a.ready (at_place s.args.col) s.requires.1 a.by_columns a.starts_long in
+    (a.ready.sized, q.0, column_listing a.ready (at_place s.args.col) s.requires.1 (column_asked b))
 
-same-length-5 : tie.Need-same-length-5
+same-length-5 : tie.Need-shape_of-numbers
 same-length-5 c = search rules
 
-same-length-6 : tie.Need-same-length-6
+same-length-6 : tie.Need-shape_of-doubles
 same-length-6 c = search rules
 
-returns-3 : tie.Need-returns-3
+returns-3 : tie.Need-returns
 returns-3 c st co cf m =
-    let k : tie.After-store-shift = search in
-    let y : tie.Else2 = search in
+    let k : tie.After-store_shift = search in
+    let y : tie.Else-not-shift_finite = search in
     let x = tested y in
     let b = column_at_holds x in
     let s = entry b in
     shift_moves (Q s st co cf) (S s) s.args.col s.args.value (vec b) (is_column b st co cf m)
-    (sym (x.before.listed-finite.ensures _) ∙ not-false _ x.if1.left)
-    (sym (y.before.shift-finite.ensures s.args.numbers.now s.args.factor_numbers.now s.args.factor_coeffs.now b.column.last.1.0) ∙ not-false _ y.if2.left) (k.store-shift.ensures s.args.factor_numbers.now s.args.factor_coeffs.now b.column.last.1.0)
+    (sym (x.listed_finite.ensures _) ∙ not-false _ x.if-not-listed_finite.false-raw)
+    (sym (y.shift_finite.ensures s.args.numbers.now s.args.factor_numbers.now s.args.factor_coeffs.now b.column-count.new.marks) ∙ not-false _ y.if-not-shift_finite.false-raw) (k.store_shift.ensures s.args.factor_numbers.now s.args.factor_coeffs.now b.column-count.new.marks)
 
-pub shift-spec : {M : Type 1} → statement M
-shift-spec =
+pub shift_spec : {M : Type 1} → statement M
+shift_spec =
     tie.close
     (tie.spec
     column-requires

@@ -23,16 +23,16 @@ abbrev S : tie.Start → State
 S s = state_in s.args.numbers.now s.args.doubles.now s.args.factor_numbers.now s.args.factor_coeffs.now s.args.at
 
 -- the way back, and the arrays as the move leaves them
-abbrev entry : tie.After-shift → tie.Start
+abbrev entry : tie.After-shift-went → tie.Start
 entry m = search
 
-abbrev M : tie.After-shift → List ℕ
-M m = m.shift.new.0
+abbrev M : tie.After-shift-went → List ℕ
+M m = m.shift-went.new.numbers
 
-abbrev E : tie.After-shift → List Float
-E m = m.shift.new.1.0
+abbrev E : tie.After-shift-went → List Float
+E m = m.shift-went.new.doubles
 
-left : (m : tie.After-shift) (r : Went) → m.shift.result ≡ r
+left : (m : tie.After-shift-went) (r : Went) → m.shift-went.result ≡ r
     → let s = entry m in
     let a = s.args in
     left_by r (M m) (E m) a.factor_numbers.now a.factor_coeffs.now
@@ -41,70 +41,70 @@ left m r e =
     let s = entry m in
     let a = s.args in
     ap (λ (w : Went). left_by w (M m) (E m) a.factor_numbers.now a.factor_coeffs.now) (sym e)
-    ∙ m.shift.ensures a.starts.now a.cols.now a.coeffs.now s.pre.1.0
+    ∙ m.shift-went.ensures a.starts.now a.cols.now a.coeffs.now s.requires.1.0
 
-shift-requires : tie.Need-shift-requires
+shift-requires : tie.Need-shift-went-requires
 shift-requires c κs =
     let s : tie.Start = search in
-    (moves_asks s.pre.0.0 s.pre.0.1 s.pre.1.0 s.pre.1.1, s.pre.0.2)
+    (moves_asks s.requires.0.0 s.requires.0.1 s.requires.1.0 s.requires.1.1, s.requires.0.2)
 
-enum-known-went : tie.Need-enum-known-went
+enum-known-went : tie.Need-enum_known-went
 enum-known-went c = search rules
 
-same_length : tie.Need-same-length
+same_length : tie.Need-shape_of-numbers-in-Stops
 same_length c = search rules
 
-same-length-2 : tie.Need-same-length-2
+same-length-2 : tie.Need-shape_of-doubles-in-Stops
 same-length-2 c = search rules
 
-same-length-3 : tie.Need-same-length-3
+same-length-3 : tie.Need-shape_of-factor_numbers-in-Stops
 same-length-3 c = search rules
 
-same-length-4 : tie.Need-same-length-4
+same-length-4 : tie.Need-shape_of-factor_coeffs-in-Stops
 same-length-4 c = search rules
 
-returns : tie.Need-returns
+returns : tie.Need-returns-in-Stops
 returns c =
-    let w : tie.After-went = search in
-    let m : tie.After-shift = search in
+    let w : tie.In-Stops = search in
+    let m : tie.After-shift-went = search in
     let s = entry m in
-    non_basic_stops (P s) (S s) s.args.col s.args.value _ _ _ _ (left m _ w.went.given.1)
+    non_basic_stops (P s) (S s) s.args.col s.args.value _ _ _ _ (left m _ w.in-Stops.is)
 
-enum-known-went-2 : tie.Need-enum-known-went-2
+enum-known-went-2 : tie.Need-enum_known-went-in-On-1
 enum-known-went-2 c = search rules
 
 both-requires : tie.Need-both-requires
 both-requires c κs =
-    let w : tie.After-went2 = search in
-    let m : tie.After-shift = search in
+    let w : tie.In-On = search in
+    let m : tie.After-shift-went = search in
     let s = entry m in (
-      shift_runs s.pre.0.0 s.args.col s.args.value (M m) (E m) _ m.shift.kept.0 m.shift.kept.1.0
-          (left m _ w.went2.given.1),
-      s.pre.1,
+      shift_runs s.requires.0.0 s.args.col s.args.value (M m) (E m) _ m.shift-went.auto.numbers m.shift-went.auto.doubles
+          (left m _ w.in-On.is),
+      s.requires.1,
     )
 
-same-length-5 : tie.Need-same-length-5
+same-length-5 : tie.Need-shape_of-numbers-in-On
 same-length-5 c = search rules
 
-same-length-6 : tie.Need-same-length-6
+same-length-6 : tie.Need-shape_of-doubles-in-On
 same-length-6 c = search rules
 
-same-length-7 : tie.Need-same-length-7
+same-length-7 : tie.Need-shape_of-factor_numbers-in-On
 same-length-7 c = search rules
 
-same-length-8 : tie.Need-same-length-8
+same-length-8 : tie.Need-shape_of-factor_coeffs-in-On
 same-length-8 c = search rules
 
-returns-2 : tie.Need-returns-2
+returns-2 : tie.Need-returns-in-On
 returns-2 c =
     let b : tie.After-both = search in
-    let w : tie.After-went2 = search in
-    let m : tie.After-shift = search in
+    let w : tie.In-On = search in
+    let m : tie.After-shift-went = search in
     let s = entry m in
-    non_basic_goes (P s) (S s) s.args.col s.args.value _ (left m _ w.went2.given.1) _ b.both.ensures
+    non_basic_goes (P s) (S s) s.args.col s.args.value _ (left m _ w.in-On.is) _ b.both.ensures
 
-pub fix-non-basic-spec : {M : Type 1} → statement M
-fix-non-basic-spec =
+pub fix_non_basic_spec : {M : Type 1} → statement M
+fix_non_basic_spec =
     tie.close
     (tie.spec
     shift-requires

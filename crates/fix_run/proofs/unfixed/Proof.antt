@@ -22,55 +22,55 @@ S s = state_in s.args.numbers.now s.args.doubles.now s.args.factor_numbers.now s
 abbrev entry : tie.After-unmark → tie.Start
 entry u = search
 
-add-col : tie.Need-overflow-add-col
+add-col : tie.Need-overflow_add-col
 add-col c = search rules
 
-mul-col : tie.Need-overflow-mul-col
+mul-col : tie.Need-offset_bounds-numbers-j
 mul-col c = search rules
 
-slice-read-col : tie.Need-slice-read-col
+slice-read-col : tie.Need-bounds-numbers-j
 slice-read-col c = search rules
 
 unmark-requires : tie.Need-unmark-requires
 unmark-requires c κs =
     let s : tie.Start = search in
-    let p = s.pre.0 in
+    let p = s.requires.0 in
     let a = s.args in
     let cell = cell_is a.numbers.now a.doubles.now a.j (column_below p.0 a.j p.2) in
-    unmark_asks p.0 _ (omega (arith, cell, s.pre.1))
+    unmark_asks p.0 _ (omega (arith, cell, s.requires.1))
 
-go-on-requires : tie.Need-go-on-requires
+go-on-requires : tie.Need-go_on-requires
 go-on-requires c κs =
     let u : tie.After-unmark = search in
     let s = entry u in
     let a = s.args in
-    (unmarked_runs s.pre.0.0 u.unmark.last.0 _ u.unmark.kept.0 (u.unmark.ensures a.factor_numbers.now a.factor_coeffs.now a.at), s.pre.0.3)
+    (unmarked_runs s.requires.0.0 u.unmark.new.numbers _ u.unmark.auto.numbers (u.unmark.ensures a.factor_numbers.now a.factor_coeffs.now a.at), s.requires.0.3)
 
-same_length : tie.Need-same-length
+same_length : tie.Need-shape_of-numbers
 same_length c = search rules
 
-same-length-2 : tie.Need-same-length-2
+same-length-2 : tie.Need-shape_of-doubles
 same-length-2 c = search rules
 
-same-length-3 : tie.Need-same-length-3
+same-length-3 : tie.Need-shape_of-factor_numbers
 same-length-3 c = search rules
 
-same-length-4 : tie.Need-same-length-4
+same-length-4 : tie.Need-shape_of-factor_coeffs
 same-length-4 c = search rules
 
 returns : tie.Need-returns
 returns c =
-    let g : tie.After-go-on = search in
+    let g : tie.After-go_on = search in
     let u : tie.After-unmark = search in
     let s = entry u in
     let a = s.args in
-    let p = s.pre.0 in
+    let p = s.requires.0 in
     let cell = cell_is a.numbers.now a.doubles.now a.j (column_below p.0 a.j p.2) in
     unfixed_by (P s) (S s) a.j p.1 _
     (u.unmark.ensures a.factor_numbers.now a.factor_coeffs.now a.at ∙ ap (unmarked (bounds_of (P s)) (S s)) cell) _ g.go_on.ensures
 
-pub unfixed-spec : {M : Type 1} → statement M
-unfixed-spec =
+pub unfixed_spec : {M : Type 1} → statement M
+unfixed_spec =
     tie.close
     (tie.spec
     add-col

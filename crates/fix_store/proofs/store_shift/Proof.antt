@@ -9,72 +9,72 @@ use Rattle.fix_store.proofs.Laws.{shift_is}
 use Rattle.fix_store.proofs.store_shift.Statement.{statement}
 use Rattle.fix_store.proofs.store_shift.Tie as tie
 
-add-diff : tie.Need-overflow-add-diff
+add-diff : tie.Need-overflow_add-diff
 add-diff c = search rules
 
-mul-diff : tie.Need-overflow-mul-diff
+mul-diff : tie.Need-offset_bounds-doubles-col
 mul-diff c = search rules
 
-slice-read-diff : tie.Need-slice-read-diff
+slice-read-diff : tie.Need-bounds-doubles-col
 slice-read-diff c = search rules
 
-add-new-objective : tie.Need-overflow-add-new-objective
+add-new-objective : tie.Need-overflow_add-col
 add-new-objective c = search rules
 
-mul-new-objective : tie.Need-overflow-mul-new-objective
+mul-new-objective : tie.Need-offset_bounds-doubles-col-2
 mul-new-objective c = search rules
 
-slice-read-new-objective : tie.Need-slice-read-new-objective
+slice-read-new-objective : tie.Need-bounds-doubles-col-2
 slice-read-new-objective c = search rules
 
-new-objective-requires : tie.Need-new-objective-requires
+new-objective-requires : tie.Need-new_objective-objective-requires
 new-objective-requires c κs = search rules
 
-sub-store-moved : tie.Need-overflow-sub-store-moved
+sub-store-moved : tie.Need-slice_bounds-store_moved-count
 sub-store-moved c = search rules
 
-part-store-moved-start : tie.Need-slice-bounds-store-moved-start
+part-store-moved-start : tie.Need-slice_bounds-store_moved-start
 part-store-moved-start c = search rules
 
-part-store-moved-end : tie.Need-slice-bounds-store-moved-end
+part-store-moved-end : tie.Need-slice_bounds-store_moved-end
 part-store-moved-end c = search rules
 
-store-moved-requires : tie.Need-store-moved-requires
+store-moved-requires : tie.Need-store_moved-requires
 store-moved-requires c κs =
     let s : tie.Start = search in
-    listing_in basic_var_vals_at max_rows s.args.doubles.now (omega (arith, s.pre.0)) s.pre.2
+    listing_in basic_var_vals_at max_rows s.args.doubles.now (omega (arith, s.requires.0)) s.requires.2
 
-add-doubles : tie.Need-overflow-add-doubles
+add-doubles : tie.Need-overflow_add-doubles
 add-doubles c = search rules
 
-mul-doubles : tie.Need-overflow-mul-doubles
+mul-doubles : tie.Need-offset_bounds-doubles-col-3
 mul-doubles c = search rules
 
-slice-write-doubles : tie.Need-slice-write-doubles
+slice-write-doubles : tie.Need-bounds-doubles-col-3
 slice-write-doubles c = search rules
 
 mark-requires : tie.Need-mark-requires
 mark-requires c κs = search rules
 
-same_length : tie.Need-same-length
+same_length : tie.Need-shape_of-numbers
 same_length c = search rules
 
-same-length-2 : tie.Need-same-length-2
+same-length-2 : tie.Need-shape_of-doubles
 same-length-2 c = search rules
 
 returns : tie.Need-returns
 returns c F G m =
     let s : tie.Start = search in
-    let o : tie.After-new-objective = search in
-    let d : tie.After-store-moved = search in
+    let o : tie.After-new_objective-objective = search in
+    let d : tie.After-store_moved = search in
     let k : tie.After-mark = search in
     let a = s.args in
-    shift_is a.numbers.now a.doubles.now F G a.at a.col s.pre.1 s.pre.0
-    (sv a.values.now m a.list.now a.count) a.value d.store-moved.last.0 k.mark.last.0 _ (d.store-moved.ensures m)
-    d.store-moved.kept.0 o.new-objective.ensures k.mark.ensures
+    shift_is a.numbers.now a.doubles.now F G a.at a.col s.requires.1 s.requires.0
+    (sv a.values.now m a.list.now a.count) a.value d.store_moved.new.basic_var_vals k.mark.new.numbers _ (d.store_moved.ensures m)
+    d.store_moved.auto.basic_var_vals o.new_objective-objective.ensures k.mark.ensures
 
-pub store-shift-spec : {M : Type 1} → statement M
-store-shift-spec =
+pub store_shift_spec : {M : Type 1} → statement M
+store_shift_spec =
     tie.close
     (tie.spec
     add-diff

@@ -12,61 +12,61 @@ use Rattle.lu_apply.proofs.Laws.{solve_transp_made}
 use Rattle.lu_apply.proofs.solve_transp.Statement.{statement}
 use Rattle.lu_apply.proofs.solve_transp.Tie as tie
 
-abbrev start : tie.After-put-plain → tie.Start
+abbrev start : tie.After-put_plain-a → tie.Start
 start a = search
 
-abbrev solving : tie.After-two → tie.After-put-plain
+abbrev solving : tie.After-two-b → tie.After-put_plain-a
 solving t = search
 
 -- the vector that is solved for
-abbrev goes_in : tie.After-put-plain → Sv
-goes_in a = sv a.put-plain.new.1.1.1.0 a.put-plain.new.1.1.1.1.0
-    a.put-plain.new.1.1.1.1.1.0 a.put-plain.result
+abbrev goes_in : tie.After-put_plain-a → Sv
+goes_in a = sv a.put_plain-a.new.to_values a.put_plain-a.new.to_marks
+    a.put_plain-a.new.to_list a.put_plain-a.result
 
-was : (a : tie.After-put-plain) → Vector (start a).args.m (goes_in a)
-was a = subst (Vector (start a).args.m) (sym a.put-plain.ensures)
+was : (a : tie.After-put_plain-a) → Vector (start a).args.m (goes_in a)
+was a = subst (Vector (start a).args.m) (sym a.put_plain-a.ensures)
     (vector_plain (start a).requires.0 (start a).requires.1)
 
-put-plain-requires : tie.Need-put-plain-requires
-put-plain-requires c κs = let s : tie.Start = search in (lists_vector s.pre.0 s.pre.1, good_blank)
+put-plain-requires : tie.Need-put_plain-a-requires
+put-plain-requires c κs = let s : tie.Start = search in (lists_vector s.requires.0 s.requires.1, good_blank)
 
-two-requires : tie.Need-two-requires
+two-requires : tie.Need-two-b-requires
 two-requires c κs =
-    let a : tie.After-put-plain = search in
+    let a : tie.After-put_plain-a = search in
     let s = start a in
     let g = was a in (
-      numbers_lower s.pre.0 true _ (values_room s.pre.0 g),
+      numbers_lower s.requires.0 true _ (values_room s.requires.0 g),
       (
-        numbers_upper s.pre.0 false _ (values_room s.pre.0 g),
-        distinct_vector s.pre.0 g
+        numbers_upper s.requires.0 false _ (values_room s.requires.0 g),
+        distinct_vector s.requires.0 g
             (shape true s.args.m s.args.starts.now s.args.rows.now) refl,
       ),
     )
 
 clear-requires : tie.Need-clear-requires
-clear-requires c κs = let a : tie.After-put-plain = search in (start a).pre.1.good
+clear-requires c κs = let a : tie.After-put_plain-a = search in (start a).requires.1.good
 
-put-mapped-requires : tie.Need-put-mapped-requires
+put-mapped-requires : tie.Need-put_mapped-requires
 put-mapped-requires c κs =
-    let t : tie.After-two = search in
+    let t : tie.After-two-b = search in
     let k : tie.After-clear = search in
     let a = solving t in
     let s = start a in (
-      map_after s.pre.0 true (was a) t.two.ensures,
+      map_after s.requires.0 true (was a) t.two-b.ensures,
       subst (Good places) (sym k.clear.ensures)
-          (good_cleared _ s.pre.1.good),
+          (good_cleared _ s.requires.1.good),
     )
 
 returns : tie.Need-returns
 returns c =
-    let p : tie.After-put-mapped = search in
+    let p : tie.After-put_mapped = search in
     let k : tie.After-clear = search in
-    let t : tie.After-two = search in
+    let t : tie.After-two-b = search in
     let a = solving t in
     let s = start a in
-    solve_transp_made s.pre.0 (sv s.args.values.now s.args.marks.now s.args.list.now
-    s.args.count) a.put-plain.ensures t.two.ensures k.clear.ensures p.put-mapped.ensures
+    solve_transp_made s.requires.0 (sv s.args.values.now s.args.marks.now s.args.list.now
+    s.args.count) a.put_plain-a.ensures t.two-b.ensures k.clear.ensures p.put_mapped.ensures
 
-pub solve-transp-spec : {M : Type 1} → statement M
-solve-transp-spec =
+pub solve_transp_spec : {M : Type 1} → statement M
+solve_transp_spec =
     tie.close (tie.spec put-plain-requires two-requires clear-requires put-mapped-requires returns)

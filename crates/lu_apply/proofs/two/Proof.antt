@@ -11,29 +11,29 @@ use borrow.Author.Rules.{rules}
 use Rattle.lu_apply.proofs.two.Statement.{statement}
 use Rattle.lu_apply.proofs.two.Tie as tie
 
-sparse-requires : tie.Need-sparse-requires
+sparse-requires : tie.Need-sparse-n-requires
 sparse-requires c κs = search rules
 
-sparse-requires-2 : tie.Need-sparse-requires-2
+sparse-requires-2 : tie.Need-sparse-requires
 sparse-requires-2 c κs =
     let s : tie.Start = search in
-    let a : tie.After-sparse = search in
+    let a : tie.After-sparse-n = search in
     let g = s.args in
     let u = shape false g.m g.starts2.now g.rows2.now in (
-      numbers_kept s.pre.1.0 (ap (λ (o : Out). length o.values) a.sparse.ensures ∙ length_sparse s.pre.0
-          s.pre.1.1),
-      subst (λ (o : Out). Distinct u o.list o.count) (sym a.sparse.ensures)
-          (distinct_sparse s.pre.0 s.pre.1.1 u refl),
+      numbers_kept s.requires.1.0 (ap (λ (o : Out). length o.values) a.sparse-n.ensures ∙ length_sparse s.requires.0
+          s.requires.1.1),
+      subst (λ (o : Out). Distinct u o.list o.count) (sym a.sparse-n.ensures)
+          (distinct_sparse s.requires.0 s.requires.1.1 u refl),
     )
 
 returns : tie.Need-returns
 returns c =
     let s : tie.Start = search in
-    let a : tie.After-sparse = search in
-    let b : tie.After-sparse2 = search in
+    let a : tie.After-sparse-n = search in
+    let b : tie.After-sparse = search in
     let g = s.args in
-    b.sparse2.ensures ∙ ap (second (tri false g.m g.starts2.now g.rows2.now g.vals2.now
-    (not g.first-has-diag) g.diag.now)) a.sparse.ensures
+    b.sparse.ensures ∙ ap (second (tri false g.m g.starts2.now g.rows2.now g.vals2.now
+    (not g.first_has_diag) g.diag.now)) a.sparse-n.ensures
 
-pub two-spec : {M : Type 1} → statement M
-two-spec = tie.close (tie.spec sparse-requires sparse-requires-2 returns)
+pub two_spec : {M : Type 1} → statement M
+two_spec = tie.close (tie.spec sparse-requires sparse-requires-2 returns)

@@ -13,67 +13,67 @@ use Rattle.lu_gate.specs.Gate.{new_at, ok_list}
 use Rattle.lu_gate.proofs.list_ok.Statement.{statement}
 use Rattle.lu_gate.proofs.list_ok.Tie as tie
 
-abbrev invariant-loop : tie.invariant-loop
+abbrev invariant-loop : tie.invariant-loop-k
 invariant-loop size list listed marks₀ k₀ marks k =
     (k ≤ listed) × (all k (new_at size list) ≡ true) × (marks ≡ given list k) × (length marks ≡ max_rows)
 
-abbrev decreases-loop : tie.decreases-loop
+abbrev decreases-loop : tie.decreases-loop-k
 decreases-loop size list listed marks₀ k₀ marks k = listed - k
 
-abbrev entry : tie.At-loop invariant-loop decreases-loop → tie.Start invariant-loop decreases-loop
+abbrev entry : tie.At-loop-k invariant-loop decreases-loop → tie.Start invariant-loop decreases-loop
 entry a = search
 
-loop-holds : tie.Need-loop-init invariant-loop decreases-loop
+loop-holds : tie.Need-loop-k-init invariant-loop decreases-loop
 unfolding all given run
 loop-holds c = (omega arith, refl, refl, length-replicate max_rows false)
 
-mul-i : tie.Need-overflow-mul-i invariant-loop decreases-loop
+mul-i : tie.Need-offset_bounds-list-k invariant-loop decreases-loop
 mul-i c = omega arith
 
-shared-slice-read-i : tie.Need-shared-slice-read-i invariant-loop decreases-loop
+shared-slice-read-i : tie.Need-bounds-list-k invariant-loop decreases-loop
 shared-slice-read-i c = omega arith
 
-returns : tie.Need-returns invariant-loop decreases-loop
+returns : tie.Need-returns-then-size-i invariant-loop decreases-loop
 unfolding ok_list
-returns c = let t : tie.In-loop invariant-loop decreases-loop = search in sym (all_fails _ _ t.before.loop.k t.loop-test.taken (rw (le-ltb _ _ c.if1.true) refl))
+returns c = let t : tie.In-loop-k invariant-loop decreases-loop = search in sym (all_fails _ _ t.loop-k.k t.loop-k-test.true (rw (le-ltb _ _ c.if-size-i.true) refl))
 
-array-read-if2 : tie.Need-array-read-if2 invariant-loop decreases-loop
+array-read-if2 : tie.Need-bounds-marks-i invariant-loop decreases-loop
 array-read-if2 c = omega arith
 
-returns-2 : tie.Need-returns-2 invariant-loop decreases-loop
+returns-2 : tie.Need-returns-then-marks-i invariant-loop decreases-loop
 unfolding ok_list
 returns-2 c =
-    let t : tie.In-loop invariant-loop decreases-loop = search in
-    let i : tie.Else1 invariant-loop decreases-loop = search in
-    sym (all_fails _ _ t.before.loop.k t.loop-test.taken (rw (lt-ltb _ _ i.if1.left, ← t.before.loop.inv.2, c.if2.true) refl))
+    let t : tie.In-loop-k invariant-loop decreases-loop = search in
+    let i : tie.Else-size-i invariant-loop decreases-loop = search in
+    sym (all_fails _ _ t.loop-k.k t.loop-k-test.true (rw (lt-ltb _ _ i.if-size-i.false, ← t.loop-k.invariant.2, c.if-marks-i.true) refl))
 
-array-write-marks : tie.Need-array-write-marks invariant-loop decreases-loop
+array-write-marks : tie.Need-bounds-marks-i-in-loop-k invariant-loop decreases-loop
 array-write-marks c = omega arith
 
-add-k : tie.Need-overflow-add-k invariant-loop decreases-loop
+add-k : tie.Need-overflow_add-k invariant-loop decreases-loop
 add-k c = omega arith
 
-loop-less : tie.Need-loop-smaller invariant-loop decreases-loop
+loop-less : tie.Need-loop-k-smaller invariant-loop decreases-loop
 loop-less c = omega arith
 
-loop-again : tie.Need-loop-preserved invariant-loop decreases-loop
+loop-again : tie.Need-loop-k-preserved invariant-loop decreases-loop
 unfolding given
 loop-again c =
-    let t : tie.In-loop invariant-loop decreases-loop = search in
-    let i : tie.Else1 invariant-loop decreases-loop = search in
-    let j : tie.Else2 invariant-loop decreases-loop = search in (
-      omega (arith, t.loop-test.taken),
-      all_next _ t.before.loop.k t.before.loop.inv.1 (rw (lt-ltb _ _ i.if1.left, ← t.before.loop.inv.2, j.if2.left) refl),
-      next (mark_turn (entry t.before).args.list.now) (replicate max_rows false) t.before.loop.k t.before.loop.inv.2 refl,
-      simp length-set t.before.loop.inv.3,
+    let t : tie.In-loop-k invariant-loop decreases-loop = search in
+    let i : tie.Else-size-i invariant-loop decreases-loop = search in
+    let j : tie.Else-marks-i invariant-loop decreases-loop = search in (
+      omega (arith, t.loop-k-test.true),
+      all_next _ t.loop-k.k t.loop-k.invariant.1 (rw (lt-ltb _ _ i.if-size-i.false, ← t.loop-k.invariant.2, j.if-marks-i.false) refl),
+      next (mark_turn (entry t.before).args.list.now) (replicate max_rows false) t.loop-k.k t.loop-k.invariant.2 refl,
+      simp length-set t.loop-k.invariant.3,
     )
 
-returns-3 : tie.Need-returns-3 invariant-loop decreases-loop
+returns-3 : tie.Need-returns invariant-loop decreases-loop
 unfolding ok_list
-returns-3 c = sym (all_done _ _ _ c.before.loop.invariant.0 c.loop-test.false c.before.loop.invariant.1)
+returns-3 c = sym (all_done _ _ _ c.loop-k.invariant.0 c.loop-k-test.false c.loop-k.invariant.1)
 
-pub list-ok-spec : {M : Type 1} → statement M
-list-ok-spec =
+pub list_ok_spec : {M : Type 1} → statement M
+list_ok_spec =
     tie.close
     (tie.spec
     invariant-loop

@@ -4,14 +4,14 @@ use borrow.Author.Tests.{lt-ltb, le-ltb}
 use Rattle.lu_gate.proofs.row_ok.Statement.{statement}
 use Rattle.lu_gate.proofs.row_ok.Tie as tie
 
-returns : tie.Need-returns
-returns c = rw (le-ltb _ _ c.if1.true) refl
+returns : tie.Need-returns-then-size-row
+returns c = rw (le-ltb _ _ c.if-size-row.true) refl
 
-returns-2 : tie.Need-returns-2
-returns-2 c = rw (lt-ltb _ _ c.before.if1.false, c.if2.true) refl
+returns-2 : tie.Need-returns-then-lower
+returns-2 c = rw (lt-ltb _ _ c.if-size-row.false, c.if-lower.true) refl
 
-returns-3 : tie.Need-returns-3
-returns-3 c = rw (lt-ltb _ _ c.before.if1.false, c.if2.false) refl
+returns-3 : tie.Need-returns
+returns-3 c = rw (lt-ltb _ _ c.if-size-row.false, c.if-lower.false) refl
 
-pub row-ok-spec : {M : Type 1} → statement M
-row-ok-spec = tie.close (tie.spec returns returns-2 returns-3)
+pub row_ok_spec : {M : Type 1} → statement M
+row_ok_spec = tie.close (tie.spec returns returns-2 returns-3)

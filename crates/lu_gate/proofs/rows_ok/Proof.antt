@@ -11,42 +11,42 @@ use Rattle.lu_gate.specs.Gate.{ok_column, ok_rows}
 use Rattle.lu_gate.proofs.rows_ok.Statement.{statement}
 use Rattle.lu_gate.proofs.rows_ok.Tie as tie
 
-abbrev invariant-loop : tie.invariant-loop
+abbrev invariant-loop : tie.invariant-loop-col
 invariant-loop lower size starts rows col₀ col =
     (col ≤ size) × (all col (ok_column (shape lower size starts rows)) ≡ true)
 
-abbrev decreases-loop : tie.decreases-loop
+abbrev decreases-loop : tie.decreases-loop-col
 decreases-loop lower size starts rows col₀ col = size - col
 
-abbrev entry : tie.At-loop invariant-loop decreases-loop → tie.Start invariant-loop decreases-loop
+abbrev entry : tie.At-loop-col invariant-loop decreases-loop → tie.Start invariant-loop decreases-loop
 entry a = search
 
-loop-holds : tie.Need-loop-init invariant-loop decreases-loop
+loop-holds : tie.Need-loop-col-init invariant-loop decreases-loop
 unfolding all
 loop-holds c = (omega arith, refl)
 
-column-ok-requires : tie.Need-column-ok-requires invariant-loop decreases-loop
-column-ok-requires c κs = let t : tie.In-loop invariant-loop decreases-loop = search in (t.loop-test.taken, (entry t.before).pre)
+column-ok-requires : tie.Need-column_ok-requires invariant-loop decreases-loop
+column-ok-requires c κs = let t : tie.In-loop-col invariant-loop decreases-loop = search in (t.loop-col-test.true, (entry t.before).requires)
 
-returns : tie.Need-returns invariant-loop decreases-loop
+returns : tie.Need-returns-then-not-column_ok invariant-loop decreases-loop
 unfolding ok_rows
-returns c = let t : tie.In-loop invariant-loop decreases-loop = search in sym (all_fails _ _ t.before.loop.col t.loop-test.taken (sym c.before.column-ok.ensures ∙ not-true _ c.if1.true))
+returns c = let t : tie.In-loop-col invariant-loop decreases-loop = search in sym (all_fails _ _ t.loop-col.col t.loop-col-test.true (sym c.column_ok.ensures ∙ not-true _ c.if-not-column_ok.true-raw))
 
-add-col : tie.Need-overflow-add-col invariant-loop decreases-loop
-add-col c = let t : tie.In-loop invariant-loop decreases-loop = search in omega (arith, t.loop-test.taken, (entry t.before).pre.small)
+add-col : tie.Need-overflow_add-col invariant-loop decreases-loop
+add-col c = let t : tie.In-loop-col invariant-loop decreases-loop = search in omega (arith, t.loop-col-test.true, (entry t.before).requires.small)
 
-loop-less : tie.Need-loop-smaller invariant-loop decreases-loop
-loop-less c = let t : tie.In-loop invariant-loop decreases-loop = search in omega (arith, t.loop-test.taken)
+loop-less : tie.Need-loop-col-smaller invariant-loop decreases-loop
+loop-less c = let t : tie.In-loop-col invariant-loop decreases-loop = search in omega (arith, t.loop-col-test.true)
 
-loop-again : tie.Need-loop-preserved invariant-loop decreases-loop
-loop-again c = let t : tie.In-loop invariant-loop decreases-loop = search in (omega (arith, t.loop-test.taken), all_next _ t.before.loop.col t.before.loop.inv.1 (sym c.before.column-ok.ensures ∙ not-false _ c.if1.false))
+loop-again : tie.Need-loop-col-preserved invariant-loop decreases-loop
+loop-again c = let t : tie.In-loop-col invariant-loop decreases-loop = search in (omega (arith, t.loop-col-test.true), all_next _ t.loop-col.col t.loop-col.invariant.1 (sym c.column_ok.ensures ∙ not-false _ c.if-not-column_ok.false-raw))
 
-returns-2 : tie.Need-returns-2 invariant-loop decreases-loop
+returns-2 : tie.Need-returns invariant-loop decreases-loop
 unfolding ok_rows
-returns-2 c = sym (all_done _ _ _ c.before.loop.invariant.0 c.loop-test.false c.before.loop.invariant.1)
+returns-2 c = sym (all_done _ _ _ c.loop-col.invariant.0 c.loop-col-test.false c.loop-col.invariant.1)
 
-pub rows-ok-spec : {M : Type 1} → statement M
-rows-ok-spec =
+pub rows_ok_spec : {M : Type 1} → statement M
+rows_ok_spec =
     tie.close
     (tie.spec
     invariant-loop

@@ -11,77 +11,77 @@ use Rattle.lu_gate.specs.Gate.{rises_at, ok_starts}
 use Rattle.lu_gate.proofs.starts_ok.Statement.{statement}
 use Rattle.lu_gate.proofs.starts_ok.Tie as tie
 
-abbrev invariant-loop : tie.invariant-loop
+abbrev invariant-loop : tie.invariant-loop-j
 invariant-loop size entries starts j₀ j =
     (j ≤ size) × (all j (rises_at starts) ≡ true)
 
-abbrev decreases-loop : tie.decreases-loop
+abbrev decreases-loop : tie.decreases-loop-j
 decreases-loop size entries starts j₀ j = size - j
 
-abbrev entry : tie.At-loop invariant-loop decreases-loop → tie.Start invariant-loop decreases-loop
+abbrev entry : tie.At-loop-j invariant-loop decreases-loop → tie.Start invariant-loop decreases-loop
 entry a = search
 
-begins : (a : tie.At-loop invariant-loop decreases-loop) → get_or (entry a).args.starts.now 0 0 ≡ 0
+begins : (a : tie.At-loop-j invariant-loop decreases-loop) → get_or (entry a).args.starts.now 0 0 ≡ 0
 begins a = omega arith
 
-finishes : (a : tie.At-loop invariant-loop decreases-loop) → get_or (entry a).args.starts.now (entry a).args.size 0 ≡ (entry a).args.entries
+finishes : (a : tie.At-loop-j invariant-loop decreases-loop) → get_or (entry a).args.starts.now (entry a).args.size 0 ≡ (entry a).args.entries
 finishes a = omega arith
 
-shared-slice-read-if1 : tie.Need-shared-slice-read-if1 invariant-loop decreases-loop
+shared-slice-read-if1 : tie.Need-bounds-starts-0 invariant-loop decreases-loop
 shared-slice-read-if1 c = omega arith
 
-returns : tie.Need-returns invariant-loop decreases-loop
+returns : tie.Need-returns-then-starts-ne0 invariant-loop decreases-loop
 unfolding ok_starts
-returns c = rw (ne_eqb _ _ c.if1.true) refl
+returns c = rw (ne_eqb _ _ c.if-starts-ne0.true) refl
 
-mul-if2 : tie.Need-overflow-mul-if2 invariant-loop decreases-loop
+mul-if2 : tie.Need-offset_bounds-starts-size invariant-loop decreases-loop
 mul-if2 c = omega arith
 
-shared-slice-read-if2 : tie.Need-shared-slice-read-if2 invariant-loop decreases-loop
+shared-slice-read-if2 : tie.Need-bounds-starts-size invariant-loop decreases-loop
 shared-slice-read-if2 c = omega arith
 
-returns-2 : tie.Need-returns-2 invariant-loop decreases-loop
+returns-2 : tie.Need-returns-then-starts-size invariant-loop decreases-loop
 unfolding ok_starts
-returns-2 c = let i : tie.Else1 invariant-loop decreases-loop = search in rw (eq-eqb _ _ i.if1.left, ne_eqb _ _ c.if2.true) refl
+returns-2 c = let i : tie.Else-starts-ne0 invariant-loop decreases-loop = search in rw (eq-eqb _ _ i.if-starts-ne0.false, ne_eqb _ _ c.if-starts-size.true) refl
 
-loop-holds : tie.Need-loop-init invariant-loop decreases-loop
+loop-holds : tie.Need-loop-j-init invariant-loop decreases-loop
 unfolding all
 loop-holds c = (omega arith, refl)
 
-add-if3 : tie.Need-overflow-add-if3 invariant-loop decreases-loop
+add-if3 : tie.Need-overflow_add-j invariant-loop decreases-loop
 add-if3 c = omega arith
 
-mul-if3 : tie.Need-overflow-mul-if3 invariant-loop decreases-loop
+mul-if3 : tie.Need-offset_bounds-starts-j invariant-loop decreases-loop
 mul-if3 c = omega arith
 
-shared-slice-read-if3 : tie.Need-shared-slice-read-if3 invariant-loop decreases-loop
+shared-slice-read-if3 : tie.Need-bounds-starts-j invariant-loop decreases-loop
 shared-slice-read-if3 c = omega arith
 
-mul-if3-2 : tie.Need-overflow-mul-if3-2 invariant-loop decreases-loop
+mul-if3-2 : tie.Need-offset_bounds-starts-j-in-loop-j invariant-loop decreases-loop
 mul-if3-2 c = omega arith
 
-shared-slice-read-if3-2 : tie.Need-shared-slice-read-if3-2 invariant-loop decreases-loop
+shared-slice-read-if3-2 : tie.Need-bounds-starts-j-in-loop-j invariant-loop decreases-loop
 shared-slice-read-if3-2 c = omega arith
 
-returns-3 : tie.Need-returns-3 invariant-loop decreases-loop
+returns-3 : tie.Need-returns-then-starts-j invariant-loop decreases-loop
 unfolding ok_starts
-returns-3 c = let t : tie.In-loop invariant-loop decreases-loop = search in rw (eq-eqb _ _ (begins t.before), eq-eqb _ _ (finishes t.before)) (sym (all_fails _ _ t.before.loop.j t.loop-test.taken (lt-leb _ _ c.if3.true)))
+returns-3 c = let t : tie.In-loop-j invariant-loop decreases-loop = search in rw (eq-eqb _ _ (begins t.before), eq-eqb _ _ (finishes t.before)) (sym (all_fails _ _ t.loop-j.j t.loop-j-test.true (lt-leb _ _ c.if-starts-j.true)))
 
-add-j : tie.Need-overflow-add-j invariant-loop decreases-loop
+add-j : tie.Need-overflow_add-j-in-loop-j invariant-loop decreases-loop
 add-j c = omega arith
 
-loop-less : tie.Need-loop-smaller invariant-loop decreases-loop
+loop-less : tie.Need-loop-j-smaller invariant-loop decreases-loop
 loop-less c = omega arith
 
-loop-again : tie.Need-loop-preserved invariant-loop decreases-loop
-loop-again c = let t : tie.In-loop invariant-loop decreases-loop = search in (omega (arith, t.loop-test.taken), all_next _ t.before.loop.j t.before.loop.inv.1 (le-leb _ _ c.if3.false))
+loop-again : tie.Need-loop-j-preserved invariant-loop decreases-loop
+loop-again c = let t : tie.In-loop-j invariant-loop decreases-loop = search in (omega (arith, t.loop-j-test.true), all_next _ t.loop-j.j t.loop-j.invariant.1 (le-leb _ _ c.if-starts-j.false))
 
-returns-4 : tie.Need-returns-4 invariant-loop decreases-loop
+returns-4 : tie.Need-returns invariant-loop decreases-loop
 unfolding ok_starts
-returns-4 c = rw (eq-eqb _ _ (begins c.before), eq-eqb _ _ (finishes c.before)) (sym (all_done _ _ _ c.before.loop.invariant.0 c.loop-test.false c.before.loop.invariant.1))
+returns-4 c = rw (eq-eqb _ _ (begins c.before), eq-eqb _ _ (finishes c.before)) (sym (all_done _ _ _ c.loop-j.invariant.0 c.loop-j-test.false c.loop-j.invariant.1))
 
-pub starts-ok-spec : {M : Type 1} → statement M
-starts-ok-spec =
+pub starts_ok_spec : {M : Type 1} → statement M
+starts_ok_spec =
     tie.close
     (tie.spec
     invariant-loop

@@ -4,26 +4,26 @@ use borrow.Author.Rules.{rules}
 use Rattle.lu_gather.proofs.better.Statement.{statement}
 use Rattle.lu_gather.proofs.better.Tie as tie
 
-mul-if1 : tie.Need-overflow-mul-if1
+mul-if1 : tie.Need-offset_bounds-number-r
 mul-if1 c = search rules
 
-element-copy-out-if1 : tie.Need-element-copy-out-if1
+element-copy-out-if1 : tie.Need-bounds-number-r
 element-copy-out-if1 c = search rules
 
-returns : tie.Need-returns
-returns c = better_old _ _ _ _ _ c.if1.true
+returns : tie.Need-returns-then-number-r
+returns c = better_old _ _ _ _ _ c.if-number-r.true
 
-abs-requires : tie.Need-abs-requires
+abs-requires : tie.Need-abs-s-requires
 abs-requires c κs = search rules
 
-returns-2 : tie.Need-returns-2
-returns-2 c = let a : tie.After-abs = search in let e : tie.Else1 = search in better_new _ _ _ _ _ e.if1.left
-    a.abs.ensures c.if2.true
+returns-2 : tie.Need-returns-then-b-s
+returns-2 c = let a : tie.After-abs-s = search in let e : tie.Else-number-r = search in better_new _ _ _ _ _ e.if-number-r.false
+    a.abs-s.ensures c.if-b-s.true
 
-returns-3 : tie.Need-returns-3
-returns-3 c = let a : tie.After-abs = search in let e : tie.Else1 = search in better_kept _ _ _ _ _ e.if1.left
-    a.abs.ensures c.if2.false
+returns-3 : tie.Need-returns
+returns-3 c = let a : tie.After-abs-s = search in let e : tie.Else-number-r = search in better_kept _ _ _ _ _ e.if-number-r.false
+    a.abs-s.ensures c.if-b-s.false
 
-pub better-spec : {M : Type 1} → statement M
-better-spec =
+pub better_spec : {M : Type 1} → statement M
+better_spec =
     tie.close (tie.spec mul-if1 element-copy-out-if1 returns abs-requires returns-2 returns-3)

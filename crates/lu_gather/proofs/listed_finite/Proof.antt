@@ -12,64 +12,64 @@ use Rattle.lu_factor_rules.specs.Factor.{listed_finite}
 use Rattle.lu_gather.proofs.listed_finite.Statement.{statement}
 use Rattle.lu_gather.proofs.listed_finite.Tie as tie
 
-abbrev invariant-loop : tie.invariant-loop
+abbrev invariant-loop : tie.invariant-loop-k
 invariant-loop values list count k₀ k = (k ≤ count) × (all k (λ j. finite (values ! (list # j))) ≡ true)
 
-abbrev decreases-loop : tie.decreases-loop
+abbrev decreases-loop : tie.decreases-loop-k
 decreases-loop values list count k₀ k = count - k
 
-abbrev entry : tie.At-loop invariant-loop decreases-loop → tie.Start invariant-loop decreases-loop
+abbrev entry : tie.At-loop-k invariant-loop decreases-loop → tie.Start invariant-loop decreases-loop
 entry a = search
 
-loop-holds : tie.Need-loop-init invariant-loop decreases-loop
+loop-holds : tie.Need-loop-k-init invariant-loop decreases-loop
 unfolding all
 loop-holds c = (omega arith, refl)
 
-mul-i : tie.Need-overflow-mul-i invariant-loop decreases-loop
-mul-i c = let t : tie.In-loop invariant-loop decreases-loop = search in omega
-    (arith, t.loop-test.taken, (entry t.before).pre.few)
+mul-i : tie.Need-offset_bounds-list-k invariant-loop decreases-loop
+mul-i c = let t : tie.In-loop-k invariant-loop decreases-loop = search in omega
+    (arith, t.loop-k-test.true, (entry t.before).requires.few)
 
-element-copy-out-i : tie.Need-element-copy-out-i invariant-loop decreases-loop
-element-copy-out-i c = let t : tie.In-loop invariant-loop decreases-loop = search in omega
-    (arith, t.loop-test.taken, (entry t.before).pre.few)
+element-copy-out-i : tie.Need-bounds-list-k invariant-loop decreases-loop
+element-copy-out-i c = let t : tie.In-loop-k invariant-loop decreases-loop = search in omega
+    (arith, t.loop-k-test.true, (entry t.before).requires.few)
 
-mul-is-finite : tie.Need-overflow-mul-is-finite invariant-loop decreases-loop
-mul-is-finite c = let t : tie.In-loop invariant-loop decreases-loop = search in omega
-    (arith, (entry t.before).pre.rows _ t.loop-test.taken)
+mul-is-finite : tie.Need-offset_bounds-values-i invariant-loop decreases-loop
+mul-is-finite c = let t : tie.In-loop-k invariant-loop decreases-loop = search in omega
+    (arith, (entry t.before).requires.rows _ t.loop-k-test.true)
 
-element-copy-out-is-finite : tie.Need-element-copy-out-is-finite invariant-loop decreases-loop
-element-copy-out-is-finite c = let t : tie.In-loop invariant-loop decreases-loop = search in omega
-    (arith, (entry t.before).pre.rows _ t.loop-test.taken)
+element-copy-out-is-finite : tie.Need-bounds-values-i invariant-loop decreases-loop
+element-copy-out-is-finite c = let t : tie.In-loop-k invariant-loop decreases-loop = search in omega
+    (arith, (entry t.before).requires.rows _ t.loop-k-test.true)
 
-is-finite-requires : tie.Need-is-finite-requires invariant-loop decreases-loop
+is-finite-requires : tie.Need-is_finite-requires invariant-loop decreases-loop
 is-finite-requires c κs = tt
 
-returns : tie.Need-returns invariant-loop decreases-loop
+returns : tie.Need-returns-then-not-is_finite invariant-loop decreases-loop
 unfolding listed_finite
-returns c = let t : tie.In-loop invariant-loop decreases-loop = search in sym
-    (all_fails _ _ t.before.loop.k t.loop-test.taken
-    (sym c.before.is_finite.ensures ∙ not-true _ c.if1.true))
+returns c = let t : tie.In-loop-k invariant-loop decreases-loop = search in sym
+    (all_fails _ _ t.loop-k.k t.loop-k-test.true
+    (sym c.is_finite.ensures ∙ not-true _ c.if-not-is_finite.true-raw))
 
-add-k : tie.Need-overflow-add-k invariant-loop decreases-loop
-add-k c = let t : tie.In-loop invariant-loop decreases-loop = search in omega
-    (arith, t.loop-test.taken, (entry t.before).pre.few)
+add-k : tie.Need-overflow_add-k invariant-loop decreases-loop
+add-k c = let t : tie.In-loop-k invariant-loop decreases-loop = search in omega
+    (arith, t.loop-k-test.true, (entry t.before).requires.few)
 
-loop-less : tie.Need-loop-smaller invariant-loop decreases-loop
-loop-less c = let t : tie.In-loop invariant-loop decreases-loop = search in omega (arith, t.loop-test.taken)
+loop-less : tie.Need-loop-k-smaller invariant-loop decreases-loop
+loop-less c = let t : tie.In-loop-k invariant-loop decreases-loop = search in omega (arith, t.loop-k-test.true)
 
-loop-again : tie.Need-loop-preserved invariant-loop decreases-loop
-loop-again c = let t : tie.In-loop invariant-loop decreases-loop = search in (
-  omega (arith, t.loop-test.taken),
-  all_next _ t.before.loop.k t.before.loop.inv.1
-      (sym c.before.is_finite.ensures ∙ not-false _ c.if1.false),
+loop-again : tie.Need-loop-k-preserved invariant-loop decreases-loop
+loop-again c = let t : tie.In-loop-k invariant-loop decreases-loop = search in (
+  omega (arith, t.loop-k-test.true),
+  all_next _ t.loop-k.k t.loop-k.invariant.1
+      (sym c.is_finite.ensures ∙ not-false _ c.if-not-is_finite.false-raw),
 )
 
-returns-2 : tie.Need-returns-2 invariant-loop decreases-loop
+returns-2 : tie.Need-returns invariant-loop decreases-loop
 unfolding listed_finite
-returns-2 c = sym (all_done _ _ _ c.before.loop.invariant.0 c.loop-test.false c.before.loop.invariant.1)
+returns-2 c = sym (all_done _ _ _ c.loop-k.invariant.0 c.loop-k-test.false c.loop-k.invariant.1)
 
-pub listed-finite-spec : {M : Type 1} → statement M
-listed-finite-spec =
+pub listed_finite_spec : {M : Type 1} → statement M
+listed_finite_spec =
     tie.close
     (tie.spec
     invariant-loop

@@ -11,53 +11,53 @@ use Rattle.lu_factor_rules.proofs.Laws.{wf_growing}
 use Rattle.lu_reduce.proofs.grow.Statement.{statement}
 use Rattle.lu_reduce.proofs.grow.Tie as tie
 
-abbrev invariant-loop : tie.invariant-loop
+abbrev invariant-loop : tie.invariant-loop-k
 invariant-loop done n marks₀ list₀ count c₀ k₀ marks list c k = (k ≤ n) ×
     (pat marks list c ≡ run (grow_turn done) k (pat marks₀ list₀ count))
 
-abbrev decreases-loop : tie.decreases-loop
+abbrev decreases-loop : tie.decreases-loop-k
 decreases-loop done n marks₀ list₀ count c₀ k₀ marks list c k = n - k
 
-abbrev entry : tie.At-loop invariant-loop decreases-loop → tie.Start invariant-loop decreases-loop
+abbrev entry : tie.At-loop-k invariant-loop decreases-loop → tie.Start invariant-loop decreases-loop
 entry a = search
 
-loop-holds : tie.Need-loop-init invariant-loop decreases-loop
+loop-holds : tie.Need-loop-k-init invariant-loop decreases-loop
 unfolding run
 loop-holds c = (omega arith, refl)
 
-mul-r : tie.Need-overflow-mul-r invariant-loop decreases-loop
-mul-r c = let t : tie.In-loop invariant-loop decreases-loop = search in omega
-    (arith, t.loop-test.taken, (entry t.before).pre.1.in_List)
+mul-r : tie.Need-offset_bounds-done-k invariant-loop decreases-loop
+mul-r c = let t : tie.In-loop-k invariant-loop decreases-loop = search in omega
+    (arith, t.loop-k-test.true, (entry t.before).requires.1.in_list)
 
-element-copy-out-r : tie.Need-element-copy-out-r invariant-loop decreases-loop
-element-copy-out-r c = let t : tie.In-loop invariant-loop decreases-loop = search in omega
-    (arith, t.loop-test.taken, (entry t.before).pre.1.in_List)
+element-copy-out-r : tie.Need-bounds-done-k invariant-loop decreases-loop
+element-copy-out-r c = let t : tie.In-loop-k invariant-loop decreases-loop = search in omega
+    (arith, t.loop-k-test.true, (entry t.before).requires.1.in_list)
 
-touch-requires : tie.Need-touch-requires invariant-loop decreases-loop
+touch-requires : tie.Need-touch-c-requires invariant-loop decreases-loop
 touch-requires c κs =
-    let t : tie.In-loop invariant-loop decreases-loop = search in (
-      omega (arith, (entry t.before).pre.1.places _ t.loop-test.taken),
+    let t : tie.In-loop-k invariant-loop decreases-loop = search in (
+      omega (arith, (entry t.before).requires.1.places _ t.loop-k-test.true),
       subst (Wf places)
-          (sym t.before.loop.inv.1) (wf_growing _ _ _ (entry t.before).pre.1 (entry t.before).pre.0
-          t.before.loop.k t.before.loop.inv.0),
+          (sym t.loop-k.invariant.1) (wf_growing _ _ _ (entry t.before).requires.1 (entry t.before).requires.0
+          t.loop-k.k t.loop-k.invariant.0),
     )
 
-add-k : tie.Need-overflow-add-k invariant-loop decreases-loop
-add-k c = let t : tie.In-loop invariant-loop decreases-loop = search in omega
-    (arith, t.loop-test.taken, (entry t.before).pre.1.in_List)
+add-k : tie.Need-overflow_add-k invariant-loop decreases-loop
+add-k c = let t : tie.In-loop-k invariant-loop decreases-loop = search in omega
+    (arith, t.loop-k-test.true, (entry t.before).requires.1.in_list)
 
-loop-less : tie.Need-loop-smaller invariant-loop decreases-loop
-loop-less c = let t : tie.In-loop invariant-loop decreases-loop = search in omega (arith, t.loop-test.taken)
+loop-less : tie.Need-loop-k-smaller invariant-loop decreases-loop
+loop-less c = let t : tie.In-loop-k invariant-loop decreases-loop = search in omega (arith, t.loop-k-test.true)
 
-loop-again : tie.Need-loop-preserved invariant-loop decreases-loop
+loop-again : tie.Need-loop-k-preserved invariant-loop decreases-loop
 loop-again c =
-    let t : tie.In-loop invariant-loop decreases-loop = search in
-    let d : tie.After-touch invariant-loop decreases-loop = search in
-    (omega (arith, t.loop-test.taken), next _ _ t.before.loop.k t.before.loop.inv.1 d.touch.ensures)
+    let t : tie.In-loop-k invariant-loop decreases-loop = search in
+    let d : tie.After-touch-c invariant-loop decreases-loop = search in
+    (omega (arith, t.loop-k-test.true), next _ _ t.loop-k.k t.loop-k.invariant.1 d.touch-c.ensures)
 
 returns : tie.Need-returns invariant-loop decreases-loop
 unfolding grown
-returns c = done _ _ _ _ c.before.loop.invariant.0 c.loop-test.false c.before.loop.invariant.1
+returns c = done _ _ _ _ c.loop-k.invariant.0 c.loop-k-test.false c.loop-k.invariant.1
 
 pub grow_spec : {M : Type 1} → statement M
 grow_spec =

@@ -7,34 +7,34 @@ use Rattle.lu_factor_rules.proofs.Laws.{listed_rows, places_walked, places_all, 
 use Rattle.lu_reduce.proofs.solve_column.Statement.{statement}
 use Rattle.lu_reduce.proofs.solve_column.Tie as tie
 
-reach-in-requires : tie.Need-reach-in-requires
+reach-in-requires : tie.Need-reach_in-n-requires
 reach-in-requires c κs = let s : tie.Start = search in (
-  s.pre.0.columns,
-  (listed_rows s.pre.0 s.pre.1, fits_fresh),
+  s.requires.0.columns,
+  (listed_rows s.requires.0 s.requires.1, fits_fresh),
 )
 
-grow-requires : tie.Need-grow-requires
-grow-requires c κs = let s : tie.Start = search in let w : tie.After-reach-in = search in
-    (s.pre.1.good.wf, places_all s.pre.0 s.pre.1 w.reach-in.ensures)
+grow-requires : tie.Need-grow-c-requires
+grow-requires c κs = let s : tie.Start = search in let w : tie.After-reach_in-n = search in
+    (s.requires.1.good.wf, places_all s.requires.0 s.requires.1 w.reach_in-n.ensures)
 
 reduce-requires : tie.Need-reduce-requires
 reduce-requires c κs =
     let s : tie.Start = search in
-    let w : tie.After-reach-in = search in
-    let g : tie.After-grow = search in (
-      (s.pre.0, places_walked s.pre.0 s.pre.1 w.reach-in.ensures),
+    let w : tie.After-reach_in-n = search in
+    let g : tie.After-grow-c = search in (
+      (s.requires.0, places_walked s.requires.0 s.requires.1 w.reach_in-n.ensures),
       subst
-          (λ (p : Pat). Good places (sv_of s.args.values.now p)) (sym g.grow.ensures)
-          (good_list s.pre.0 s.pre.1 w.reach-in.ensures),
+          (λ (p : Pat). Good places (sv_of s.args.values.now p)) (sym g.grow-c.ensures)
+          (good_list s.requires.0 s.requires.1 w.reach_in-n.ensures),
     )
 
 returns : tie.Need-returns
 returns c =
     let s : tie.Start = search in
-    let w : tie.After-reach-in = search in
-    let g : tie.After-grow = search in
+    let w : tie.After-reach_in-n = search in
+    let g : tie.After-grow-c = search in
     let r : tie.After-reduce = search in
-    solved_made s.pre.0 s.pre.1 w.reach-in.ensures g.grow.ensures (r.reduce.ensures _)
+    solved_made s.requires.0 s.requires.1 w.reach_in-n.ensures g.grow-c.ensures (r.reduce.ensures _)
 
-pub solve-column-spec : {M : Type 1} → statement M
-solve-column-spec = tie.close (tie.spec reach-in-requires grow-requires reduce-requires returns)
+pub solve_column_spec : {M : Type 1} → statement M
+solve_column_spec = tie.close (tie.spec reach-in-requires grow-requires reduce-requires returns)

@@ -11,41 +11,41 @@ use Rattle.lu_solve.specs.Solve.{given, mark_turn}
 use Rattle.lu_solve.proofs.mark_listed.Statement.{statement}
 use Rattle.lu_solve.proofs.mark_listed.Tie as tie
 
-abbrev invariant-loop : tie.invariant-loop
+abbrev invariant-loop : tie.invariant-loop-k
 invariant-loop list listed marks₀ k₀ marks k =
     (k ≤ listed) × (marks ≡ run (mark_turn list) k (replicate max_rows false))
 
-abbrev decreases-loop : tie.decreases-loop
+abbrev decreases-loop : tie.decreases-loop-k
 decreases-loop list listed marks₀ k₀ marks k = listed - k
 
-loop-holds : tie.Need-loop-init invariant-loop decreases-loop
+loop-holds : tie.Need-loop-k-init invariant-loop decreases-loop
 unfolding run
-loop-holds c = let s : tie.Start invariant-loop decreases-loop = search in (omega arith, s.pre.1)
+loop-holds c = let s : tie.Start invariant-loop decreases-loop = search in (omega arith, s.requires.1)
 
-mul-i : tie.Need-overflow-mul-i invariant-loop decreases-loop
+mul-i : tie.Need-offset_bounds-list-k invariant-loop decreases-loop
 mul-i c = omega arith
 
-shared-slice-read-i : tie.Need-shared-slice-read-i invariant-loop decreases-loop
+shared-slice-read-i : tie.Need-bounds-list-k invariant-loop decreases-loop
 shared-slice-read-i c = omega arith
 
-element-write-marks : tie.Need-element-write-marks invariant-loop decreases-loop
-element-write-marks c = let t : tie.In-loop invariant-loop decreases-loop = search in t.before.before.pre.0.1.inside _ t.loop-test.taken
+element-write-marks : tie.Need-bounds-marks-i invariant-loop decreases-loop
+element-write-marks c = let t : tie.In-loop-k invariant-loop decreases-loop = search in t.requires.0.1.inside _ t.loop-k-test.true
 
-add-k : tie.Need-overflow-add-k invariant-loop decreases-loop
+add-k : tie.Need-overflow_add-k invariant-loop decreases-loop
 add-k c = omega arith
 
-loop-less : tie.Need-loop-smaller invariant-loop decreases-loop
+loop-less : tie.Need-loop-k-smaller invariant-loop decreases-loop
 loop-less c = omega arith
 
-loop-again : tie.Need-loop-preserved invariant-loop decreases-loop
-loop-again c = let t : tie.In-loop invariant-loop decreases-loop = search in (omega arith, next _ _ t.before.loop.k t.before.loop.inv.1 refl)
+loop-again : tie.Need-loop-k-preserved invariant-loop decreases-loop
+loop-again c = let t : tie.In-loop-k invariant-loop decreases-loop = search in (omega arith, next _ _ t.loop-k.k t.loop-k.invariant.1 refl)
 
 returns : tie.Need-returns invariant-loop decreases-loop
 unfolding given
-returns c = done _ _ _ _ c.before.loop.invariant.0 c.loop-test.false c.before.loop.invariant.1
+returns c = done _ _ _ _ c.loop-k.invariant.0 c.loop-k-test.false c.loop-k.invariant.1
 
-pub mark-listed-spec : {M : Type 1} → statement M
-mark-listed-spec =
+pub mark_listed_spec : {M : Type 1} → statement M
+mark_listed_spec =
     tie.close
     (tie.spec
     invariant-loop

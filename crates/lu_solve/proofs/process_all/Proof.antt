@@ -10,49 +10,49 @@ use Rattle.lu_solve.proofs.Laws.{numbers_kept, length_process}
 use Rattle.lu_solve.proofs.process_all.Statement.{statement}
 use Rattle.lu_solve.proofs.process_all.Tie as tie
 
-abbrev invariant-loop : tie.invariant-loop
+abbrev invariant-loop : tie.invariant-loop-k
 invariant-loop lower size starts rows vals has-diag diag done count values₀ k₀ values k =
     (k ≤ count) × (length values ≡ length values₀) × (down (back_turn (tri lower size starts rows vals has-diag diag) done) k values ≡ down (back_turn (tri lower size starts rows vals has-diag diag) done) count values₀)
 
-abbrev decreases-loop : tie.decreases-loop
+abbrev decreases-loop : tie.decreases-loop-k
 decreases-loop lower size starts rows vals has-diag diag done count values₀ k₀ values k = k
 
-abbrev entry : tie.At-loop invariant-loop decreases-loop → tie.Start invariant-loop decreases-loop
+abbrev entry : tie.At-loop-k invariant-loop decreases-loop → tie.Start invariant-loop decreases-loop
 entry a = search
 
-loop-holds : tie.Need-loop-init invariant-loop decreases-loop
+loop-holds : tie.Need-loop-k-init invariant-loop decreases-loop
 loop-holds c = (omega arith, refl, refl)
 
-sub-k : tie.Need-overflow-sub-k invariant-loop decreases-loop
-sub-k c = let t : tie.In-loop invariant-loop decreases-loop = search in omega (arith, t.loop-test.taken)
+sub-k : tie.Need-overflow_sub-k invariant-loop decreases-loop
+sub-k c = let t : tie.In-loop-k invariant-loop decreases-loop = search in omega (arith, t.loop-k-test.true)
 
-mul-col : tie.Need-overflow-mul-col invariant-loop decreases-loop
-mul-col c = let t : tie.In-loop invariant-loop decreases-loop = search in omega (arith, t.loop-test.taken, t.before.loop.inv.0, (entry t.before).pre.1.in_List)
+mul-col : tie.Need-offset_bounds-done-k invariant-loop decreases-loop
+mul-col c = let t : tie.In-loop-k invariant-loop decreases-loop = search in omega (arith, t.loop-k-test.true, t.loop-k.invariant.0, (entry t.before).requires.1.in_list)
 
-element-copy-out-col : tie.Need-element-copy-out-col invariant-loop decreases-loop
-element-copy-out-col c = let t : tie.In-loop invariant-loop decreases-loop = search in omega (arith, t.loop-test.taken, t.before.loop.inv.0, (entry t.before).pre.1.in_List)
+element-copy-out-col : tie.Need-bounds-done-k invariant-loop decreases-loop
+element-copy-out-col c = let t : tie.In-loop-k invariant-loop decreases-loop = search in omega (arith, t.loop-k-test.true, t.loop-k.invariant.0, (entry t.before).requires.1.in_list)
 
-process-col-requires : tie.Need-process-col-requires invariant-loop decreases-loop
-process-col-requires c κs = let t : tie.In-loop invariant-loop decreases-loop = search in ((entry t.before).pre.1.places _ (omega (arith, t.loop-test.taken, t.before.loop.inv.0)), numbers_kept (entry t.before).pre.0 t.before.loop.inv.1)
+process-col-requires : tie.Need-process_col-requires invariant-loop decreases-loop
+process-col-requires c κs = let t : tie.In-loop-k invariant-loop decreases-loop = search in ((entry t.before).requires.1.places _ (omega (arith, t.loop-k-test.true, t.loop-k.invariant.0)), numbers_kept (entry t.before).requires.0 t.loop-k.invariant.1)
 
-loop-less : tie.Need-loop-smaller invariant-loop decreases-loop
-loop-less c = let t : tie.In-loop invariant-loop decreases-loop = search in omega (arith, t.loop-test.taken)
+loop-less : tie.Need-loop-k-smaller invariant-loop decreases-loop
+loop-less c = let t : tie.In-loop-k invariant-loop decreases-loop = search in omega (arith, t.loop-k-test.true)
 
-loop-again : tie.Need-loop-preserved invariant-loop decreases-loop
+loop-again : tie.Need-loop-k-preserved invariant-loop decreases-loop
 loop-again c =
-    let t : tie.In-loop invariant-loop decreases-loop = search in
-    let d : tie.After-process-col invariant-loop decreases-loop = search in
-    (omega (arith, t.loop-test.taken, t.before.loop.inv.0), ap length d.process-col.ensures ∙ length_process _ _ _ ∙ t.before.loop.inv.1, back _ t.before.loop.k t.loop-test.taken d.process-col.ensures t.before.loop.inv.2)
+    let t : tie.In-loop-k invariant-loop decreases-loop = search in
+    let d : tie.After-process_col invariant-loop decreases-loop = search in
+    (omega (arith, t.loop-k-test.true, t.loop-k.invariant.0), ap length d.process_col.ensures ∙ length_process _ _ _ ∙ t.loop-k.invariant.1, back _ t.loop-k.k t.loop-k-test.true d.process_col.ensures t.loop-k.invariant.2)
 
-same_length : tie.Need-same-length invariant-loop decreases-loop
-same_length c = c.before.loop.invariant.1
+same_length : tie.Need-shape_of-values invariant-loop decreases-loop
+same_length c = c.loop-k.invariant.1
 
 returns : tie.Need-returns invariant-loop decreases-loop
 unfolding processed
-returns c = back_done _ _ c.loop-test.false c.before.loop.invariant.2
+returns c = back_done _ _ c.loop-k-test.false c.loop-k.invariant.2
 
-pub process-all-spec : {M : Type 1} → statement M
-process-all-spec =
+pub process_all_spec : {M : Type 1} → statement M
+process_all_spec =
     tie.close
     (tie.spec
     invariant-loop

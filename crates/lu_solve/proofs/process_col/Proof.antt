@@ -11,14 +11,14 @@ use Rattle.lu_solve.specs.Solve.{tri, process_col, off_turn}
 use Rattle.lu_solve.proofs.process_col.Statement.{statement}
 use Rattle.lu_solve.proofs.process_col.Tie as tie
 
-abbrev invariant-loop : tie.invariant-loop
+abbrev invariant-loop : tie.invariant-loop-k
 invariant-loop lower size starts rows vals has-diag diag col values₀ x first many k₀ values k =
     (k ≤ many) × (length values ≡ length values₀) × (values ≡ run (off_turn (tri lower size starts rows vals has-diag diag) col x) k values₀)
 
-abbrev decreases-loop : tie.decreases-loop
+abbrev decreases-loop : tie.decreases-loop-k
 decreases-loop lower size starts rows vals has-diag diag col values₀ x first many k₀ values k = many - k
 
-abbrev entry : tie.At-loop invariant-loop decreases-loop → tie.Start invariant-loop decreases-loop
+abbrev entry : tie.At-loop-k invariant-loop decreases-loop → tie.Start invariant-loop decreases-loop
 entry a = search
 
 -- the column is within the limits of what is lent
@@ -26,108 +26,108 @@ col_in : (s : tie.Start invariant-loop decreases-loop) → (s.args.col < max_row
 col_in s = let n = s.requires.1 in (omega (arith, s.requires.0, n.columns.small), omega (arith, s.requires.0, n.columns.long), omega (arith, s.requires.0, n.values_long))
 
 -- in a turn the entry is one of the lent rows and numbers, and its row one of the values
-row_within : (t : tie.In-loop invariant-loop decreases-loop) → let s = entry t.before in
-    (get_or s.args.starts.now s.args.col 0 + t.before.loop.k < length s.args.rows.now) × (get_or s.args.starts.now s.args.col 0 + t.before.loop.k < length s.args.vals.now)
+row_within : (t : tie.In-loop-k invariant-loop decreases-loop) → let s = entry t.before in
+    (get_or s.args.starts.now s.args.col 0 + t.loop-k.k < length s.args.rows.now) × (get_or s.args.starts.now s.args.col 0 + t.loop-k.k < length s.args.vals.now)
 row_within t = let s = entry t.before in
-    let n = s.pre.1 in (
-      omega (arith, t.loop-test.true, n.columns.ends s.args.col s.pre.0, n.columns.rise s.args.col s.pre.0),
-      omega (arith, t.loop-test.true, n.vals_long s.args.col s.pre.0, n.columns.rise s.args.col s.pre.0),
+    let n = s.requires.1 in (
+      omega (arith, t.loop-k-test.true, n.columns.ends s.args.col s.requires.0, n.columns.rise s.args.col s.requires.0),
+      omega (arith, t.loop-k-test.true, n.vals_long s.args.col s.requires.0, n.columns.rise s.args.col s.requires.0),
     )
 
-place_in : (t : tie.In-loop invariant-loop decreases-loop) → let s = entry t.before in
-    (get_or s.args.rows.now (get_or s.args.starts.now s.args.col 0 + t.before.loop.k) 0 < max_rows)
-    × (get_or s.args.rows.now (get_or s.args.starts.now s.args.col 0 + t.before.loop.k) 0 < length t.before.loop.values)
+place_in : (t : tie.In-loop-k invariant-loop decreases-loop) → let s = entry t.before in
+    (get_or s.args.rows.now (get_or s.args.starts.now s.args.col 0 + t.loop-k.k) 0 < max_rows)
+    × (get_or s.args.rows.now (get_or s.args.starts.now s.args.col 0 + t.loop-k.k) 0 < length t.loop-k.values)
 place_in t = let s = entry t.before in
-    let n = s.pre.1 in
-    let i = n.columns.inside s.args.col t.before.loop.k s.pre.0 t.loop-test.true in
-    (omega (arith, i, n.columns.small), omega (arith, i, n.values_long, simp length-set at t.before.loop.invariant.1))
+    let n = s.requires.1 in
+    let i = n.columns.inside s.args.col t.loop-k.k s.requires.0 t.loop-k-test.true in
+    (omega (arith, i, n.columns.small), omega (arith, i, n.values_long, simp length-set at t.loop-k.invariant.1))
 
-own-requires : tie.Need-own-requires invariant-loop decreases-loop
-own-requires c κs = let s : tie.Start invariant-loop decreases-loop = search in (omega (arith, s.pre.0, s.pre.1.values_long), λ e. omega (arith, s.pre.0, s.pre.1.diag_long e))
+own-requires : tie.Need-own-x-requires invariant-loop decreases-loop
+own-requires c κs = let s : tie.Start invariant-loop decreases-loop = search in (omega (arith, s.requires.0, s.requires.1.values_long), λ e. omega (arith, s.requires.0, s.requires.1.diag_long e))
 
-mul-values : tie.Need-overflow-mul-values invariant-loop decreases-loop
+mul-values : tie.Need-offset_bounds-values-col invariant-loop decreases-loop
 mul-values c = let s : tie.Start invariant-loop decreases-loop = search in omega (arith, col_in s)
 
-slice-write-values : tie.Need-slice-write-values invariant-loop decreases-loop
+slice-write-values : tie.Need-bounds-values-col invariant-loop decreases-loop
 slice-write-values c = let s : tie.Start invariant-loop decreases-loop = search in omega (arith, col_in s)
 
-mul-first : tie.Need-overflow-mul-first invariant-loop decreases-loop
+mul-first : tie.Need-offset_bounds-starts-col invariant-loop decreases-loop
 mul-first c = let s : tie.Start invariant-loop decreases-loop = search in omega (arith, col_in s)
 
-shared-slice-read-first : tie.Need-shared-slice-read-first invariant-loop decreases-loop
+shared-slice-read-first : tie.Need-bounds-starts-col invariant-loop decreases-loop
 shared-slice-read-first c = let s : tie.Start invariant-loop decreases-loop = search in omega (arith, col_in s)
 
-add-many : tie.Need-overflow-add-many invariant-loop decreases-loop
+add-many : tie.Need-overflow_add-many invariant-loop decreases-loop
 add-many c = let s : tie.Start invariant-loop decreases-loop = search in omega (arith, col_in s)
 
-mul-many : tie.Need-overflow-mul-many invariant-loop decreases-loop
+mul-many : tie.Need-offset_bounds-starts-col-2 invariant-loop decreases-loop
 mul-many c = let s : tie.Start invariant-loop decreases-loop = search in omega (arith, col_in s)
 
-shared-slice-read-many : tie.Need-shared-slice-read-many invariant-loop decreases-loop
+shared-slice-read-many : tie.Need-bounds-starts-col-2 invariant-loop decreases-loop
 shared-slice-read-many c = let s : tie.Start invariant-loop decreases-loop = search in omega (arith, col_in s)
 
-sub-many : tie.Need-overflow-sub-many invariant-loop decreases-loop
-sub-many c = let s : tie.Start invariant-loop decreases-loop = search in s.pre.1.columns.rise _ s.pre.0
+sub-many : tie.Need-overflow_sub-many invariant-loop decreases-loop
+sub-many c = let s : tie.Start invariant-loop decreases-loop = search in s.requires.1.columns.rise _ s.requires.0
 
-loop-holds : tie.Need-loop-init invariant-loop decreases-loop
+loop-holds : tie.Need-loop-k-init invariant-loop decreases-loop
 unfolding run
 loop-holds c = (omega arith, refl, refl)
 
-add_r : tie.Need-overflow-add-r invariant-loop decreases-loop
-add_r c = let t : tie.In-loop invariant-loop decreases-loop = search in omega (arith, row_within t)
+add_r : tie.Need-overflow_add-r invariant-loop decreases-loop
+add_r c = let t : tie.In-loop-k invariant-loop decreases-loop = search in omega (arith, row_within t)
 
-mul-r : tie.Need-overflow-mul-r invariant-loop decreases-loop
-mul-r c = let t : tie.In-loop invariant-loop decreases-loop = search in omega (arith, row_within t)
+mul-r : tie.Need-offset_bounds-rows-first invariant-loop decreases-loop
+mul-r c = let t : tie.In-loop-k invariant-loop decreases-loop = search in omega (arith, row_within t)
 
-shared-slice-read-r : tie.Need-shared-slice-read-r invariant-loop decreases-loop
-shared-slice-read-r c = let t : tie.In-loop invariant-loop decreases-loop = search in (row_within t).0
+shared-slice-read-r : tie.Need-bounds-rows-first invariant-loop decreases-loop
+shared-slice-read-r c = let t : tie.In-loop-k invariant-loop decreases-loop = search in (row_within t).0
 
-mul-values-2 : tie.Need-overflow-mul-values-2 invariant-loop decreases-loop
-mul-values-2 c = let t : tie.In-loop invariant-loop decreases-loop = search in omega (arith, place_in t)
+mul-values-2 : tie.Need-offset_bounds-values-r invariant-loop decreases-loop
+mul-values-2 c = let t : tie.In-loop-k invariant-loop decreases-loop = search in omega (arith, place_in t)
 
-slice-read-values : tie.Need-slice-read-values invariant-loop decreases-loop
-slice-read-values c = let t : tie.In-loop invariant-loop decreases-loop = search in omega (arith, place_in t)
+slice-read-values : tie.Need-bounds-values-r invariant-loop decreases-loop
+slice-read-values c = let t : tie.In-loop-k invariant-loop decreases-loop = search in omega (arith, place_in t)
 
-add-off : tie.Need-overflow-add-off invariant-loop decreases-loop
-add-off c = let t : tie.In-loop invariant-loop decreases-loop = search in omega (arith, row_within t)
+add-off : tie.Need-overflow_add-off invariant-loop decreases-loop
+add-off c = let t : tie.In-loop-k invariant-loop decreases-loop = search in omega (arith, row_within t)
 
-mul-off : tie.Need-overflow-mul-off invariant-loop decreases-loop
-mul-off c = let t : tie.In-loop invariant-loop decreases-loop = search in omega (arith, row_within t)
+mul-off : tie.Need-offset_bounds-vals-first invariant-loop decreases-loop
+mul-off c = let t : tie.In-loop-k invariant-loop decreases-loop = search in omega (arith, row_within t)
 
-shared-slice-read-off : tie.Need-shared-slice-read-off invariant-loop decreases-loop
-shared-slice-read-off c = let t : tie.In-loop invariant-loop decreases-loop = search in (row_within t).1
+shared-slice-read-off : tie.Need-bounds-vals-first invariant-loop decreases-loop
+shared-slice-read-off c = let t : tie.In-loop-k invariant-loop decreases-loop = search in (row_within t).1
 
-mul-values-3 : tie.Need-overflow-mul-values-3 invariant-loop decreases-loop
-mul-values-3 c = let t : tie.In-loop invariant-loop decreases-loop = search in omega (arith, place_in t)
+mul-values-3 : tie.Need-offset_bounds-values-r-in-loop-k invariant-loop decreases-loop
+mul-values-3 c = let t : tie.In-loop-k invariant-loop decreases-loop = search in omega (arith, place_in t)
 
-slice-write-values-2 : tie.Need-slice-write-values-2 invariant-loop decreases-loop
-slice-write-values-2 c = let t : tie.In-loop invariant-loop decreases-loop = search in omega (arith, place_in t)
+slice-write-values-2 : tie.Need-bounds-values-r-in-loop-k invariant-loop decreases-loop
+slice-write-values-2 c = let t : tie.In-loop-k invariant-loop decreases-loop = search in omega (arith, place_in t)
 
-add-k : tie.Need-overflow-add-k invariant-loop decreases-loop
-add-k c = let t : tie.In-loop invariant-loop decreases-loop = search in omega (arith, row_within t)
+add-k : tie.Need-overflow_add-k invariant-loop decreases-loop
+add-k c = let t : tie.In-loop-k invariant-loop decreases-loop = search in omega (arith, row_within t)
 
-loop-less : tie.Need-loop-smaller invariant-loop decreases-loop
-loop-less c = let t : tie.In-loop invariant-loop decreases-loop = search in omega (arith, t.loop-test.taken)
+loop-less : tie.Need-loop-k-smaller invariant-loop decreases-loop
+loop-less c = let t : tie.In-loop-k invariant-loop decreases-loop = search in omega (arith, t.loop-k-test.true)
 
-loop-again : tie.Need-loop-preserved invariant-loop decreases-loop
+loop-again : tie.Need-loop-k-preserved invariant-loop decreases-loop
 loop-again c =
-    let t : tie.In-loop invariant-loop decreases-loop = search in
-    (omega (arith, t.loop-test.taken), simp length-set (simp length-set at t.before.loop.inv.1), next _ _ t.before.loop.k t.before.loop.inv.2 refl)
+    let t : tie.In-loop-k invariant-loop decreases-loop = search in
+    (omega (arith, t.loop-k-test.true), simp length-set (simp length-set at t.loop-k.invariant.1), next _ _ t.loop-k.k t.loop-k.invariant.2 refl)
 
-same_length : tie.Need-same-length invariant-loop decreases-loop
-same_length c = simp length-set at c.before.loop.invariant.1
+same_length : tie.Need-shape_of-values invariant-loop decreases-loop
+same_length c = simp length-set at c.loop-k.invariant.1
 
 returns : tie.Need-returns invariant-loop decreases-loop
 unfolding process_col
 returns c =
-    let o : tie.After-own invariant-loop decreases-loop = search in
+    let o : tie.After-own-x invariant-loop decreases-loop = search in
     let s = entry c.before in
     let g = s.args in
-    done _ _ _ _ c.before.loop.invariant.0 c.loop-test.false c.before.loop.invariant.2
-    ∙ ap (λ (x : Float). run (off_turn (tri g.lower g.size g.starts.now g.rows.now g.vals.now g.has-diag g.diag.now) g.col x) (get_or g.starts.now (g.col + 1) 0 - get_or g.starts.now g.col 0) (set g.values.now g.col x)) o.own.ensures
+    done _ _ _ _ c.loop-k.invariant.0 c.loop-k-test.false c.loop-k.invariant.2
+    ∙ ap (λ (x : Float). run (off_turn (tri g.lower g.size g.starts.now g.rows.now g.vals.now g.has_diag g.diag.now) g.col x) (get_or g.starts.now (g.col + 1) 0 - get_or g.starts.now g.col 0) (set g.values.now g.col x)) o.own-x.ensures
 
-pub process-col-spec : {M : Type 1} → statement M
-process-col-spec =
+pub process_col_spec : {M : Type 1} → statement M
+process_col_spec =
     tie.close
     (tie.spec
     invariant-loop

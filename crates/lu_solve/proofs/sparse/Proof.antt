@@ -13,60 +13,60 @@ use Rattle.lu_solve.proofs.sparse.Statement.{statement}
 use Rattle.lu_solve.proofs.sparse.Tie as tie
 
 -- the calls before a call, and the entry
-abbrev marked : tie.After-zero-rest → tie.After-mark-listed
+abbrev marked : tie.After-zero_rest → tie.After-mark_listed
 marked z = search
 
-abbrev walked : tie.After-mark-listed → tie.After-reach
+abbrev walked : tie.After-mark_listed → tie.After-reach-count
 walked m = search
 
-abbrev entry : tie.After-reach → tie.Start
+abbrev entry : tie.After-reach-count → tie.Start
 entry w = search
 
-reach-requires : tie.Need-reach-requires
-reach-requires c κs = let s : tie.Start = search in (s.pre.0.columns, (s.pre.1.listed, fits_fresh))
+reach-requires : tie.Need-reach-count-requires
+reach-requires c κs = let s : tie.Start = search in (s.requires.0.columns, (s.requires.1.listed, fits_fresh))
 
-mark-listed-requires : tie.Need-mark-listed-requires
-mark-listed-requires c κs = let s : tie.Start = search in ((s.pre.1.listed.listed_long, record { inside = λ k h. omega (arith, s.pre.1.listed.places k h, s.pre.0.columns.small) }), refl)
+mark-listed-requires : tie.Need-mark_listed-requires
+mark-listed-requires c κs = let s : tie.Start = search in ((s.requires.1.listed.listed_long, record { inside = λ k h. omega (arith, s.requires.1.listed.places k h, s.requires.0.columns.small) }), refl)
 
-zero-rest-requires : tie.Need-zero-rest-requires
+zero-rest-requires : tie.Need-zero_rest-requires
 zero-rest-requires c κs = search rules
 
-process-all-requires : tie.Need-process-all-requires
+process-all-requires : tie.Need-process_all-requires
 process-all-requires c κs =
-    let z : tie.After-zero-rest = search in
+    let z : tie.After-zero_rest = search in
     let w = walked (marked z) in
     let s = entry w in
-    (numbers_kept s.pre.0 (ap length z.zero_rest.ensures ∙ length_zeroed _ _ _), places_reached s.pre.0.columns s.pre.1.listed w.reach.ensures)
+    (numbers_kept s.requires.0 (ap length z.zero_rest.ensures ∙ length_zeroed _ _ _), places_reached s.requires.0.columns s.requires.1.listed w.reach-count.ensures)
 
 grow-requires : tie.Need-grow-requires
 grow-requires c κs =
-    let z : tie.After-zero-rest = search in
+    let z : tie.After-zero_rest = search in
     let m = marked z in
     let w = walked m in
     let s = entry w in
     record {
       size = s.args.size;
-      grows = subst (λ (g : List Bool). Grows s.args.size (pat g s.args.list.now s.args.listed)) (sym m.mark-listed.ensures) (grows_given s.pre.0.columns.small s.pre.1);
-      places = places_reached s.pre.0.columns s.pre.1.listed w.reach.ensures;
+      grows = subst (λ (g : List Bool). Grows s.args.size (pat g s.args.list.now s.args.listed)) (sym m.mark_listed.ensures) (grows_given s.requires.0.columns.small s.requires.1);
+      places = places_reached s.requires.0.columns s.requires.1.listed w.reach-count.ensures;
     }
 
-same_length : tie.Need-same-length
+same_length : tie.Need-shape_of-list
 same_length c = search rules
 
-same-length-2 : tie.Need-same-length-2
+same-length-2 : tie.Need-shape_of-values
 same-length-2 c = search rules
 
 returns : tie.Need-returns
 returns c =
     let g : tie.After-grow = search in
-    let p : tie.After-process-all = search in
-    let z : tie.After-zero-rest = search in
+    let p : tie.After-process_all = search in
+    let z : tie.After-zero_rest = search in
     let m = marked z in
     let w = walked m in
-    sparse_made _ _ _ _ w.reach.ensures m.mark-listed.ensures z.zero_rest.ensures p.process-all.ensures g.grow.ensures
+    sparse_made _ _ _ _ w.reach-count.ensures m.mark_listed.ensures z.zero_rest.ensures p.process_all.ensures g.grow.ensures
 
-pub sparse-spec : {M : Type 1} → statement M
-sparse-spec =
+pub sparse_spec : {M : Type 1} → statement M
+sparse_spec =
     tie.close
     (tie.spec
     reach-requires

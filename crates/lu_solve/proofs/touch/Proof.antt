@@ -5,34 +5,34 @@ use Rattle.sparse.specs.Scattered.{touched}
 use Rattle.lu_solve.proofs.touch.Statement.{statement}
 use Rattle.lu_solve.proofs.touch.Tie as tie
 
-element-copy-out-if1 : tie.Need-element-copy-out-if1
+element-copy-out-if1 : tie.Need-bounds-marks-i
 element-copy-out-if1 c = search rules
 
-returns : tie.Need-returns
+returns : tie.Need-returns-then-marks-i
 unfolding touched
-returns c = rw c.if1.true
+returns c = rw c.if-marks-i.true
 
-element-write-marks : tie.Need-element-write-marks
+element-write-marks : tie.Need-bounds-marks-i-2
 element-write-marks c = search rules
 
-mul-list : tie.Need-overflow-mul-list
-mul-list c = let s : tie.Start = search in let i : tie.Else1 = search in omega (arith, s.pre.room i.if1.left)
+mul-list : tie.Need-offset_bounds-list-count
+mul-list c = let s : tie.Start = search in let i : tie.Else-marks-i = search in omega (arith, s.requires.room i.if-marks-i.false)
 
-slice-write-list : tie.Need-slice-write-list
-slice-write-list c = let s : tie.Start = search in let i : tie.Else1 = search in omega (arith, s.pre.room i.if1.left)
+slice-write-list : tie.Need-bounds-list-count
+slice-write-list c = let s : tie.Start = search in let i : tie.Else-marks-i = search in omega (arith, s.requires.room i.if-marks-i.false)
 
-add-result : tie.Need-overflow-add-result
-add-result c = let s : tie.Start = search in let i : tie.Else1 = search in omega (arith, s.pre.room i.if1.left)
+add-result : tie.Need-overflow_add-result
+add-result c = let s : tie.Start = search in let i : tie.Else-marks-i = search in omega (arith, s.requires.room i.if-marks-i.false)
 
-same_length : tie.Need-same-length
+same_length : tie.Need-shape_of-list
 same_length c = search rules
 
-returns-2 : tie.Need-returns-2
+returns-2 : tie.Need-returns
 unfolding touched
-returns-2 c = rw c.if1.false
+returns-2 c = rw c.if-marks-i.false
 
-pub touch-spec : {M : Type 1} → statement M
-touch-spec =
+pub touch_spec : {M : Type 1} → statement M
+touch_spec =
     tie.close
     (tie.spec
     element-copy-out-if1

@@ -11,52 +11,52 @@ use Rattle.lu_transpose.specs.Read.{ColumnRoom}
 use Rattle.lu_transpose.proofs.place.Statement.{statement}
 use Rattle.lu_transpose.proofs.place.Tie as tie
 
-abbrev invariant-loop : tie.invariant-loop
+abbrev invariant-loop : tie.invariant-loop-c
 invariant-loop m starts rows vals tstarts₀ trows₀ tvals₀ c₀ tstarts trows tvals c =
     (c ≤ m) × (matrix tstarts trows tvals ≡ run (placed_column (matrix starts rows vals)) c
     (matrix tstarts₀ trows₀ tvals₀))
 
-abbrev decreases-loop : tie.decreases-loop
+abbrev decreases-loop : tie.decreases-loop-c
 decreases-loop m starts rows vals tstarts₀ trows₀ tvals₀ c₀ tstarts trows tvals c = m - c
 
-abbrev entry : tie.At-loop invariant-loop decreases-loop → tie.Start invariant-loop decreases-loop
+abbrev entry : tie.At-loop-c invariant-loop decreases-loop → tie.Start invariant-loop decreases-loop
 entry a = search
 
-loop-holds : tie.Need-loop-init invariant-loop decreases-loop
+loop-holds : tie.Need-loop-c-init invariant-loop decreases-loop
 unfolding run
 loop-holds c = (omega arith, refl)
 
-place-column-requires : tie.Need-place-column-requires invariant-loop decreases-loop
+place-column-requires : tie.Need-place_column-requires invariant-loop decreases-loop
 place-column-requires c κs =
-    let t : tie.In-loop invariant-loop decreases-loop = search in
+    let t : tie.In-loop-c invariant-loop decreases-loop = search in
     let s = entry t.before in (
-      s.pre.0.column t.before.loop.c t.loop-test.taken,
-      subst (ColumnRoom _ t.before.loop.c)
-          (sym t.before.loop.inv.1) (s.pre.1.columns t.before.loop.c t.loop-test.taken),
+      s.requires.0.column t.loop-c.c t.loop-c-test.true,
+      subst (ColumnRoom _ t.loop-c.c)
+          (sym t.loop-c.invariant.1) (s.requires.1.columns t.loop-c.c t.loop-c-test.true),
     )
 
-add-c : tie.Need-overflow-add-c invariant-loop decreases-loop
-add-c c = let t : tie.In-loop invariant-loop decreases-loop = search in omega
-    (arith, t.loop-test.taken, (entry t.before).pre.0.small)
+add-c : tie.Need-overflow_add-c invariant-loop decreases-loop
+add-c c = let t : tie.In-loop-c invariant-loop decreases-loop = search in omega
+    (arith, t.loop-c-test.true, (entry t.before).requires.0.small)
 
-loop-less : tie.Need-loop-smaller invariant-loop decreases-loop
-loop-less c = let t : tie.In-loop invariant-loop decreases-loop = search in omega (arith, t.loop-test.taken)
+loop-less : tie.Need-loop-c-smaller invariant-loop decreases-loop
+loop-less c = let t : tie.In-loop-c invariant-loop decreases-loop = search in omega (arith, t.loop-c-test.true)
 
-loop-again : tie.Need-loop-preserved invariant-loop decreases-loop
+loop-again : tie.Need-loop-c-preserved invariant-loop decreases-loop
 loop-again c =
-    let t : tie.In-loop invariant-loop decreases-loop = search in
-    let d : tie.After-place-column invariant-loop decreases-loop = search in (
-      omega (arith, t.loop-test.taken),
-      next _ _ t.before.loop.c t.before.loop.inv.1
+    let t : tie.In-loop-c invariant-loop decreases-loop = search in
+    let d : tie.After-place_column invariant-loop decreases-loop = search in (
+      omega (arith, t.loop-c-test.true),
+      next _ _ t.loop-c.c t.loop-c.invariant.1
           d.place_column.ensures,
     )
 
 returns : tie.Need-returns invariant-loop decreases-loop
 unfolding placed
-returns c = done _ _ _ _ c.before.loop.invariant.0 c.loop-test.false c.before.loop.invariant.1
+returns c = done _ _ _ _ c.loop-c.invariant.0 c.loop-c-test.false c.loop-c.invariant.1
 
-pub place-spec : {M : Type 1} → statement M
-place-spec =
+pub place_spec : {M : Type 1} → statement M
+place_spec =
     tie.close
     (tie.spec
     invariant-loop

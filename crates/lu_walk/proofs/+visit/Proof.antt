@@ -31,12 +31,12 @@ visit_at t = and 5 visit-kinds.ps (is 5 visit-kinds.ps μ-visit t) visit.Pre
 abbrev visit_below : ℕ → In 5 visit-kinds.ps
 visit_below t = and 5 visit-kinds.ps (falls 5 visit-kinds.ps ◌<◌ μ-visit t) visit.Pre
 
-abbrev visit_inv_loop : visit-lts.invariant-loop
+abbrev visit_inv_loop : visit-lts.invariant-loop-k
 visit_inv_loop lower size at bound starts rows place marks₀ done₀ count number kids n₀ k₀ marks done n k =
     (k ≤ kids) × (state marks done n ≡ run (kid_turn (graph_in (mapped lower size at bound starts rows)) place) k
     (state marks₀ done₀ n₀))
 
-abbrev visit_μ_loop : visit-lts.decreases-loop
+abbrev visit_μ_loop : visit-lts.decreases-loop-k
 visit_μ_loop lower size at bound starts rows place marks₀ done₀ count number kids n₀ k₀ marks done n k = kids - k
 
 -- the places of the code that the answers speak of: the entry, what the column has, the loop's head, a turn, and after
@@ -46,19 +46,19 @@ Start t = visit-lts.Start (many-reads.Asked, many-reads.Learnt, visit_below t, v
     visit_inv_loop visit_μ_loop
 
 abbrev Counted : ℕ → Type 0
-Counted t = visit-lts.After-many (many-reads.Asked, many-reads.Learnt, visit_below t, visit.Post) (visit_at t)
+Counted t = visit-lts.After-many-kids (many-reads.Asked, many-reads.Learnt, visit_below t, visit.Post) (visit_at t)
     visit.Post visit_inv_loop visit_μ_loop
 
 abbrev Head : ℕ → Type 0
-Head t = visit-lts.At-loop (many-reads.Asked, many-reads.Learnt, visit_below t, visit.Post) (visit_at t) visit.Post
+Head t = visit-lts.At-loop-k (many-reads.Asked, many-reads.Learnt, visit_below t, visit.Post) (visit_at t) visit.Post
     visit_inv_loop visit_μ_loop
 
 abbrev Turn : ℕ → Type 0
-Turn t = visit-lts.In-loop (many-reads.Asked, many-reads.Learnt, visit_below t, visit.Post) (visit_at t) visit.Post
+Turn t = visit-lts.In-loop-k (many-reads.Asked, many-reads.Learnt, visit_below t, visit.Post) (visit_at t) visit.Post
     visit_inv_loop visit_μ_loop
 
 abbrev Called : ℕ → Type 0
-Called t = visit-lts.After-visit (many-reads.Asked, many-reads.Learnt, visit_below t, visit.Post) (visit_at t)
+Called t = visit-lts.After-visit-n (many-reads.Asked, many-reads.Learnt, visit_below t, visit.Post) (visit_at t)
     visit.Post visit_inv_loop visit_μ_loop
 
 abbrev entry : (t : ℕ) → Head t → Start t
@@ -74,176 +74,176 @@ drawn t s = mapped s.args.lower s.args.size s.args.at.now s.args.bound s.args.st
 
 -- the place was not marked
 new : (t : ℕ) (a : Head t) → get_or (entry t a).args.marks.now (entry t a).args.place false ≡ false
-new t a = let c = counted t a in c.before.before.if1.left
+new t a = let c = counted t a in c.if-marks-place.false
 
 -- the children are as many as the definition's
-kids_at : (t : ℕ) (a : Head t) → a.loop.k ≤ (graph_in (drawn t (entry t a))).many (entry t a).args.place
-kids_at t a = omega (arith, (counted t a).many.ensures, a.loop.inv.0)
+kids_at : (t : ℕ) (a : Head t) → a.loop-k.k ≤ (graph_in (drawn t (entry t a))).many (entry t a).args.place
+kids_at t a = omega (arith, (counted t a).many-kids.ensures, a.loop-k.invariant.0)
 
 -- the place is within its limits
 place_in : (t : ℕ) (s : Start t) → s.args.place < max_rows
 place_in t s = omega (arith, s.requires.1.place, s.requires.1.columns.falling.small)
 
 -- in a turn the number has a column, and the child is one of its rows
-child_many : (t : ℕ) (a : Turn t) → a.before.loop.k < (graph_in (drawn t (entry t a.before))).many
+child_many : (t : ℕ) (a : Turn t) → a.loop-k.k < (graph_in (drawn t (entry t a.before))).many
     (entry t a.before).args.place
-child_many t a = omega (arith, (counted t a.before).many.ensures, a.loop-test.taken)
+child_many t a = omega (arith, (counted t a.before).many-kids.ensures, a.loop-k-test.true)
 
 start_in : (t : ℕ) (a : Turn t) → ((entry t a.before).args.at.now # (entry t a.before).args.place) < length
     (entry t a.before).args.starts.now
-start_in t a = let w = many_at (drawn t (entry t a.before)) (entry t a.before).args.place a.before.loop.k
-    (child_many t a) in omega (arith, w.0, (entry t a.before).pre.1.columns.long)
+start_in t a = let w = many_at (drawn t (entry t a.before)) (entry t a.before).args.place a.loop-k.k
+    (child_many t a) in omega (arith, w.0, (entry t a.before).requires.1.columns.long)
 
 row_within : (t : ℕ) (a : Turn t) → (entry t a.before).args.starts.now #
-    ((entry t a.before).args.at.now # (entry t a.before).args.place) + a.before.loop.k < length
+    ((entry t a.before).args.at.now # (entry t a.before).args.place) + a.loop-k.k < length
     (entry t a.before).args.rows.now
 row_within t a =
     let s = entry t a.before in
-    let w = many_at (drawn t (entry t a.before)) (entry t a.before).args.place a.before.loop.k
+    let w = many_at (drawn t (entry t a.before)) (entry t a.before).args.place a.loop-k.k
     (child_many t a) in
-    omega (arith, w.1, s.pre.1.columns.ends _ w.0, s.pre.1.columns.rise _ w.0)
+    omega (arith, w.1, s.requires.1.columns.ends _ w.0, s.requires.1.columns.rise _ w.0)
 
 -- the child can be walked
 child : (t : ℕ) (a : Turn t) → Walkable (drawn t (entry t a.before)) ((graph_in (drawn t (entry t a.before))).kid
-    (entry t a.before).args.place a.before.loop.k) (state a.before.loop.marks a.before.loop.done
-    a.before.loop.n)
-child t a = asks (entry t a.before).pre.1 (new t a.before) a.before.loop.inv.1 (kids_at t a.before) _
+    (entry t a.before).args.place a.loop-k.k) (state a.loop-k.marks a.loop-k.done
+    a.loop-k.n)
+child t a = asks (entry t a.before).requires.1 (new t a.before) a.loop-k.invariant.1 (kids_at t a.before) _
     (child_many t a)
 
-visit_element_copy_out_if1 : (t : ℕ) → visit-lts.Need-element-copy-out-if1
+visit_element_copy_out_if1 : (t : ℕ) → visit-lts.Need-bounds-marks-place
     (many-reads.Asked, many-reads.Learnt, visit_below t, visit.Post) (visit_at t) visit.Post visit_inv_loop visit_μ_loop
 visit_element_copy_out_if1 t c = let s : Start t = search in omega (arith, place_in t s)
 
-visit_returns : (t : ℕ) → visit-lts.Need-returns (many-reads.Asked, many-reads.Learnt, visit_below t, visit.Post)
+visit_returns : (t : ℕ) → visit-lts.Need-returns-then-marks-place (many-reads.Asked, many-reads.Learnt, visit_below t, visit.Post)
     (visit_at t) visit.Post visit_inv_loop visit_μ_loop
-visit_returns t c = sym (walk_old _ _ _ _ c.if1.true)
+visit_returns t c = sym (walk_old _ _ _ _ c.if-marks-place.true)
 
-visit_element_write_marks : (t : ℕ) → visit-lts.Need-element-write-marks
+visit_element_write_marks : (t : ℕ) → visit-lts.Need-bounds-marks-place-2
     (many-reads.Asked, many-reads.Learnt, visit_below t, visit.Post) (visit_at t) visit.Post visit_inv_loop visit_μ_loop
 visit_element_write_marks t c = let s : Start t = search in omega (arith, place_in t s)
 
-visit_mul_number : (t : ℕ) → visit-lts.Need-overflow-mul-number (many-reads.Asked, many-reads.Learnt, visit_below t, visit.Post)
+visit_mul_number : (t : ℕ) → visit-lts.Need-offset_bounds-at-place (many-reads.Asked, many-reads.Learnt, visit_below t, visit.Post)
     (visit_at t) visit.Post visit_inv_loop visit_μ_loop
 visit_mul_number t c = let s : Start t = search in omega (arith, place_in t s)
 
-visit_element_copy_out_number : (t : ℕ) → visit-lts.Need-element-copy-out-number
+visit_element_copy_out_number : (t : ℕ) → visit-lts.Need-bounds-at-place
     (many-reads.Asked, many-reads.Learnt, visit_below t, visit.Post) (visit_at t) visit.Post visit_inv_loop visit_μ_loop
 visit_element_copy_out_number t c = let s : Start t = search in omega (arith, place_in t s)
 
-visit_many_requires : (t : ℕ) → visit-lts.Need-many-requires (
+visit_many_requires : (t : ℕ) → visit-lts.Need-many-kids-requires (
   many-reads.Asked,
   many-reads.Learnt,
   visit_below t,
   visit.Post,
 ) (visit_at t) visit.Post visit_inv_loop visit_μ_loop
-visit_many_requires t c κs = λ h. let s : Start t = search in let w = s.pre.1.columns in
+visit_many_requires t c κs = λ h. let s : Start t = search in let w = s.requires.1.columns in
     (omega (arith, w.long), w.rise _ h)
 
-visit_loop_holds : (t : ℕ) → visit-lts.Need-loop-init (many-reads.Asked, many-reads.Learnt, visit_below t, visit.Post)
+visit_loop_holds : (t : ℕ) → visit-lts.Need-loop-k-init (many-reads.Asked, many-reads.Learnt, visit_below t, visit.Post)
     (visit_at t) visit.Post visit_inv_loop visit_μ_loop
 unfolding run
 visit_loop_holds t c = (omega arith, refl)
 
-visit_mul_child : (t : ℕ) → visit-lts.Need-overflow-mul-child (many-reads.Asked, many-reads.Learnt, visit_below t, visit.Post)
+visit_mul_child : (t : ℕ) → visit-lts.Need-offset_bounds-starts-number (many-reads.Asked, many-reads.Learnt, visit_below t, visit.Post)
     (visit_at t) visit.Post visit_inv_loop visit_μ_loop
 visit_mul_child t c = let a : Turn t = search in omega (
   arith,
   start_in t a,
-  (entry t a.before).pre.1.columns.falling.small,
-  many_at (drawn t (entry t a.before)) (entry t a.before).args.place a.before.loop.k
+  (entry t a.before).requires.1.columns.falling.small,
+  many_at (drawn t (entry t a.before)) (entry t a.before).args.place a.loop-k.k
       (child_many t a),
 )
 
-visit_shared_slice_read_child : (t : ℕ) → visit-lts.Need-shared-slice-read-child
+visit_shared_slice_read_child : (t : ℕ) → visit-lts.Need-bounds-starts-number
     (many-reads.Asked, many-reads.Learnt, visit_below t, visit.Post) (visit_at t) visit.Post visit_inv_loop visit_μ_loop
 visit_shared_slice_read_child t c = let a : Turn t = search in start_in t a
 
-visit_add_child : (t : ℕ) → visit-lts.Need-overflow-add-child (many-reads.Asked, many-reads.Learnt, visit_below t, visit.Post)
+visit_add_child : (t : ℕ) → visit-lts.Need-overflow_add-child (many-reads.Asked, many-reads.Learnt, visit_below t, visit.Post)
     (visit_at t) visit.Post visit_inv_loop visit_μ_loop
-visit_add_child t c = let a : Turn t = search in omega (arith, row_within t a, (entry t a.before).good)
+visit_add_child t c = let a : Turn t = search in omega (arith, row_within t a, (entry t a.before).well_formed)
 
-visit_mul_child_2 : (t : ℕ) → visit-lts.Need-overflow-mul-child-2 (
+visit_mul_child_2 : (t : ℕ) → visit-lts.Need-offset_bounds-rows-starts (
   many-reads.Asked,
   many-reads.Learnt,
   visit_below t,
   visit.Post,
 ) (visit_at t) visit.Post visit_inv_loop visit_μ_loop
 visit_mul_child_2 t c = let a : Turn t = search in scaled_Fits _ (length (entry t a.before).args.rows.now) 8
-    (row_within t a) (entry t a.before).good.1.1.1.1.1.0.1
+    (row_within t a) (entry t a.before).well_formed.1.1.1.1.1.0.1
 
 visit_shared_slice_read_child_2 : (t : ℕ)
-    → visit-lts.Need-shared-slice-read-child-2 (many-reads.Asked, many-reads.Learnt, visit_below t, visit.Post)
+    → visit-lts.Need-bounds-rows-starts (many-reads.Asked, many-reads.Learnt, visit_below t, visit.Post)
     (visit_at t) visit.Post visit_inv_loop visit_μ_loop
 visit_shared_slice_read_child_2 t c = let a : Turn t = search in row_within t a
 
-visit_add_k : (t : ℕ) → visit-lts.Need-overflow-add-k (many-reads.Asked, many-reads.Learnt, visit_below t, visit.Post)
+visit_add_k : (t : ℕ) → visit-lts.Need-overflow_add-k (many-reads.Asked, many-reads.Learnt, visit_below t, visit.Post)
     (visit_at t) visit.Post visit_inv_loop visit_μ_loop
-visit_add_k t c = let a : Turn t = search in omega (arith, row_within t a, (entry t a.before).good)
+visit_add_k t c = let a : Turn t = search in omega (arith, row_within t a, (entry t a.before).well_formed)
 
-visit_element_copy_out_if2 : (t : ℕ) → visit-lts.Need-element-copy-out-if2
+visit_element_copy_out_if2 : (t : ℕ) → visit-lts.Need-bounds-marks-child
     (many-reads.Asked, many-reads.Learnt, visit_below t, visit.Post) (visit_at t) visit.Post visit_inv_loop visit_μ_loop
 visit_element_copy_out_if2 t c = let a : Turn t = search in omega
-    (arith, (child t a).place, (entry t a.before).pre.1.columns.falling.small)
+    (arith, (child t a).place, (entry t a.before).requires.1.columns.falling.small)
 
-visit_loop_less : (t : ℕ) → visit-lts.Need-loop-smaller (many-reads.Asked, many-reads.Learnt, visit_below t, visit.Post)
+visit_loop_less : (t : ℕ) → visit-lts.Need-loop-k-smaller-then-marks-child (many-reads.Asked, many-reads.Learnt, visit_below t, visit.Post)
     (visit_at t) visit.Post visit_inv_loop visit_μ_loop
-visit_loop_less t c = let a : Turn t = search in omega (arith, a.loop-test.taken)
+visit_loop_less t c = let a : Turn t = search in omega (arith, a.loop-k-test.true)
 
 -- a child that is marked is left
-visit_loop_again : (t : ℕ) → visit-lts.Need-loop-preserved (many-reads.Asked, many-reads.Learnt, visit_below t, visit.Post)
+visit_loop_again : (t : ℕ) → visit-lts.Need-loop-k-preserved-then-marks-child (many-reads.Asked, many-reads.Learnt, visit_below t, visit.Post)
     (visit_at t) visit.Post visit_inv_loop visit_μ_loop
 visit_loop_again t c =
     let a : Turn t = search in (
-      omega (arith, a.loop-test.taken),
-      next _ _ a.before.loop.k a.before.loop.inv.1 (sym (walk_old _ _ _ _ c.if2.true)),
+      omega (arith, a.loop-k-test.true),
+      next _ _ a.loop-k.k a.loop-k.invariant.1 (sym (walk_old _ _ _ _ c.if-marks-child.true)),
     )
 
-visit_visit_requires : (t : ℕ) → visit-lts.Need-visit-requires
+visit_visit_requires : (t : ℕ) → visit-lts.Need-visit-n-requires
     (many-reads.Asked, many-reads.Learnt, visit_below t, visit.Post) (visit_at t) visit.Post visit_inv_loop visit_μ_loop
 visit_visit_requires t c κs =
     let a : Turn t = search in
     let s = entry t a.before in
-    (rw (← s.pre.0) (s.pre.1.columns.falling.falls _ _ s.pre.1.place (child_many t a)), child t a)
+    (rw (← s.requires.0) (s.requires.1.columns.falling.falls _ _ s.requires.1.place (child_many t a)), child t a)
 
-visit_loop_less_2 : (t : ℕ) → visit-lts.Need-loop-smaller-2
+visit_loop_less_2 : (t : ℕ) → visit-lts.Need-loop-k-smaller
     (many-reads.Asked, many-reads.Learnt, visit_below t, visit.Post) (visit_at t) visit.Post visit_inv_loop visit_μ_loop
-visit_loop_less_2 t c = let a : Turn t = search in omega (arith, a.loop-test.taken)
+visit_loop_less_2 t c = let a : Turn t = search in omega (arith, a.loop-k-test.true)
 
-visit_loop_again_2 : (t : ℕ) → visit-lts.Need-loop-preserved-2
+visit_loop_again_2 : (t : ℕ) → visit-lts.Need-loop-k-preserved
     (many-reads.Asked, many-reads.Learnt, visit_below t, visit.Post) (visit_at t) visit.Post visit_inv_loop visit_μ_loop
 visit_loop_again_2 t c =
     let a : Turn t = search in
     let v : Called t = search in
-    (omega (arith, a.loop-test.taken), next _ _ a.before.loop.k a.before.loop.inv.1 v.visit.ensures)
+    (omega (arith, a.loop-k-test.true), next _ _ a.loop-k.k a.loop-k.invariant.1 v.visit-n.ensures)
 
-visit_mul_done : (t : ℕ) → visit-lts.Need-overflow-mul-done (many-reads.Asked, many-reads.Learnt, visit_below t, visit.Post)
+visit_mul_done : (t : ℕ) → visit-lts.Need-offset_bounds-done-n (many-reads.Asked, many-reads.Learnt, visit_below t, visit.Post)
     (visit_at t) visit.Post visit_inv_loop visit_μ_loop
 visit_mul_done t c = let a : Head t = search in omega (
   arith,
-  (opened (entry t a).pre.1 (new t a) a.loop.inv.1
+  (opened (entry t a).requires.1 (new t a) a.loop-k.invariant.1
       (kids_at t a)).room,
 )
 
-visit_element_write_done : (t : ℕ) → visit-lts.Need-element-write-done
+visit_element_write_done : (t : ℕ) → visit-lts.Need-bounds-done-n
     (many-reads.Asked, many-reads.Learnt, visit_below t, visit.Post) (visit_at t) visit.Post visit_inv_loop visit_μ_loop
 visit_element_write_done t c = let a : Head t = search in omega
-    (arith, (opened (entry t a).pre.1 (new t a) a.loop.inv.1 (kids_at t a)).room)
+    (arith, (opened (entry t a).requires.1 (new t a) a.loop-k.invariant.1 (kids_at t a)).room)
 
-visit_add_result : (t : ℕ) → visit-lts.Need-overflow-add-result (many-reads.Asked, many-reads.Learnt, visit_below t, visit.Post)
+visit_add_result : (t : ℕ) → visit-lts.Need-overflow_add-result (many-reads.Asked, many-reads.Learnt, visit_below t, visit.Post)
     (visit_at t) visit.Post visit_inv_loop visit_μ_loop
 visit_add_result t c = let a : Head t = search in omega (
   arith,
-  (opened (entry t a).pre.1 (new t a) a.loop.inv.1
+  (opened (entry t a).requires.1 (new t a) a.loop-k.invariant.1
       (kids_at t a)).room,
 )
 
-visit_returns_2 : (t : ℕ) → visit-lts.Need-returns-2 (many-reads.Asked, many-reads.Learnt, visit_below t, visit.Post)
+visit_returns_2 : (t : ℕ) → visit-lts.Need-returns (many-reads.Asked, many-reads.Learnt, visit_below t, visit.Post)
     (visit_at t) visit.Post visit_inv_loop visit_μ_loop
-visit_returns_2 t c = closed (entry t c.before).pre.1 (new t c.before) c.before.loop.invariant.1
-    (kids_at t c.before) (omega (arith, (counted t c.before).many.ensures, c.loop-test.false))
+visit_returns_2 t c = let h : Head t = search in closed (entry t h).requires.1 (new t h) c.loop-k.invariant.1
+    (kids_at t h) (omega (arith, (counted t h).many-kids.ensures, c.loop-k-test.false))
 
-pub +visit-spec : {M : Type 1} → statement M
-+visit-spec =
+pub +visit_spec : {M : Type 1} → statement M
++visit_spec =
     close
     μ-visit
     λ t. visit-lts.spec

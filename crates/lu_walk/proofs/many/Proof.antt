@@ -7,34 +7,34 @@ use Rattle.lu_walk.specs.Walk.{many_in}
 use Rattle.lu_walk.proofs.many.Statement.{statement}
 use Rattle.lu_walk.proofs.many.Tie as tie
 
-add-result : tie.Need-overflow-add-result
+add-result : tie.Need-overflow_add-result
 add-result c = search rules
 
-mul-result : tie.Need-overflow-mul-result
-mul-result c = let s : tie.Start = search in omega (arith, s.pre c.if1.true)
+mul-result : tie.Need-offset_bounds-starts-number
+mul-result c = let s : tie.Start = search in omega (arith, s.requires c.if-number-bound.true)
 
-shared-slice-read-result : tie.Need-shared-slice-read-result
-shared-slice-read-result c = let s : tie.Start = search in omega (arith, s.pre c.before.if1.true)
+shared-slice-read-result : tie.Need-bounds-starts-number
+shared-slice-read-result c = let s : tie.Start = search in omega (arith, s.requires c.if-number-bound.true)
 
-mul-result-2 : tie.Need-overflow-mul-result-2
-mul-result-2 c = let s : tie.Start = search in omega (arith, s.pre c.before.if1.true)
+mul-result-2 : tie.Need-offset_bounds-starts-number-then-number-bound
+mul-result-2 c = let s : tie.Start = search in omega (arith, s.requires c.if-number-bound.true)
 
-shared-slice-read-result-2 : tie.Need-shared-slice-read-result-2
-shared-slice-read-result-2 c = let s : tie.Start = search in omega (arith, s.pre c.before.before.if1.true)
+shared-slice-read-result-2 : tie.Need-bounds-starts-number-then-number-bound
+shared-slice-read-result-2 c = let s : tie.Start = search in omega (arith, s.requires c.if-number-bound.true)
 
-sub-result : tie.Need-overflow-sub-result
-sub-result c = let s : tie.Start = search in (s.pre c.before.before.if1.true).1
+sub-result : tie.Need-overflow_sub-result
+sub-result c = let s : tie.Start = search in (s.requires c.if-number-bound.true).1
 
-returns : tie.Need-returns
+returns : tie.Need-returns-then-number-bound
 unfolding many_in
-returns c = rw (lt-ltb _ _ c.before.before.if1.true) refl
+returns c = rw (lt-ltb _ _ c.if-number-bound.true) refl
 
-returns-2 : tie.Need-returns-2
+returns-2 : tie.Need-returns
 unfolding many_in
-returns-2 c = rw (le-ltb _ _ c.if1.false) refl
+returns-2 c = rw (le-ltb _ _ c.if-number-bound.false) refl
 
-pub many-spec : {M : Type 1} → statement M
-many-spec =
+pub many_spec : {M : Type 1} → statement M
+many_spec =
     tie.close
     (tie.spec
     add-result

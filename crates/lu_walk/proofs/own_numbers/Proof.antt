@@ -9,39 +9,39 @@ use Rattle.lu_walk.specs.Walk.{own_turn, own_numbers}
 use Rattle.lu_walk.proofs.own_numbers.Statement.{statement}
 use Rattle.lu_walk.proofs.own_numbers.Tie as tie
 
-abbrev invariant-loop : tie.invariant-loop
+abbrev invariant-loop : tie.invariant-loop-p
 invariant-loop size at₀ p₀ at p = (p ≤ size) × (at ≡ run own_turn p at₀)
 
-abbrev decreases-loop : tie.decreases-loop
+abbrev decreases-loop : tie.decreases-loop-p
 decreases-loop size at₀ p₀ at p = size - p
 
-loop-holds : tie.Need-loop-init invariant-loop decreases-loop
+loop-holds : tie.Need-loop-p-init invariant-loop decreases-loop
 unfolding run
 loop-holds c = (omega arith, refl)
 
-mul_at : tie.Need-overflow-mul-at invariant-loop decreases-loop
+mul_at : tie.Need-offset_bounds-at-p invariant-loop decreases-loop
 mul_at c = omega arith
 
-element-write-at : tie.Need-element-write-at invariant-loop decreases-loop
+element-write-at : tie.Need-bounds-at-p invariant-loop decreases-loop
 element-write-at c = omega arith
 
-add-p : tie.Need-overflow-add-p invariant-loop decreases-loop
+add-p : tie.Need-overflow_add-p invariant-loop decreases-loop
 add-p c = omega arith
 
-loop-less : tie.Need-loop-smaller invariant-loop decreases-loop
+loop-less : tie.Need-loop-p-smaller invariant-loop decreases-loop
 loop-less c = omega arith
 
-loop-again : tie.Need-loop-preserved invariant-loop decreases-loop
+loop-again : tie.Need-loop-p-preserved invariant-loop decreases-loop
 loop-again c =
-    let t : tie.In-loop invariant-loop decreases-loop = search in
-    (omega (arith, t.loop-test.taken), next _ _ t.before.loop.p t.before.loop.inv.1 refl)
+    let t : tie.In-loop-p invariant-loop decreases-loop = search in
+    (omega (arith, t.loop-p-test.true), next _ _ t.loop-p.p t.loop-p.invariant.1 refl)
 
 returns : tie.Need-returns invariant-loop decreases-loop
 unfolding own_numbers
-returns c = done _ _ _ _ c.before.loop.invariant.0 c.loop-test.false c.before.loop.invariant.1
+returns c = done _ _ _ _ c.loop-p.invariant.0 c.loop-p-test.false c.loop-p.invariant.1
 
-pub own-numbers-spec : {M : Type 1} → statement M
-own-numbers-spec =
+pub own_numbers_spec : {M : Type 1} → statement M
+own_numbers_spec =
     tie.close
     (tie.spec
     invariant-loop

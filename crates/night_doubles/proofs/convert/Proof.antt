@@ -21,11 +21,11 @@ infinity-requires-2 c κs = search rules
 bounds-requires-2 : tie.Need-bounds-requires-2
 bounds-requires-2 c κs = search rules
 
-lay-rows-requires : tie.Need-lay-rows-requires
+lay-rows-requires : tie.Need-lay_rows-requires
 lay-rows-requires c κs =
     let s : tie.Start = search in (
-      (s.pre.0.rows_few, s.pre.0.coefs_long, s.pre.0.entries_few),
-      (ap length s.pre.1.starts_zero, s.pre.1.blank),
+      (s.requires.0.rows_few, s.requires.0.coefs_long, s.requires.0.entries_few),
+      (ap length s.requires.1.starts_zero, s.requires.1.blank),
     )
 
 numbers-requires-2 : tie.Need-numbers-requires-2
@@ -36,25 +36,19 @@ unfolding neg
 returns c =
     let s : tie.Start = search in
     let a = s.args in
-    let rows = c.before.before in
-    let uppers = rows.before.before.before.before in
-    let hi = uppers.before.before in
-    let lowers = hi.before in
-    let lo = lowers.before.before in
-    let costs = lo.before in
     let q = plan_of a.rows a.columns a.coefs.now a.costs.now a.lowers.now a.uppers.now
-    a.lower-marks.now a.upper-marks.now a.rhs.now [] [] [] in
-    let low = ap neg lo.infinity.ensures in (
-      converted_is q s.pre.1 low hi.infinity2.ensures costs.numbers.ensures lowers.bounds.ensures
-          uppers.bounds2.ensures
-          rows.lay-rows.ensures.0 rows.lay-rows.ensures.1 c.numbers2.ensures,
-      converted_long q s.pre.1 low hi.infinity2.ensures costs.numbers.ensures lowers.bounds.ensures
-          uppers.bounds2.ensures
-          rows.lay-rows.ensures.0 rows.lay-rows.ensures.1 c.numbers2.ensures s.pre.0,
+    a.lower_marks.now a.upper_marks.now a.rhs.now [] [] [] in
+    let low = ap neg c.infinity.ensures in (
+      converted_is q s.requires.1 low c.infinity-2.ensures c.numbers.ensures c.bounds.ensures
+          c.bounds-2.ensures
+          c.lay_rows.ensures.0 c.lay_rows.ensures.1 c.numbers-2.ensures,
+      converted_long q s.requires.1 low c.infinity-2.ensures c.numbers.ensures c.bounds.ensures
+          c.bounds-2.ensures
+          c.lay_rows.ensures.0 c.lay_rows.ensures.1 c.numbers-2.ensures s.requires.0,
     )
 
-pub convert-spec : {M : Type 1} → statement M
-convert-spec =
+pub convert_spec : {M : Type 1} → statement M
+convert_spec =
     tie.close
     (tie.spec
     numbers-requires

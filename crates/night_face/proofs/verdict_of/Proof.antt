@@ -10,12 +10,12 @@ use Rattle.night_face.proofs.verdict_of.Tie as tie
 as_face : Numbers → SheetVerdict
 as_face t = verdict_face t.status t.kind t.value
 
-sheet-verdict-requires : tie.Need-sheet-verdict-requires
+sheet-verdict-requires : tie.Need-sheet_verdict-requires
 sheet-verdict-requires c κs = search rules
 
 returns : tie.Need-returns
 unfolding verdict_of as_face
-returns c = ap as_face c.sheet-verdict.ensures
+returns c = ap as_face c.sheet_verdict.ensures
 
-pub verdict-of-spec : {M : Type 1} → statement M
-verdict-of-spec = tie.close (tie.spec sheet-verdict-requires returns)
+pub verdict_of_spec : {M : Type 1} → statement M
+verdict_of_spec = tie.close (tie.spec sheet-verdict-requires returns)

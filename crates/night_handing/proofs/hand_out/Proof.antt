@@ -11,56 +11,56 @@ use Rattle.night_handing.proofs.hand_out.Tie as tie
 store-requires : tie.Need-store-requires
 store-requires c κs = search rules
 
-first-stands-requires : tie.Need-first-stands-requires
+first-stands-requires : tie.Need-first_stands-requires
 first-stands-requires c κs = search rules
 
-put-cells-requires : tie.Need-put-cells-requires
+put-cells-requires : tie.Need-put_cells-requires
 put-cells-requires c κs = search rules
 
-same_length : tie.Need-same-length
+same_length : tie.Need-shape_of-whole-then-first_stands
 same_length c = search rules
 
-returns : tie.Need-returns
+returns : tie.Need-returns-then-first_stands
 returns c a =
     let s : tie.Start = search in
     let t : tie.After-store = search in
-    let d : tie.After-first-stands = search in
-    let y : tie.Then1 = search in
-    let l : tie.After-put-cells = search in
+    let d : tie.After-first_stands = search in
+    let y : tie.Then-first_stands = search in
+    let l : tie.After-put_cells = search in
     first_handed s.args.first s.args.second s.args.amounts.now s.args.section.now
-    s.args.whole.now a t.store.ensures (sym d.first_stands_holds.ensures ∙ y.if1.taken) l.put-cells.ensures
+    s.args.whole.now a t.store.ensures (sym d.first_stands.ensures ∙ y.if-first_stands.true) l.put_cells.ensures
 
-slice-aggregate-put-cells : tie.Need-slice-aggregate-put-cells
+slice-aggregate-put-cells : tie.Need-slice_bounds-put_cells-end
 slice-aggregate-put-cells c =
     let s : tie.Start = search in
-    sym (length-take-le max_columns s.args.section.now (omega (arith, s.pre.1)))
+    sym (length-take-le max_columns s.args.section.now (omega (arith, s.requires.1)))
 
-put-cells-requires-2 : tie.Need-put-cells-requires-2
+put-cells-requires-2 : tie.Need-put_cells-requires-2
 put-cells-requires-2 c κs =
     let s : tie.Start = search in
     let t : tie.After-store = search in
     omega (
       arith,
-      length-take-le max_columns s.args.section.now (omega (arith, s.pre.1)),
-      t.store.kept,
-      s.pre.2,
+      length-take-le max_columns s.args.section.now (omega (arith, s.requires.1)),
+      t.store.auto.whole,
+      s.requires.2,
     )
 
-same-length-2 : tie.Need-same-length-2
+same-length-2 : tie.Need-shape_of-whole
 same-length-2 c = search rules
 
-returns-2 : tie.Need-returns-2
+returns-2 : tie.Need-returns
 returns-2 c a =
     let s : tie.Start = search in
     let t : tie.After-store = search in
-    let d : tie.After-first-stands = search in
-    let y : tie.Else1 = search in
-    let l : tie.After-put-cells2 = search in
+    let d : tie.After-first_stands = search in
+    let y : tie.Else-first_stands = search in
+    let l : tie.After-put_cells-2 = search in
     second_handed s.args.first s.args.second s.args.amounts.now s.args.section.now
-    s.args.whole.now a t.store.ensures (sym d.first_stands_holds.ensures ∙ y.if1.left) l.put-cells2.ensures
+    s.args.whole.now a t.store.ensures (sym d.first_stands.ensures ∙ y.if-first_stands.false) l.put_cells-2.ensures
 
-pub hand-out-spec : {M : Type 1} → statement M
-hand-out-spec =
+pub hand_out_spec : {M : Type 1} → statement M
+hand_out_spec =
     tie.close
     (tie.spec
     store-requires

@@ -5,25 +5,25 @@ use borrow.Author.Rules.{rules}
 use Rattle.night_handing.proofs.store.Statement.{statement}
 use Rattle.night_handing.proofs.store.Tie as tie
 
-is-judged-requires : tie.Need-is-judged-requires
+is-judged-requires : tie.Need-is_judged-requires
 is-judged-requires c κs = search rules
 
-put-cells-requires : tie.Need-put-cells-requires
+put-cells-requires : tie.Need-put_cells-requires
 put-cells-requires c κs = search rules
 
-same_length : tie.Need-same-length
+same_length : tie.Need-shape_of-whole
 same_length c = search rules
 
-returns : tie.Need-returns
+returns : tie.Need-returns-then-is_judged
 returns c =
-    let t : tie.After-put-cells = search in
-    let j : tie.After-is-judged = search in
-    let y : tie.Then1 = search in
-    t.put-cells.ensures ∙ sym (stores _ _ _ (sym j.is_judged.ensures ∙ y.if1.taken))
+    let t : tie.After-put_cells = search in
+    let j : tie.After-is_judged = search in
+    let y : tie.Then-is_judged = search in
+    t.put_cells.ensures ∙ sym (stores _ _ _ (sym j.is_judged.ensures ∙ y.if-is_judged.true))
 
-returns-2 : tie.Need-returns-2
+returns-2 : tie.Need-returns-else-is_judged
 returns-2 c =
-    sym (stays _ _ _ (sym c.before.is_judged.ensures ∙ c.if1.false))
+    sym (stays _ _ _ (sym c.is_judged.ensures ∙ c.if-is_judged.false))
 
 pub store_spec : {M : Type 1} → statement M
 store_spec =

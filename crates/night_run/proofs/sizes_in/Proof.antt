@@ -8,5 +8,5 @@ returns : tie.Need-returns
 unfolding sizes_in
 returns c = refl
 
-pub sizes-in-spec : {M : Type 1} → statement M
-sizes-in-spec = tie.close (tie.spec returns)
+pub sizes_in_spec : {M : Type 1} → statement M
+sizes_in_spec = tie.close (tie.spec returns)

@@ -9,36 +9,36 @@ use Rattle.night_second.proofs.Laws.{written_after}
 use Rattle.night_second.proofs.lay_ops.Statement.{statement}
 use Rattle.night_second.proofs.lay_ops.Tie as tie
 
-slice-aggregate-put-bytes : tie.Need-slice-aggregate-put-bytes
+slice-aggregate-put-bytes : tie.Need-slice_bounds-put_bytes-end
 slice-aggregate-put-bytes c =
     let s : tie.Start = search in
-    sym (length-take-le s.args.rows s.args.ops.now s.pre.0)
+    sym (length-take-le s.args.rows s.args.ops.now s.requires.0)
 
-put-bytes-requires : tie.Need-put-bytes-requires
+put-bytes-requires : tie.Need-put_bytes-requires
 put-bytes-requires c κs =
     let s : tie.Start = search in
-    omega (arith, length-take-le s.args.rows s.args.ops.now s.pre.0, s.pre.1)
+    omega (arith, length-take-le s.args.rows s.args.ops.now s.requires.0, s.requires.1)
 
-slice-aggregate-put-bytes-2 : tie.Need-slice-aggregate-put-bytes-2
+slice-aggregate-put-bytes-2 : tie.Need-slice_bounds-put_bytes-end-2
 slice-aggregate-put-bytes-2 c = search rules
 
-put-bytes-requires-2 : tie.Need-put-bytes-requires-2
+put-bytes-requires-2 : tie.Need-put_bytes-requires-2
 put-bytes-requires-2 c κs = search rules
 
-same_length : tie.Need-same-length
+same_length : tie.Need-shape_of-out
 same_length c = search rules
 
 returns : tie.Need-returns
 returns c =
     let s : tie.Start = search in
-    let w : tie.After-put-bytes = search in
-    let h = length-take-le s.args.rows s.args.ops.now s.pre.0 in
+    let w : tie.After-put_bytes = search in
+    let h = length-take-le s.args.rows s.args.ops.now s.requires.0 in
     written_after 0 (take s.args.rows s.args.ops.now) (0 ∷ []) s.args.out.now
-    (omega (arith, h, s.pre.1)) s.args.rows (omega (arith, h)) w.put-bytes.ensures
-    (let l : tie.After-put-bytes2 = search in l.put-bytes2.ensures)
+    (omega (arith, h, s.requires.1)) s.args.rows (omega (arith, h)) w.put_bytes.ensures
+    (let l : tie.After-put_bytes-2 = search in l.put_bytes-2.ensures)
 
-pub lay-ops-spec : {M : Type 1} → statement M
-lay-ops-spec =
+pub lay_ops_spec : {M : Type 1} → statement M
+lay_ops_spec =
     tie.close
     (tie.spec
     slice-aggregate-put-bytes

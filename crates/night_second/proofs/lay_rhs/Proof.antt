@@ -12,37 +12,37 @@ use Rattle.night_second.proofs.Laws.{written_after}
 use Rattle.night_second.proofs.lay_rhs.Statement.{statement}
 use Rattle.night_second.proofs.lay_rhs.Tie as tie
 
-slice-aggregate-put-cells : tie.Need-slice-aggregate-put-cells
+slice-aggregate-put-cells : tie.Need-slice_bounds-put_cells-end
 slice-aggregate-put-cells c =
     let s : tie.Start = search in
-    sym (length-take-le s.args.rows s.args.rhs.now s.pre.0)
+    sym (length-take-le s.args.rows s.args.rhs.now s.requires.0)
 
-put-cells-requires : tie.Need-put-cells-requires
+put-cells-requires : tie.Need-put_cells-requires
 put-cells-requires c κs =
     let s : tie.Start = search in
-    omega (arith, length-take-le s.args.rows s.args.rhs.now s.pre.0, s.pre.1)
+    omega (arith, length-take-le s.args.rows s.args.rhs.now s.requires.0, s.requires.1)
 
-slice-aggregate-put-cells-2 : tie.Need-slice-aggregate-put-cells-2
+slice-aggregate-put-cells-2 : tie.Need-slice_bounds-put_cells-end-2
 slice-aggregate-put-cells-2 c = search rules
 
-put-cells-requires-2 : tie.Need-put-cells-requires-2
+put-cells-requires-2 : tie.Need-put_cells-requires-2
 put-cells-requires-2 c κs = search rules
 
-same_length : tie.Need-same-length
+same_length : tie.Need-shape_of-out
 same_length c = search rules
 
 returns : tie.Need-returns
 returns c =
     let s : tie.Start = search in
-    let w : tie.After-put-cells = search in
-    let h = length-take-le s.args.rows s.args.rhs.now s.pre.0 in
+    let w : tie.After-put_cells = search in
+    let h = length-take-le s.args.rows s.args.rhs.now s.requires.0 in
     written_after 0 (take s.args.rows s.args.rhs.now) (s.args.found ∷ []) s.args.out.now
-    (omega (arith, h, s.pre.1)) s.args.rows (omega (arith, h)) w.put-cells.ensures
-    (c.before.put-cells2.ensures
-    ∙ ap (λ (z : ℤ). written s.args.rows (z ∷ []) w.put-cells.last.1.1.0) (of_word s.fits.found))
+    (omega (arith, h, s.requires.1)) s.args.rows (omega (arith, h)) w.put_cells.ensures
+    (c.put_cells-2.ensures
+    ∙ ap (λ (z : ℤ). written s.args.rows (z ∷ []) w.put_cells.new.to) (of_word s.ranges.found))
 
-pub lay-rhs-spec : {M : Type 1} → statement M
-lay-rhs-spec =
+pub lay_rhs_spec : {M : Type 1} → statement M
+lay_rhs_spec =
     tie.close
     (tie.spec
     slice-aggregate-put-cells

@@ -18,7 +18,7 @@ module _ (s : tie.Start) where
   p =
       let a = s.args in
       plan_of a.rows a.columns a.coefs.now a.costs.now a.lowers.now a.uppers.now
-      a.lower-marks.now a.upper-marks.now a.rhs.now a.ops.now [] []
+      a.lower_marks.now a.upper_marks.now a.rhs.now a.ops.now [] []
 
   abbrev l : Lent
   l =
@@ -35,40 +35,36 @@ other_kind =
     ⊎_elim (λ h. omega (arith, h)) (⊎_elim (λ h. omega (arith, h))
     (⊎_elim (λ h. omega (arith, h)) (λ h. omega (arith, h))))
 
-slice-aggregate-propose : tie.Need-slice-aggregate-propose
+slice-aggregate-propose : tie.Need-slice_bounds-propose-end
 slice-aggregate-propose c = search rules
 
-slice-aggregate-propose-2 : tie.Need-slice-aggregate-propose-2
+slice-aggregate-propose-2 : tie.Need-slice_bounds-propose-end-2
 slice-aggregate-propose-2 c = search rules
 
-propose-requires : tie.Need-propose-requires
+propose-requires : tie.Need-propose-p-requires
 propose-requires c κs = search rules
 
-enum_told : tie.Need-enum-told
+enum_told : tie.Need-enum_told-1
 enum_told c = search rules
 
 judge-requires : tie.Need-judge-requires
 judge-requires c κs = search rules
 
-same_length : tie.Need-same-length
+same_length : tie.Need-shape_of-section-in-Proposed
 same_length c = search rules
 
-returns : tie.Need-returns
+returns : tie.Need-returns-in-Proposed
 returns c =
-    let j = c.before in
-    let e = j.before.before.before.before in
-    let g = e.before.before.before.before in
-    let s : tie.Start = g.before.before.before.before.before.before.before.before.before.before in
-    was_proposed (p s) (l s) s.args.section.now g.propose.ensures e.enum_told.given.1 j.judge.ensures
+    let s : tie.Start = search in
+    was_proposed (p s) (l s) s.args.section.now c.propose-p.ensures c.in-Proposed.is c.judge.ensures
 
-returns-2 : tie.Need-returns-2
+returns-2 : tie.Need-returns
 returns-2 c =
-    let g = c.before.before.before in
-    let s : tie.Start = g.before.before.before.before.before.before.before.before.before.before in
-    not_whole (p s) (l s) s.args.section.now g.propose.ensures (λ q. other_kind (rw q at c.match.keys2))
+    let s : tie.Start = search in
+    not_whole (p s) (l s) s.args.section.now c.propose-p.ensures (λ q. other_kind (rw q at c.in_default.in_default-own.keys2))
 
-pub audit-spec : {M : Type 1} → statement M
-audit-spec =
+pub audit_spec : {M : Type 1} → statement M
+audit_spec =
     tie.close
     (tie.spec
     slice-aggregate-propose

@@ -5,35 +5,35 @@ use borrow.Author.Rules.{rules}
 use Rattle.plan.proofs.bad_at.Statement.{statement}
 use Rattle.plan.proofs.bad_at.Tie as tie
 
-mul-col : tie.Need-overflow-mul-col
+mul-col : tie.Need-offset_bounds-cols-k
 mul-col c = search rules
 
-shared-slice-read-col : tie.Need-shared-slice-read-col
+shared-slice-read-col : tie.Need-bounds-cols-k
 shared-slice-read-col c = search rules
 
-returns : tie.Need-returns
+returns : tie.Need-returns-then-columns-col
 unfolding bad_at
-returns c = simp (le-leb _ _ c.if1.true)
+returns c = simp (le-leb _ _ c.if-columns-col.true)
 
-sub-result : tie.Need-overflow-sub-result
+sub-result : tie.Need-overflow_sub-result
 sub-result c = search rules
 
-mul-result : tie.Need-overflow-mul-result
+mul-result : tie.Need-offset_bounds-cols-k-then-k-gt0
 mul-result c = search rules
 
-shared-slice-read-result : tie.Need-shared-slice-read-result
+shared-slice-read-result : tie.Need-bounds-cols-k-then-k-gt0
 shared-slice-read-result c = search rules
 
-returns-2 : tie.Need-returns-2
+returns-2 : tie.Need-returns-then-k-gt0
 unfolding bad_at
-returns-2 c = simp (lt-leb _ _ c.before.before.if1.false, lt-ltb _ _ c.before.if2.true)
+returns-2 c = simp (lt-leb _ _ c.if-columns-col.false, lt-ltb _ _ c.if-k-gt0.true)
 
-returns-3 : tie.Need-returns-3
+returns-3 : tie.Need-returns
 unfolding bad_at
-returns-3 c = simp (lt-leb _ _ c.before.if1.false, le-ltb _ _ c.if2.false)
+returns-3 c = simp (lt-leb _ _ c.if-columns-col.false, le-ltb _ _ c.if-k-gt0.false)
 
-pub bad-at-spec : {M : Type 1} → statement M
-bad-at-spec =
+pub bad_at_spec : {M : Type 1} → statement M
+bad_at_spec =
     tie.close
     (tie.spec
     mul-col

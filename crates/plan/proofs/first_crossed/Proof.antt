@@ -7,47 +7,47 @@ use Rattle.plan.specs.Lent.{bounds_of}
 use Rattle.plan.proofs.first_crossed.Statement.{statement}
 use Rattle.plan.proofs.first_crossed.Tie as tie
 
-abbrev invariant-loop : tie.invariant-loop
+abbrev invariant-loop : tie.invariant-loop-j
 invariant-loop columns lowers uppers j₀ j = (j ≤ columns) × Seek (crossed (bounds_of columns lowers uppers)) columns (first_crossed (bounds_of columns lowers uppers)) j
 
-abbrev decreases-loop : tie.decreases-loop
+abbrev decreases-loop : tie.decreases-loop-j
 decreases-loop columns lowers uppers j₀ j = columns - j
 
-loop-holds : tie.Need-loop-init invariant-loop decreases-loop
+loop-holds : tie.Need-loop-j-init invariant-loop decreases-loop
 unfolding first_crossed
 loop-holds c = (omega arith, seeks _ _)
 
-mul-if1 : tie.Need-overflow-mul-if1 invariant-loop decreases-loop
+mul-if1 : tie.Need-offset_bounds-uppers-j invariant-loop decreases-loop
 mul-if1 c = omega arith
 
-shared-slice-read-if1 : tie.Need-shared-slice-read-if1 invariant-loop decreases-loop
+shared-slice-read-if1 : tie.Need-bounds-uppers-j invariant-loop decreases-loop
 shared-slice-read-if1 c = omega arith
 
-mul-if1-2 : tie.Need-overflow-mul-if1-2 invariant-loop decreases-loop
+mul-if1-2 : tie.Need-offset_bounds-lowers-j invariant-loop decreases-loop
 mul-if1-2 c = omega arith
 
-shared-slice-read-if1-2 : tie.Need-shared-slice-read-if1-2 invariant-loop decreases-loop
+shared-slice-read-if1-2 : tie.Need-bounds-lowers-j invariant-loop decreases-loop
 shared-slice-read-if1-2 c = omega arith
 
-returns : tie.Need-returns invariant-loop decreases-loop
-returns c = let t : tie.In-loop invariant-loop decreases-loop = search in
-    hit t.before.loop.inv.1 t.loop-test.taken c.if1.true
+returns : tie.Need-returns-then-uppers-j invariant-loop decreases-loop
+returns c = let t : tie.In-loop-j invariant-loop decreases-loop = search in
+    hit t.loop-j.invariant.1 t.loop-j-test.true c.if-uppers-j.true
 
-add-j : tie.Need-overflow-add-j invariant-loop decreases-loop
+add-j : tie.Need-overflow_add-j invariant-loop decreases-loop
 add-j c = omega arith
 
-loop-less : tie.Need-loop-smaller invariant-loop decreases-loop
+loop-less : tie.Need-loop-j-smaller invariant-loop decreases-loop
 loop-less c = omega arith
 
-loop-again : tie.Need-loop-preserved invariant-loop decreases-loop
-loop-again c = let t : tie.In-loop invariant-loop decreases-loop = search in
-    (omega arith, passed t.before.loop.inv.1 t.loop-test.taken c.if1.false)
+loop-again : tie.Need-loop-j-preserved invariant-loop decreases-loop
+loop-again c = let t : tie.In-loop-j invariant-loop decreases-loop = search in
+    (omega arith, passed t.loop-j.invariant.1 t.loop-j-test.true c.if-uppers-j.false)
 
-returns-2 : tie.Need-returns-2 invariant-loop decreases-loop
-returns-2 c = missed c.before.loop.invariant.1 c.loop-test.false
+returns-2 : tie.Need-returns invariant-loop decreases-loop
+returns-2 c = missed c.loop-j.invariant.1 c.loop-j-test.false
 
-pub first-crossed-spec : {M : Type 1} → statement M
-first-crossed-spec =
+pub first_crossed_spec : {M : Type 1} → statement M
+first_crossed_spec =
     tie.close
     (tie.spec
     invariant-loop

@@ -8,38 +8,38 @@ use Rattle.plan.specs.Lent.{empties_of}
 use Rattle.plan.proofs.first_false.Statement.{statement}
 use Rattle.plan.proofs.first_false.Tie as tie
 
-abbrev invariant-loop : tie.invariant-loop
+abbrev invariant-loop : tie.invariant-loop-i
 invariant-loop rows starts ops rhs i₀ i = (i ≤ rows) × Seek (false_row (empties_of rows starts ops rhs)) rows (first_false (empties_of rows starts ops rhs)) i
 
-abbrev decreases-loop : tie.decreases-loop
+abbrev decreases-loop : tie.decreases-loop-i
 decreases-loop rows starts ops rhs i₀ i = rows - i
 
-loop-holds : tie.Need-loop-init invariant-loop decreases-loop
+loop-holds : tie.Need-loop-i-init invariant-loop decreases-loop
 unfolding first_false
 loop-holds c = (omega arith, seeks _ _)
 
-false-row-requires : tie.Need-false-row-requires invariant-loop decreases-loop
+false-row-requires : tie.Need-false_row-requires invariant-loop decreases-loop
 false-row-requires c κs = omega arith
 
-returns : tie.Need-returns invariant-loop decreases-loop
-returns c = let t : tie.In-loop invariant-loop decreases-loop = search in
-    hit t.before.loop.inv.1 t.loop-test.taken (sym c.before.false-row.ensures ∙ c.if1.true)
+returns : tie.Need-returns-then-false_row invariant-loop decreases-loop
+returns c = let t : tie.In-loop-i invariant-loop decreases-loop = search in
+    hit t.loop-i.invariant.1 t.loop-i-test.true (sym c.false_row.ensures ∙ c.if-false_row.true)
 
-add-i : tie.Need-overflow-add-i invariant-loop decreases-loop
+add-i : tie.Need-overflow_add-i invariant-loop decreases-loop
 add-i c = omega arith
 
-loop-less : tie.Need-loop-smaller invariant-loop decreases-loop
+loop-less : tie.Need-loop-i-smaller invariant-loop decreases-loop
 loop-less c = omega arith
 
-loop-again : tie.Need-loop-preserved invariant-loop decreases-loop
-loop-again c = let t : tie.In-loop invariant-loop decreases-loop = search in
-    (omega arith, passed t.before.loop.inv.1 t.loop-test.taken (sym c.before.false-row.ensures ∙ c.if1.false))
+loop-again : tie.Need-loop-i-preserved invariant-loop decreases-loop
+loop-again c = let t : tie.In-loop-i invariant-loop decreases-loop = search in
+    (omega arith, passed t.loop-i.invariant.1 t.loop-i-test.true (sym c.false_row.ensures ∙ c.if-false_row.false))
 
-returns-2 : tie.Need-returns-2 invariant-loop decreases-loop
-returns-2 c = missed c.before.loop.invariant.1 c.loop-test.false
+returns-2 : tie.Need-returns invariant-loop decreases-loop
+returns-2 c = missed c.loop-i.invariant.1 c.loop-i-test.false
 
-pub first-false-spec : {M : Type 1} → statement M
-first-false-spec =
+pub first_false_spec : {M : Type 1} → statement M
+first_false_spec =
     tie.close
     (tie.spec
     invariant-loop

@@ -8,5 +8,5 @@ returns : tie.Need-returns
 unfolding plan_long
 returns c = rw (add-one c.args.rows)
 
-pub plan-long-spec : {M : Type 1} → statement M
-plan-long-spec = tie.close (tie.spec returns)
+pub plan_long_spec : {M : Type 1} → statement M
+plan_long_spec = tie.close (tie.spec returns)

@@ -8,5 +8,5 @@ returns : tie.Need-returns
 unfolding sizes_fit
 returns c = refl
 
-pub sizes-fit-spec : {M : Type 1} → statement M
-sizes-fit-spec = tie.close (tie.spec returns)
+pub sizes_fit_spec : {M : Type 1} → statement M
+sizes_fit_spec = tie.close (tie.spec returns)

@@ -12,44 +12,44 @@ use Rattle.doubles.proofs.Bools.{turned, turned_true, itself}
 use Rattle.plan_numbers.proofs.all_finite.Statement.{statement}
 use Rattle.plan_numbers.proofs.all_finite.Tie as tie
 
-abbrev invariant-loop : tie.invariant-loop
+abbrev invariant-loop : tie.invariant-loop-k
 invariant-loop n xs k₀ k = (k ≤ n) × (all k (λ i. finite (xs ! i)) ≡ true)
 
-abbrev decreases-loop : tie.decreases-loop
+abbrev decreases-loop : tie.decreases-loop-k
 decreases-loop n xs k₀ k = n - k
 
-loop-holds : tie.Need-loop-init invariant-loop decreases-loop
+loop-holds : tie.Need-loop-k-init invariant-loop decreases-loop
 unfolding all
 loop-holds c = (omega arith, refl)
 
-mul-is-finite : tie.Need-overflow-mul-is-finite invariant-loop decreases-loop
+mul-is-finite : tie.Need-offset_bounds-xs-k invariant-loop decreases-loop
 mul-is-finite c = omega arith
 
-shared-slice-read-is-finite : tie.Need-shared-slice-read-is-finite invariant-loop decreases-loop
+shared-slice-read-is-finite : tie.Need-bounds-xs-k invariant-loop decreases-loop
 shared-slice-read-is-finite c = omega arith
 
-is-finite-requires : tie.Need-is-finite-requires invariant-loop decreases-loop
+is-finite-requires : tie.Need-is_finite-requires invariant-loop decreases-loop
 is-finite-requires c κs = search rules
 
-returns : tie.Need-returns invariant-loop decreases-loop
-returns c = let t : tie.In-loop invariant-loop decreases-loop = search in
-    sym (all_fails _ _ _ t.loop-test.taken (sym c.before.is_finite.ensures ∙ (turned_true itself).0 c.if1.true))
+returns : tie.Need-returns-then-not-is_finite invariant-loop decreases-loop
+returns c = let t : tie.In-loop-k invariant-loop decreases-loop = search in
+    sym (all_fails _ _ _ t.loop-k-test.true (sym c.is_finite.ensures ∙ (turned_true itself).0 c.if-not-is_finite.true-raw))
 
-add-k : tie.Need-overflow-add-k invariant-loop decreases-loop
+add-k : tie.Need-overflow_add-k invariant-loop decreases-loop
 add-k c = omega arith
 
-loop-less : tie.Need-loop-smaller invariant-loop decreases-loop
+loop-less : tie.Need-loop-k-smaller invariant-loop decreases-loop
 loop-less c = omega arith
 
-loop-again : tie.Need-loop-preserved invariant-loop decreases-loop
-loop-again c = let a : tie.At-loop invariant-loop decreases-loop = search in
-    (omega arith, all_next _ _ a.loop.inv.1 (sym c.before.is_finite.ensures ∙ (turned itself).0 c.if1.false))
+loop-again : tie.Need-loop-k-preserved invariant-loop decreases-loop
+loop-again c = let a : tie.At-loop-k invariant-loop decreases-loop = search in
+    (omega arith, all_next _ _ a.loop-k.invariant.1 (sym c.is_finite.ensures ∙ (turned itself).0 c.if-not-is_finite.false-raw))
 
-returns-2 : tie.Need-returns-2 invariant-loop decreases-loop
-returns-2 c = sym (all_done _ _ _ c.before.loop.invariant.0 c.loop-test.false c.before.loop.invariant.1)
+returns-2 : tie.Need-returns invariant-loop decreases-loop
+returns-2 c = sym (all_done _ _ _ c.loop-k.invariant.0 c.loop-k-test.false c.loop-k.invariant.1)
 
-pub all-finite-spec : {M : Type 1} → statement M
-all-finite-spec =
+pub all_finite_spec : {M : Type 1} → statement M
+all_finite_spec =
     tie.close
     (tie.spec
     invariant-loop

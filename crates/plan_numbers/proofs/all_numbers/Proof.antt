@@ -12,44 +12,44 @@ use Rattle.rules.specs.Refusals.{is_number}
 use Rattle.plan_numbers.proofs.all_numbers.Statement.{statement}
 use Rattle.plan_numbers.proofs.all_numbers.Tie as tie
 
-abbrev invariant-loop : tie.invariant-loop
+abbrev invariant-loop : tie.invariant-loop-k
 invariant-loop n xs k₀ k = (k ≤ n) × (all k (λ i. is_number (xs ! i)) ≡ true)
 
-abbrev decreases-loop : tie.decreases-loop
+abbrev decreases-loop : tie.decreases-loop-k
 decreases-loop n xs k₀ k = n - k
 
-loop-holds : tie.Need-loop-init invariant-loop decreases-loop
+loop-holds : tie.Need-loop-k-init invariant-loop decreases-loop
 unfolding all
 loop-holds c = (omega arith, refl)
 
-mul-is-number : tie.Need-overflow-mul-is-number invariant-loop decreases-loop
+mul-is-number : tie.Need-offset_bounds-xs-k invariant-loop decreases-loop
 mul-is-number c = omega arith
 
-shared-slice-read-is-number : tie.Need-shared-slice-read-is-number invariant-loop decreases-loop
+shared-slice-read-is-number : tie.Need-bounds-xs-k invariant-loop decreases-loop
 shared-slice-read-is-number c = omega arith
 
-is-number-requires : tie.Need-is-number-requires invariant-loop decreases-loop
+is-number-requires : tie.Need-is_number-requires invariant-loop decreases-loop
 is-number-requires c κs = search rules
 
-returns : tie.Need-returns invariant-loop decreases-loop
-returns c = let t : tie.In-loop invariant-loop decreases-loop = search in
-    sym (all_fails _ _ _ t.loop-test.taken (sym c.before.is_number.ensures ∙ (turned_true itself).0 c.if1.true))
+returns : tie.Need-returns-then-not-is_number invariant-loop decreases-loop
+returns c = let t : tie.In-loop-k invariant-loop decreases-loop = search in
+    sym (all_fails _ _ _ t.loop-k-test.true (sym c.is_number.ensures ∙ (turned_true itself).0 c.if-not-is_number.true-raw))
 
-add-k : tie.Need-overflow-add-k invariant-loop decreases-loop
+add-k : tie.Need-overflow_add-k invariant-loop decreases-loop
 add-k c = omega arith
 
-loop-less : tie.Need-loop-smaller invariant-loop decreases-loop
+loop-less : tie.Need-loop-k-smaller invariant-loop decreases-loop
 loop-less c = omega arith
 
-loop-again : tie.Need-loop-preserved invariant-loop decreases-loop
-loop-again c = let a : tie.At-loop invariant-loop decreases-loop = search in
-    (omega arith, all_next _ _ a.loop.inv.1 (sym c.before.is_number.ensures ∙ (turned itself).0 c.if1.false))
+loop-again : tie.Need-loop-k-preserved invariant-loop decreases-loop
+loop-again c = let a : tie.At-loop-k invariant-loop decreases-loop = search in
+    (omega arith, all_next _ _ a.loop-k.invariant.1 (sym c.is_number.ensures ∙ (turned itself).0 c.if-not-is_number.false-raw))
 
-returns-2 : tie.Need-returns-2 invariant-loop decreases-loop
-returns-2 c = sym (all_done _ _ _ c.before.loop.invariant.0 c.loop-test.false c.before.loop.invariant.1)
+returns-2 : tie.Need-returns invariant-loop decreases-loop
+returns-2 c = sym (all_done _ _ _ c.loop-k.invariant.0 c.loop-k-test.false c.loop-k.invariant.1)
 
-pub all-numbers-spec : {M : Type 1} → statement M
-all-numbers-spec =
+pub all_numbers_spec : {M : Type 1} → statement M
+all_numbers_spec =
     tie.close
     (tie.spec
     invariant-loop

@@ -8,12 +8,12 @@ use Rattle.plan_numbers.proofs.is_lower.Tie as tie
 infinity-requires : tie.Need-infinity-requires
 infinity-requires c κs = search rules
 
-is-number-requires : tie.Need-is-number-requires
+is-number-requires : tie.Need-is_number-requires
 is-number-requires c κs = search rules
 
 returns : tie.Need-returns
 unfolding neg
-returns c = rw (c.before.infinity.ensures, c.is_number.ensures) refl
+returns c = rw (c.infinity.ensures, c.is_number.ensures) refl
 
-pub is-lower-spec : {M : Type 1} → statement M
-is-lower-spec = tie.close (tie.spec infinity-requires is-number-requires returns)
+pub is_lower_spec : {M : Type 1} → statement M
+is_lower_spec = tie.close (tie.spec infinity-requires is-number-requires returns)

@@ -10,5 +10,5 @@ abs-requires c κs = search rules
 returns : tie.Need-returns
 returns c = rw c.abs.ensures refl
 
-pub is-number-spec : {M : Type 1} → statement M
-is-number-spec = tie.close (tie.spec abs-requires returns)
+pub is_number_spec : {M : Type 1} → statement M
+is_number_spec = tie.close (tie.spec abs-requires returns)

@@ -11,25 +11,25 @@ use Rattle.reprice_factor.specs.Mults.{multipliers_of}
 use Rattle.reprice_factor.proofs.multipliers_now.Statement.{statement}
 use Rattle.reprice_factor.proofs.multipliers_now.Tie as tie
 
-basic-costs-requires : tie.Need-basic-costs-requires
+basic-costs-requires : tie.Need-basic_costs-requires
 basic-costs-requires c κs = search rules
 
-solve-now-requires : tie.Need-solve-now-requires
+solve-now-requires : tie.Need-solve_now-requires
 solve-now-requires c κs =
     let s : tie.Start = search in
-    let y : tie.After-basic-costs = search in
-    let long = ap length y.basic-costs.ensures ∙ scratch_long s.args.m max_rows _ s.pre.0.0 in
-    ((long, s.pre.0.3), s.pre.1)
+    let y : tie.After-basic_costs = search in
+    let long = ap length y.basic_costs.ensures ∙ scratch_long s.args.m max_rows _ s.requires.0.0 in
+    ((long, s.requires.0.3), s.requires.1)
 
 returns : tie.Need-returns
 returns c =
     let s : tie.Start = search in
-    let y : tie.After-basic-costs = search in
+    let y : tie.After-basic_costs = search in
     let g = s.args in
-    c.solve-now.ensures
+    c.solve_now.ensures
     ∙ ap (λ (l : List Float). multipliers_of g.m g.number.now
     (matrix g.lstarts.now g.lrows.now g.lvals.now)
-    (matrix g.ustarts.now g.urows.now g.uvals.now) g.diag.now l) y.basic-costs.ensures
+    (matrix g.ustarts.now g.urows.now g.uvals.now) g.diag.now l) y.basic_costs.ensures
 
-pub multipliers-now-spec : {M : Type 1} → statement M
-multipliers-now-spec = tie.close (tie.spec basic-costs-requires solve-now-requires returns)
+pub multipliers_now_spec : {M : Type 1} → statement M
+multipliers_now_spec = tie.close (tie.spec basic-costs-requires solve-now-requires returns)

@@ -10,48 +10,48 @@ use Rattle.reprice_numbers.specs.Lent.{add_turn}
 use Rattle.reprice_numbers.proofs.add_costs.Statement.{statement}
 use Rattle.reprice_numbers.proofs.add_costs.Tie as tie
 
-abbrev invariant-loop : tie.invariant-loop
+abbrev invariant-loop : tie.invariant-loop-i
 invariant-loop start costs n vars vals k sum₀ i₀ sum i = (i ≤ k) × (sum ≡ run (add_turn n costs vars vals) i start)
 
-abbrev decreases-loop : tie.decreases-loop
+abbrev decreases-loop : tie.decreases-loop-i
 decreases-loop start costs n vars vals k sum₀ i₀ sum i = k - i
 
-loop-holds : tie.Need-loop-init invariant-loop decreases-loop
+loop-holds : tie.Need-loop-i-init invariant-loop decreases-loop
 unfolding run
 loop-holds c = (omega arith, refl)
 
-mul-cost-of : tie.Need-overflow-mul-cost-of invariant-loop decreases-loop
+mul-cost-of : tie.Need-offset_bounds-vars-i invariant-loop decreases-loop
 mul-cost-of c = omega arith
 
-shared-slice-read-cost-of : tie.Need-shared-slice-read-cost-of invariant-loop decreases-loop
+shared-slice-read-cost-of : tie.Need-bounds-vars-i invariant-loop decreases-loop
 shared-slice-read-cost-of c = omega arith
 
-cost-of-requires : tie.Need-cost-of-requires invariant-loop decreases-loop
+cost-of-requires : tie.Need-cost_of-requires invariant-loop decreases-loop
 cost-of-requires c κs = search rules
 
-mul-sum : tie.Need-overflow-mul-sum invariant-loop decreases-loop
+mul-sum : tie.Need-offset_bounds-vals-i invariant-loop decreases-loop
 mul-sum c = omega arith
 
-shared-slice-read-sum : tie.Need-shared-slice-read-sum invariant-loop decreases-loop
+shared-slice-read-sum : tie.Need-bounds-vals-i invariant-loop decreases-loop
 shared-slice-read-sum c = omega arith
 
-add-i : tie.Need-overflow-add-i invariant-loop decreases-loop
+add-i : tie.Need-overflow_step-i invariant-loop decreases-loop
 add-i c = omega arith
 
-loop-less : tie.Need-loop-smaller invariant-loop decreases-loop
+loop-less : tie.Need-loop-i-smaller invariant-loop decreases-loop
 loop-less c = omega arith
 
-loop-again : tie.Need-loop-preserved invariant-loop decreases-loop
+loop-again : tie.Need-loop-i-preserved invariant-loop decreases-loop
 loop-again c =
-    let t : tie.In-loop invariant-loop decreases-loop = search in
-    let a : tie.After-cost-of invariant-loop decreases-loop = search in
-    (omega arith, next _ _ t.before.loop.i t.before.loop.inv.1 (rw a.cost-of.ensures refl))
+    let t : tie.In-loop-i invariant-loop decreases-loop = search in
+    let a : tie.After-cost_of invariant-loop decreases-loop = search in
+    (omega arith, next _ _ t.loop-i.i t.loop-i.invariant.1 (rw a.cost_of.ensures refl))
 
 returns : tie.Need-returns invariant-loop decreases-loop
-returns c = done _ _ _ _ c.before.loop.invariant.0 c.loop-test.false c.before.loop.invariant.1
+returns c = done _ _ _ _ c.loop-i.invariant.0 c.loop-i-test.false c.loop-i.invariant.1
 
-pub add-costs-spec : {M : Type 1} → statement M
-add-costs-spec =
+pub add_costs_spec : {M : Type 1} → statement M
+add_costs_spec =
     tie.close
     (tie.spec
     invariant-loop

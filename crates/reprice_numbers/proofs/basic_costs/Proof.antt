@@ -10,46 +10,46 @@ use Rattle.reprice_numbers.specs.Lent.{costed}
 use Rattle.reprice_numbers.proofs.basic_costs.Statement.{statement}
 use Rattle.reprice_numbers.proofs.basic_costs.Tie as tie
 
-abbrev invariant-loop : tie.invariant-loop
+abbrev invariant-loop : tie.invariant-loop-i
 invariant-loop costs n basic-vars m y₀ i₀ y i = (i ≤ m) × Filled (λ k. cost_of (costed n costs []) (basic-vars # k)) y₀ i y
 
-abbrev decreases-loop : tie.decreases-loop
+abbrev decreases-loop : tie.decreases-loop-i
 decreases-loop costs n basic-vars m y₀ i₀ y i = m - i
 
-loop-holds : tie.Need-loop-init invariant-loop decreases-loop
+loop-holds : tie.Need-loop-i-init invariant-loop decreases-loop
 loop-holds c = (omega arith, filled_none)
 
-mul-cost-of : tie.Need-overflow-mul-cost-of invariant-loop decreases-loop
+mul-cost-of : tie.Need-offset_bounds-basic_vars-i invariant-loop decreases-loop
 mul-cost-of c = omega arith
 
-shared-slice-read-cost-of : tie.Need-shared-slice-read-cost-of invariant-loop decreases-loop
+shared-slice-read-cost-of : tie.Need-bounds-basic_vars-i invariant-loop decreases-loop
 shared-slice-read-cost-of c = omega arith
 
-cost-of-requires : tie.Need-cost-of-requires invariant-loop decreases-loop
+cost-of-requires : tie.Need-cost_of-requires invariant-loop decreases-loop
 cost-of-requires c κs = search rules
 
-mul-y : tie.Need-overflow-mul-y invariant-loop decreases-loop
+mul-y : tie.Need-offset_bounds-y-i invariant-loop decreases-loop
 mul-y c = omega arith
 
-element-write-y : tie.Need-element-write-y invariant-loop decreases-loop
+element-write-y : tie.Need-bounds-y-i invariant-loop decreases-loop
 element-write-y c = omega arith
 
-add-i : tie.Need-overflow-add-i invariant-loop decreases-loop
+add-i : tie.Need-overflow_step-i invariant-loop decreases-loop
 add-i c = omega arith
 
-loop-less : tie.Need-loop-smaller invariant-loop decreases-loop
+loop-less : tie.Need-loop-i-smaller invariant-loop decreases-loop
 loop-less c = omega arith
 
-loop-again : tie.Need-loop-preserved invariant-loop decreases-loop
+loop-again : tie.Need-loop-i-preserved invariant-loop decreases-loop
 loop-again c =
-    let t : tie.In-loop invariant-loop decreases-loop = search in
-    (omega arith, filled_more t.before.loop.inv.1 (omega arith) c.cost-of.ensures)
+    let t : tie.In-loop-i invariant-loop decreases-loop = search in
+    (omega arith, filled_more t.loop-i.invariant.1 (omega arith) c.cost_of.ensures)
 
 returns : tie.Need-returns invariant-loop decreases-loop
-returns c = filled_done _ c.before.loop.invariant.0 c.loop-test.false c.before.loop.invariant.1
+returns c = filled_done _ c.loop-i.invariant.0 c.loop-i-test.false c.loop-i.invariant.1
 
-pub basic-costs-spec : {M : Type 1} → statement M
-basic-costs-spec =
+pub basic_costs_spec : {M : Type 1} → statement M
+basic_costs_spec =
     tie.close
     (tie.spec
     invariant-loop

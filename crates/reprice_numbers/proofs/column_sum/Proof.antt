@@ -8,80 +8,80 @@ use borrow.Author.Rules.{rules}
 use Rattle.reprice_numbers.proofs.column_sum.Statement.{statement}
 use Rattle.reprice_numbers.proofs.column_sum.Tie as tie
 
-abbrev start : tie.Then1 → tie.Start
+abbrev start : tie.Then-v-n → tie.Start
 start t = t.before.before.before.before
 
 -- a column of the matrix can be read
-ask : (t : tie.Then1) → let g = (start t).args in SumRead g.cstarts.now g.crows.now g.ccoeffs.now g.v
-ask t = sum_read _ _ _ _ _ (start t).requires.1 t.if1.true
+ask : (t : tie.Then-v-n) → let g = (start t).args in SumRead g.cstarts.now g.crows.now g.ccoeffs.now g.v
+ask t = sum_read _ _ _ _ _ (start t).requires.1 t.if-v-n.true
 
-mul-a : tie.Need-overflow-mul-a
-mul-a c = let t : tie.Then1 = search in omega (arith, ask t)
+mul-a : tie.Need-offset_bounds-cstarts-v
+mul-a c = let t : tie.Then-v-n = search in omega (arith, ask t)
 
-shared-slice-read-a : tie.Need-shared-slice-read-a
-shared-slice-read-a c = let t : tie.Then1 = search in omega (arith, ask t)
+shared-slice-read-a : tie.Need-bounds-cstarts-v
+shared-slice-read-a c = let t : tie.Then-v-n = search in omega (arith, ask t)
 
-add-b : tie.Need-overflow-add-b
+add-b : tie.Need-overflow_add-b
 add-b c = search rules
 
-mul-b : tie.Need-overflow-mul-b
-mul-b c = let t : tie.Then1 = search in omega (arith, ask t)
+mul-b : tie.Need-offset_bounds-cstarts-v-then-v-n
+mul-b c = let t : tie.Then-v-n = search in omega (arith, ask t)
 
-shared-slice-read-b : tie.Need-shared-slice-read-b
-shared-slice-read-b c = let t : tie.Then1 = search in omega (arith, ask t)
+shared-slice-read-b : tie.Need-bounds-cstarts-v-then-v-n
+shared-slice-read-b c = let t : tie.Then-v-n = search in omega (arith, ask t)
 
-mul-dot : tie.Need-overflow-mul-dot
-mul-dot c = let t : tie.Then1 = search in omega (arith, ask t)
+mul-dot : tie.Need-offset_bounds-crows-a
+mul-dot c = let t : tie.Then-v-n = search in omega (arith, ask t)
 
-sub-dot : tie.Need-overflow-sub-dot
-sub-dot c = let t : tie.Then1 = search in omega (arith, ask t)
+sub-dot : tie.Need-slice_bounds-dot-count
+sub-dot c = let t : tie.Then-v-n = search in omega (arith, ask t)
 
-part-dot-start : tie.Need-slice-bounds-dot-start
-part-dot-start c = let t : tie.Then1 = search in omega (arith, ask t)
+part-dot-start : tie.Need-slice_bounds-dot-start
+part-dot-start c = let t : tie.Then-v-n = search in omega (arith, ask t)
 
-part-dot-end : tie.Need-slice-bounds-dot-end
-part-dot-end c = let t : tie.Then1 = search in omega (arith, ask t)
+part-dot-end : tie.Need-slice_bounds-dot-end
+part-dot-end c = let t : tie.Then-v-n = search in omega (arith, ask t)
 
-mul-dot-2 : tie.Need-overflow-mul-dot-2
-mul-dot-2 c = let t : tie.Then1 = search in omega (arith, ask t)
+mul-dot-2 : tie.Need-offset_bounds-ccoeffs-a
+mul-dot-2 c = let t : tie.Then-v-n = search in omega (arith, ask t)
 
-sub-dot-2 : tie.Need-overflow-sub-dot-2
-sub-dot-2 c = let t : tie.Then1 = search in omega (arith, ask t)
+sub-dot-2 : tie.Need-slice_bounds-dot-count-then-v-n
+sub-dot-2 c = let t : tie.Then-v-n = search in omega (arith, ask t)
 
-part-dot-start-2 : tie.Need-slice-bounds-dot-start-2
-part-dot-start-2 c = let t : tie.Then1 = search in omega (arith, ask t)
+part-dot-start-2 : tie.Need-slice_bounds-dot-start-then-v-n
+part-dot-start-2 c = let t : tie.Then-v-n = search in omega (arith, ask t)
 
-part-dot-end-2 : tie.Need-slice-bounds-dot-end-2
-part-dot-end-2 c = let t : tie.Then1 = search in omega (arith, ask t)
+part-dot-end-2 : tie.Need-slice_bounds-dot-end-then-v-n
+part-dot-end-2 c = let t : tie.Then-v-n = search in omega (arith, ask t)
 
 dot-requires : tie.Need-dot-requires
 dot-requires c κs =
-    let t : tie.Then1 = search in
+    let t : tie.Then-v-n = search in
     let s : tie.Start = search in
-    sum_asks _ _ _ _ _ s.args.y.now s.pre.0 s.pre.1 t.if1.taken
+    sum_asks _ _ _ _ _ s.args.y.now s.requires.0 s.requires.1 t.if-v-n.true
 
-returns : tie.Need-returns
+returns : tie.Need-returns-then-v-n
 unfolding sum_on
-returns c = let t : tie.Then1 = search in c.dot.ensures ∙ rw (lt-ltb _ _ t.if1.taken, sum_on)
+returns c = let t : tie.Then-v-n = search in c.dot.ensures ∙ rw (lt-ltb _ _ t.if-v-n.true, sum_on)
 
-mul-result : tie.Need-overflow-mul-result
+mul-result : tie.Need-offset_bounds-y-r
 mul-result c =
-    let t : tie.Else1 = search in
+    let t : tie.Else-v-n = search in
     let s : tie.Start = search in
-    omega (arith, s.pre.1.own t.if1.left)
+    omega (arith, s.requires.1.own t.if-v-n.false)
 
-element-copy-out-result : tie.Need-element-copy-out-result
+element-copy-out-result : tie.Need-bounds-y-r
 element-copy-out-result c =
-    let t : tie.Else1 = search in
+    let t : tie.Else-v-n = search in
     let s : tie.Start = search in
-    omega (arith, s.pre.1.own t.if1.left)
+    omega (arith, s.requires.1.own t.if-v-n.false)
 
-returns-2 : tie.Need-returns-2
+returns-2 : tie.Need-returns
 unfolding sum_on
-returns-2 c = let t : tie.Else1 = search in rw (le-ltb _ _ t.if1.left, sum_on)
+returns-2 c = let t : tie.Else-v-n = search in rw (le-ltb _ _ t.if-v-n.false, sum_on)
 
-pub column-sum-spec : {M : Type 1} → statement M
-column-sum-spec =
+pub column_sum_spec : {M : Type 1} → statement M
+column_sum_spec =
     tie.close
     (tie.spec
     mul-a

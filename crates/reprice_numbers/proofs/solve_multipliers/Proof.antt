@@ -18,10 +18,10 @@ use Rattle.reprice_numbers.proofs.solve_multipliers.Tie as tie
 
 -- the transposes
 abbrev upper_t : tie.Start → Matrix
-upper_t s = matrix s.args.ut-starts.now s.args.ut-rows.now s.args.ut-coeffs.now
+upper_t s = matrix s.args.ut_starts.now s.args.ut_rows.now s.args.ut_coeffs.now
 
 abbrev lower_t : tie.Start → Matrix
-lower_t s = matrix s.args.lt-starts.now s.args.lt-rows.now s.args.lt-coeffs.now
+lower_t s = matrix s.args.lt_starts.now s.args.lt_rows.now s.args.lt_coeffs.now
 
 abbrev first : tie.Start → Tri
 first s = tri_of true s.args.m (upper_t s) true s.args.diag.now
@@ -35,7 +35,7 @@ long s = omega (arith, s.requires.0.0, s.requires.0.1)
 dense-requires : tie.Need-dense-requires
 dense-requires c κs =
     let s : tie.Start = search in
-    dense_first s.args.m s.args.number.now (upper_t s) (lower_t s) s.args.diag.now s.pre.1 s.args.y.now (long s)
+    dense_first s.args.m s.args.number.now (upper_t s) (lower_t s) s.args.diag.now s.requires.1 s.args.y.now (long s)
 
 dense-requires-2 : tie.Need-dense-requires-2
 dense-requires-2 c κs =
@@ -43,17 +43,17 @@ dense-requires-2 c κs =
     let a : tie.After-dense = search in
     let u = dense (first s) s.args.y.now in
     subst (Numbers (second s)) (sym a.dense.ensures)
-    (dense_second s.args.m s.args.number.now (upper_t s) (lower_t s) s.args.diag.now s.pre.1 u
+    (dense_second s.args.m s.args.number.now (upper_t s) (lower_t s) s.args.diag.now s.requires.1 u
     (omega (arith, length_dense (first s) s.args.y.now, long s)))
 
-by-rows-requires : tie.Need-by-rows-requires
+by-rows-requires : tie.Need-by_rows-requires
 by-rows-requires c κs =
     let s : tie.Start = search in
-    let o : length s.args.out.now ≡ max_rows = ap length s.pre.0.2 ∙ length-replicate max_rows f0 in (
-      s.pre.0.0,
-      s.pre.1.map_long,
-      omega (arith, o, s.pre.0.0),
-      record { inside = λ k h. omega (arith, s.pre.1.leads k h, s.pre.0.0) },
+    let o : length s.args.out.now ≡ max_rows = ap length s.requires.0.2 ∙ length-replicate max_rows f0 in (
+      s.requires.0.0,
+      s.requires.1.map_long,
+      omega (arith, o, s.requires.0.0),
+      record { inside = λ k h. omega (arith, s.requires.1.leads k h, s.requires.0.0) },
     )
 
 returns : tie.Need-returns
@@ -61,8 +61,8 @@ unfolding by_rows
 returns c =
     let s : tie.Start = search in
     let a : tie.After-dense = search in
-    let b : tie.After-dense2 = search in
-    rw (c.by_rows.ensures, b.dense2.ensures, a.dense.ensures, s.pre.0.2, by_rows) refl
+    let b : tie.After-dense-2 = search in
+    rw (c.by_rows.ensures, b.dense-2.ensures, a.dense.ensures, s.requires.0.2, by_rows) refl
 
-pub solve-multipliers-spec : {M : Type 1} → statement M
-solve-multipliers-spec = tie.close (tie.spec dense-requires dense-requires-2 by-rows-requires returns)
+pub solve_multipliers_spec : {M : Type 1} → statement M
+solve_multipliers_spec = tie.close (tie.spec dense-requires dense-requires-2 by-rows-requires returns)

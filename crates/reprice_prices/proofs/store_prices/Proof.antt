@@ -7,50 +7,50 @@ use Rattle.doubles.proofs.Loops.{Filled, filled_none, filled_more, filled_done, 
 use Rattle.reprice_prices.proofs.store_prices.Statement.{statement}
 use Rattle.reprice_prices.proofs.store_prices.Tie as tie
 
-abbrev invariant-loop : tie.invariant-loop
+abbrev invariant-loop : tie.invariant-loop-c
 invariant-loop n fresh prices₀ c₀ prices c = (c ≤ n) × Filled (λ k. fresh ! k) prices₀ c prices
 
-abbrev decreases-loop : tie.decreases-loop
+abbrev decreases-loop : tie.decreases-loop-c
 decreases-loop n fresh prices₀ c₀ prices c = n - c
 
-loop-holds : tie.Need-loop-init invariant-loop decreases-loop
+loop-holds : tie.Need-loop-c-init invariant-loop decreases-loop
 loop-holds c = (omega arith, filled_none)
 
-mul-prices : tie.Need-overflow-mul-prices invariant-loop decreases-loop
+mul-prices : tie.Need-offset_bounds-fresh-c invariant-loop decreases-loop
 mul-prices c = omega arith
 
-element-copy-out-prices : tie.Need-element-copy-out-prices invariant-loop decreases-loop
+element-copy-out-prices : tie.Need-bounds-fresh-c invariant-loop decreases-loop
 element-copy-out-prices c = omega arith
 
-mul-prices-2 : tie.Need-overflow-mul-prices-2 invariant-loop decreases-loop
+mul-prices-2 : tie.Need-offset_bounds-prices-c invariant-loop decreases-loop
 mul-prices-2 c =
-    let t : tie.In-loop invariant-loop decreases-loop = search in
-    omega (arith, filled_length t.before.loop.inv.1 (omega arith))
+    let t : tie.In-loop-c invariant-loop decreases-loop = search in
+    omega (arith, filled_length t.loop-c.invariant.1 (omega arith))
 
-slice-write-prices : tie.Need-slice-write-prices invariant-loop decreases-loop
+slice-write-prices : tie.Need-bounds-prices-c invariant-loop decreases-loop
 slice-write-prices c =
-    let t : tie.In-loop invariant-loop decreases-loop = search in
-    omega (arith, filled_length t.before.loop.inv.1 (omega arith))
+    let t : tie.In-loop-c invariant-loop decreases-loop = search in
+    omega (arith, filled_length t.loop-c.invariant.1 (omega arith))
 
-add-c : tie.Need-overflow-add-c invariant-loop decreases-loop
+add-c : tie.Need-overflow_step-c invariant-loop decreases-loop
 add-c c = omega arith
 
-loop-less : tie.Need-loop-smaller invariant-loop decreases-loop
+loop-less : tie.Need-loop-c-smaller invariant-loop decreases-loop
 loop-less c = omega arith
 
-loop-again : tie.Need-loop-preserved invariant-loop decreases-loop
+loop-again : tie.Need-loop-c-preserved invariant-loop decreases-loop
 loop-again c =
-    let t : tie.In-loop invariant-loop decreases-loop = search in
-    (omega arith, filled_more t.before.loop.inv.1 (omega arith) refl)
+    let t : tie.In-loop-c invariant-loop decreases-loop = search in
+    (omega arith, filled_more t.loop-c.invariant.1 (omega arith) refl)
 
-same_length : tie.Need-same-length invariant-loop decreases-loop
-same_length c = filled_length c.before.loop.invariant.1 (omega arith)
+same_length : tie.Need-shape_of-prices invariant-loop decreases-loop
+same_length c = filled_length c.loop-c.invariant.1 (omega arith)
 
 returns : tie.Need-returns invariant-loop decreases-loop
-returns c = filled_done _ c.before.loop.invariant.0 c.loop-test.false c.before.loop.invariant.1
+returns c = filled_done _ c.loop-c.invariant.0 c.loop-c-test.false c.loop-c.invariant.1
 
-pub store-prices-spec : {M : Type 1} → statement M
-store-prices-spec =
+pub store_prices_spec : {M : Type 1} → statement M
+store_prices_spec =
     tie.close
     (tie.spec
     invariant-loop

@@ -25,138 +25,138 @@ abbrev S : tie.Start → State
 S s = state_in s.args.numbers.now s.args.doubles.now s.args.factor_numbers.now s.args.factor_coeffs.now s.args.at
 
 -- the way back, and the arrays as the own part leaves them
-abbrev entry : tie.After-repriced → tie.Start
+abbrev entry : tie.After-repriced-own → tie.Start
 entry m = search
 
-abbrev M : tie.After-repriced → List ℕ
-M m = m.repriced.new.0
+abbrev M : tie.After-repriced-own → List ℕ
+M m = m.repriced-own.new.numbers
 
-abbrev E : tie.After-repriced → List Float
-E m = m.repriced.new.1.0
+abbrev E : tie.After-repriced-own → List Float
+E m = m.repriced-own.new.doubles
 
-abbrev H : tie.After-repriced → List ℕ
-H m = m.repriced.new.1.1.0
+abbrev H : tie.After-repriced-own → List ℕ
+H m = m.repriced-own.new.factor_numbers
 
-abbrev J : tie.After-repriced → List Float
-J m = m.repriced.new.1.1.1.0
+abbrev J : tie.After-repriced-own → List Float
+J m = m.repriced-own.new.factor_coeffs
 
-left : (m : tie.After-repriced) (r : Own) → m.repriced.result ≡ r
+left : (m : tie.After-repriced-own) (r : Own) → m.repriced-own.result ≡ r
     → let s = entry m in
     let a = s.args in
     own_left r (M m) (E m) (H m) (J m)
     ≡ after_own (S s) (repriced (priced_of a.n a.costs.now a.starts.now a.cols.now a.coeffs.now a.kept.now) (S s))
-left m r e = ap (λ (w : Own). own_left w (M m) (E m) (H m) (J m)) (sym e) ∙ m.repriced.ensures
+left m r e = ap (λ (w : Own). own_left w (M m) (E m) (H m) (J m)) (sym e) ∙ m.repriced-own.ensures
 
-repriced-requires : tie.Need-repriced-requires
-repriced-requires c κs = let s : tie.Start = search in own_asks s.pre
+repriced-requires : tie.Need-repriced-own-requires
+repriced-requires c κs = let s : tie.Start = search in own_asks s.requires
 
-enum-known-own : tie.Need-enum-known-own
+enum-known-own : tie.Need-enum_known-own
 enum-known-own c = search rules
 
-same_length : tie.Need-same-length
+same_length : tie.Need-shape_of-numbers-in-Halts
 same_length c = search rules
 
-same-length-2 : tie.Need-same-length-2
+same-length-2 : tie.Need-shape_of-doubles-in-Halts
 same-length-2 c = search rules
 
-same-length-3 : tie.Need-same-length-3
+same-length-3 : tie.Need-shape_of-factor_numbers-in-Halts
 same-length-3 c = search rules
 
-same-length-4 : tie.Need-same-length-4
+same-length-4 : tie.Need-shape_of-factor_coeffs-in-Halts
 same-length-4 c = search rules
 
-returns : tie.Need-returns
+returns : tie.Need-returns-in-Halts
 returns c =
-    let w : tie.After-own = search in
-    let m : tie.After-repriced = search in
+    let w : tie.In-Halts = search in
+    let m : tie.After-repriced-own = search in
     let s = entry m in
-    own_halts (P s) (S s) _ _ _ _ (left m _ w.own.given.1)
+    own_halts (P s) (S s) _ _ _ _ (left m _ w.in-Halts.is)
 
-enum-known-own-2 : tie.Need-enum-known-own-2
+enum-known-own-2 : tie.Need-enum_known-own-in-Goes-1
 enum-known-own-2 c = search rules
 
-go-on-requires : tie.Need-go-on-requires
+go-on-requires : tie.Need-go_on-ran-requires
 go-on-requires c κs =
-    let w : tie.After-own2 = search in
-    let m : tie.After-repriced = search in
+    let w : tie.In-Goes = search in
+    let m : tie.After-repriced-own = search in
     let s = entry m in (
-      goes_asks s.pre (M m) (E m) (H m) (J m) _ m.repriced.kept.0 m.repriced.kept.1.0 (left m _ w.own2.given.1),
-      s.pre.problem_fits.plan.budget_most,
+      goes_asks s.requires (M m) (E m) (H m) (J m) _ m.repriced-own.auto.numbers m.repriced-own.auto.doubles (left m _ w.in-Goes.is),
+      s.requires.problem_fits.plan.budget_most,
     )
 
 -- the run, and what stands before it
-abbrev before : tie.After-go-on → tie.After-repriced
+abbrev before : tie.After-go_on-ran → tie.After-repriced-own
 before g = search
 
-abbrev chosen : tie.After-go-on → tie.After-own2
+abbrev chosen : tie.After-go_on-ran → tie.In-Goes
 chosen g = search
 
-same-length-5 : tie.Need-same-length-5
+same-length-5 : tie.Need-shape_of-numbers-then-at-eq0
 same-length-5 c =
-    let g : tie.After-go-on = search in
-    g.go_on.kept.0 ∙ (before g).repriced.kept.0
+    let g : tie.After-go_on-ran = search in
+    g.go_on-ran.auto.numbers ∙ (before g).repriced-own.auto.numbers
 
-same-length-6 : tie.Need-same-length-6
+same-length-6 : tie.Need-shape_of-doubles-then-at-eq0
 same-length-6 c =
-    let g : tie.After-go-on = search in
-    g.go_on.kept.1.0 ∙ (before g).repriced.kept.1.0
+    let g : tie.After-go_on-ran = search in
+    g.go_on-ran.auto.doubles ∙ (before g).repriced-own.auto.doubles
 
-same-length-7 : tie.Need-same-length-7
+same-length-7 : tie.Need-shape_of-factor_numbers-then-at-eq0
 same-length-7 c =
-    let g : tie.After-go-on = search in
-    g.go_on.kept.1.1.0 ∙ (before g).repriced.kept.1.1.0
+    let g : tie.After-go_on-ran = search in
+    g.go_on-ran.auto.factor_numbers ∙ (before g).repriced-own.auto.factor_numbers
 
-same-length-8 : tie.Need-same-length-8
+same-length-8 : tie.Need-shape_of-factor_coeffs-then-at-eq0
 same-length-8 c =
-    let g : tie.After-go-on = search in
-    g.go_on.kept.1.1.1.0 ∙ (before g).repriced.kept.1.1.1.0
+    let g : tie.After-go_on-ran = search in
+    g.go_on-ran.auto.factor_coeffs ∙ (before g).repriced-own.auto.factor_coeffs
 
-returns-2 : tie.Need-returns-2
+returns-2 : tie.Need-returns-then-at-eq0
 returns-2 c =
-    let i : tie.Then1 = search in
-    let g : tie.After-go-on = search in
+    let i : tie.Then-at-eq0 = search in
+    let g : tie.After-go_on-ran = search in
     let m = before g in
     let s = entry m in
-    none_counted (P s) (S s) _ (left m _ (chosen g).own2.given.1) s.pre.no_steps _ g.go_on.ensures (eq-eqb _ _ i.if1.taken)
+    none_counted (P s) (S s) _ (left m _ (chosen g).in-Goes.is) s.requires.no_steps _ g.go_on-ran.ensures (eq-eqb _ _ i.if-at-eq0.true)
 
-add-factorings : tie.Need-overflow-add-factorings
+add-factorings : tie.Need-overflow_add-factorings
 add-factorings c =
-    let g : tie.After-go-on = search in
+    let g : tie.After-go_on-ran = search in
     let m = before g in
     let s = entry m in
-    let few = count_fits s.pre (M m) (E m) (H m) (J m) _ (left m _ (chosen g).own2.given.1) _ g.go_on.ensures in
+    let few = count_fits s.requires (M m) (E m) (H m) (J m) _ (left m _ (chosen g).in-Goes.is) _ g.go_on-ran.ensures in
     record { fits = omega (arith, few) }
 
-same-length-9 : tie.Need-same-length-9
+same-length-9 : tie.Need-shape_of-numbers-in-Goes
 same-length-9 c =
-    let g : tie.After-go-on = search in
-    g.go_on.kept.0 ∙ (before g).repriced.kept.0
+    let g : tie.After-go_on-ran = search in
+    g.go_on-ran.auto.numbers ∙ (before g).repriced-own.auto.numbers
 
-same-length-10 : tie.Need-same-length-10
+same-length-10 : tie.Need-shape_of-doubles-in-Goes
 same-length-10 c =
-    let g : tie.After-go-on = search in
-    g.go_on.kept.1.0 ∙ (before g).repriced.kept.1.0
+    let g : tie.After-go_on-ran = search in
+    g.go_on-ran.auto.doubles ∙ (before g).repriced-own.auto.doubles
 
-same-length-11 : tie.Need-same-length-11
+same-length-11 : tie.Need-shape_of-factor_numbers-in-Goes
 same-length-11 c =
-    let g : tie.After-go-on = search in
-    g.go_on.kept.1.1.0 ∙ (before g).repriced.kept.1.1.0
+    let g : tie.After-go_on-ran = search in
+    g.go_on-ran.auto.factor_numbers ∙ (before g).repriced-own.auto.factor_numbers
 
-same-length-12 : tie.Need-same-length-12
+same-length-12 : tie.Need-shape_of-factor_coeffs-in-Goes
 same-length-12 c =
-    let g : tie.After-go-on = search in
-    g.go_on.kept.1.1.1.0 ∙ (before g).repriced.kept.1.1.1.0
+    let g : tie.After-go_on-ran = search in
+    g.go_on-ran.auto.factor_coeffs ∙ (before g).repriced-own.auto.factor_coeffs
 
-returns-3 : tie.Need-returns-3
+returns-3 : tie.Need-returns-in-Goes
 returns-3 c =
-    let i : tie.Else1 = search in
-    let g : tie.After-go-on = search in
+    let i : tie.Else-at-eq0 = search in
+    let g : tie.After-go_on-ran = search in
     let m = before g in
     let s = entry m in
-    one_counted (P s) (S s) _ (left m _ (chosen g).own2.given.1) s.pre.no_steps _ g.go_on.ensures (ne_eqb _ _ i.if1.left)
+    one_counted (P s) (S s) _ (left m _ (chosen g).in-Goes.is) s.requires.no_steps _ g.go_on-ran.ensures (ne_eqb _ _ i.if-at-eq0.false)
 
-pub gone-on-spec : {M : Type 1} → statement M
-gone-on-spec =
+pub gone_on_spec : {M : Type 1} → statement M
+gone_on_spec =
     tie.close
     (tie.spec
     repriced-requires

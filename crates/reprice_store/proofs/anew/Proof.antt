@@ -25,23 +25,22 @@ S s =
     let a = s.args in
     state_in a.numbers.now a.doubles.now a.factor_numbers.now a.factor_coeffs.now a.at
 
-abbrev entry : tie.After-factor-now → tie.Start
+abbrev entry : tie.After-factor_now-factored → tie.Start
 entry d = search
 
 -- the factor as the arrays hold it
-abbrev factor : tie.After-factor-now → Factor
+abbrev factor : tie.After-factor_now-factored → Factor
 factor d =
-    let l = d.factor-now.new.1.1.1.1.1.1 in
-    factor_at (length (entry d).args.kept.now) l.0 l.1.0 l.1.1.0 l.1.1.1.0 l.1.1.1.1.0
-    l.1.1.1.1.1.0 l.1.1.1.1.1.1.0 l.1.1.1.1.1.1.1.0
-    l.1.1.1.1.1.1.1.1.0
+    let l = d.factor_now-factored.new in
+    factor_at (length (entry d).args.kept.now) l.order l.number l.lstarts l.ustarts l.diag
+    l.lrows l.lvals l.urows l.uvals
 
 -- the answer, with the arrays beside it
-told : (d : tie.After-factor-now) {r : Ended} → d.factor-now.result ≡ r
-    → factor_in d.factor-now.result (λ _. factor d) ≡ factor_in r (λ _. factor d)
+told : (d : tie.After-factor_now-factored) {r : Ended} → d.factor_now-factored.result ≡ r
+    → factor_in d.factor_now-factored.result (λ _. factor d) ≡ factor_in r (λ _. factor d)
 told d e = ap (λ r. factor_in r (λ _. factor d)) e
 
-module _ (d : tie.After-factor-now) (starts cols : List ℕ) (coeffs : List Float)
+module _ (d : tie.After-factor_now-factored) (starts cols : List ℕ) (coeffs : List Float)
     (m : let a = (entry d).args in
     ByColumns (rowed a.n starts cols coeffs a.kept.now) a.cstarts.now a.crows.now
     a.ccoeffs.now) where
@@ -51,81 +50,81 @@ module _ (d : tie.After-factor-now) (starts cols : List ℕ) (coeffs : List Floa
   abbrev Q : Problem
   Q = priced_of s.args.n s.args.costs.now starts cols coeffs s.args.kept.now
 
-  ends : factor_in d.factor-now.result (λ _. factor d) ≡ factorize (length s.args.kept.now) (basis_now Q (S s))
-  ends = d.factor-now.ensures ∙ factor_is s.pre starts cols coeffs m
+  ends : factor_in d.factor_now-factored.result (λ _. factor d) ≡ factorize (length s.args.kept.now) (basis_now Q (S s))
+  ends = d.factor_now-factored.ensures ∙ factor_is s.requires starts cols coeffs m
 
-sub-factor-now : tie.Need-overflow-sub-factor-now
+sub-factor-now : tie.Need-slice_bounds-factor_now-count
 sub-factor-now c = search rules
 
-part-factor-now-start : tie.Need-slice-bounds-factor-now-start
+part-factor-now-start : tie.Need-slice_bounds-factor_now-start
 part-factor-now-start c = search rules
 
-part-factor-now-end : tie.Need-slice-bounds-factor-now-end
+part-factor-now-end : tie.Need-slice_bounds-factor_now-end
 part-factor-now-end c = search rules
 
-factor-now-requires : tie.Need-factor-now-requires
+factor-now-requires : tie.Need-factor_now-factored-requires
 factor-now-requires c κs =
     let s : tie.Start = search in
-    ((rows_most s.pre, basics_long s.pre, basis_asks s.pre), refl)
+    ((rows_most s.requires, basics_long s.requires, basis_asks s.requires), refl)
 
-enum_told : tie.Need-enum-told
+enum_told : tie.Need-enum_told-1
 enum_told c = search rules
 
-same_length : tie.Need-same-length
+same_length : tie.Need-shape_of-numbers-in-NotFinite
 same_length c = search rules
 
-returns : tie.Need-returns
+returns : tie.Need-returns-in-NotFinite
 returns c starts cols coeffs m =
-    let d : tie.After-factor-now = search in
-    let w : tie.After-enum-told = search in
+    let d : tie.After-factor_now-factored = search in
+    let w : tie.In-NotFinite = search in
     anew_wild (Q d starts cols coeffs m) (S (entry d)) _ (ends d starts cols coeffs m)
-    (told d w.enum_told.given.1)
+    (told d w.in-NotFinite.is)
 
-enum-told-2 : tie.Need-enum-told-2
+enum-told-2 : tie.Need-enum_told-in-Singular
 enum-told-2 c = search rules
 
-same-length-2 : tie.Need-same-length-2
+same-length-2 : tie.Need-shape_of-numbers-in-Singular
 same-length-2 c = search rules
 
-returns-2 : tie.Need-returns-2
+returns-2 : tie.Need-returns-in-Singular
 returns-2 c starts cols coeffs m =
-    let d : tie.After-factor-now = search in
-    let w : tie.After-enum-told2 = search in
+    let d : tie.After-factor_now-factored = search in
+    let w : tie.In-Singular = search in
     anew_flat (Q d starts cols coeffs m) (S (entry d)) _ (ends d starts cols coeffs m)
-    (told d w.enum-told2.given.1)
+    (told d w.in-Singular.is)
 
-enum-told-3 : tie.Need-enum-told-3
+enum-told-3 : tie.Need-enum_told-in-Done
 enum-told-3 c = search rules
 
-with-factor-requires : tie.Need-with-factor-requires
+with-factor-requires : tie.Need-with_factor-requires
 with-factor-requires c κs =
-    let d : tie.After-factor-now = search in
-    let w : tie.After-enum-told3 = search in
-    ((entry d).pre, sym (told d w.enum-told3.given.1) ∙ d.factor-now.ensures)
+    let d : tie.After-factor_now-factored = search in
+    let w : tie.In-Done = search in
+    ((entry d).requires, sym (told d w.in-Done.is) ∙ d.factor_now-factored.ensures)
 
-same-length-3 : tie.Need-same-length-3
+same-length-3 : tie.Need-shape_of-numbers-in-Done
 same-length-3 c = search rules
 
-same-length-4 : tie.Need-same-length-4
+same-length-4 : tie.Need-shape_of-doubles-in-Done
 same-length-4 c = search rules
 
-same-length-5 : tie.Need-same-length-5
+same-length-5 : tie.Need-shape_of-factor_numbers-in-Done
 same-length-5 c = search rules
 
-same-length-6 : tie.Need-same-length-6
+same-length-6 : tie.Need-shape_of-factor_coeffs-in-Done
 same-length-6 c = search rules
 
-returns-3 : tie.Need-returns-3
+returns-3 : tie.Need-returns-in-Done
 returns-3 c starts cols coeffs m =
-    let z : tie.After-with-factor = search in
-    let w : tie.After-enum-told3 = search in
-    let d : tie.After-factor-now = search in
+    let z : tie.After-with_factor = search in
+    let w : tie.In-Done = search in
+    let d : tie.After-factor_now-factored = search in
     anew_on (Q d starts cols coeffs m) (S (entry d)) _ (ends d starts cols coeffs m) (factor d)
-    (told d w.enum-told3.given.1)
+    (told d w.in-Done.is)
     (z.with_factor.ensures starts cols coeffs m)
 
-pub anew-spec : {M : Type 1} → statement M
-anew-spec =
+pub anew_spec : {M : Type 1} → statement M
+anew_spec =
     tie.close
     (tie.spec
     sub-factor-now

@@ -36,19 +36,19 @@ factor s =
     a.diag.now a.lrows.now a.lvals.now a.urows.now a.uvals.now
 
 -- the way back
-abbrev solved : tie.After-priced → tie.After-multipliers-now
+abbrev solved : tie.After-priced-own → tie.After-multipliers_now
 solved q = search
 
-abbrev entry : tie.After-multipliers-now → tie.Start
+abbrev entry : tie.After-multipliers_now → tie.Start
 entry k = search
 
-abbrev Y : tie.After-multipliers-now → List Float
-Y k = k.multipliers_now.new.1.1.1.1.1.1.1.1.1.1.1.1.0
+abbrev Y : tie.After-multipliers_now → List Float
+Y k = k.multipliers_now.new.out
 
-abbrev E : tie.After-priced → List Float
-E q = q.priced.new.1.0
+abbrev E : tie.After-priced-own → List Float
+E q = q.priced-own.new.doubles
 
-module _ (q : tie.After-priced) (starts cols : List ℕ) (coeffs : List Float)
+module _ (q : tie.After-priced-own) (starts cols : List ℕ) (coeffs : List Float)
     (m : let a = (entry (solved q)).args in
     ByColumns (rowed a.n starts cols coeffs a.kept.now) a.cstarts.now a.crows.now
     a.ccoeffs.now) where
@@ -59,98 +59,98 @@ module _ (q : tie.After-priced) (starts cols : List ℕ) (coeffs : List Float)
   Q = priced_of s.args.n s.args.costs.now starts cols coeffs s.args.kept.now
 
   mults : Y (solved q) ≡ multipliers Q (factored_now (S s) (factor s))
-  mults = (solved q).multipliers_now.ensures ∙ multipliers_now s.pre.0 s.pre.1 starts cols coeffs
+  mults = (solved q).multipliers_now.ensures ∙ multipliers_now s.requires.0 s.requires.1 starts cols coeffs
 
   -- what is told, with the arrays as the pricing leaves them
   abbrev leaves : Own → Left
   leaves r = let a = s.args in own_left r a.numbers.now (E q) a.factor_numbers.now a.factor_coeffs.now
 
-  left : (r : Own) → q.priced.result ≡ r → leaves r
+  left : (r : Own) → q.priced-own.result ≡ r → leaves r
       ≡ after_own (S s) (priced_if (priced_finite Q (S s) (Y (solved q))) Q (S s) (Y (solved q)))
   left r e =
       ap leaves (sym e)
-      ∙ q.priced.ensures starts cols coeffs m s.args.factor_numbers.now s.args.factor_coeffs.now
+      ∙ q.priced-own.ensures starts cols coeffs m s.args.factor_numbers.now s.args.factor_coeffs.now
 
-sub-multipliers-now : tie.Need-overflow-sub-multipliers-now
+sub-multipliers-now : tie.Need-slice_bounds-multipliers_now-count
 sub-multipliers-now c = search rules
 
-part-multipliers-now-start : tie.Need-slice-bounds-multipliers-now-start
+part-multipliers-now-start : tie.Need-slice_bounds-multipliers_now-start
 part-multipliers-now-start c = search rules
 
-part-multipliers-now-end : tie.Need-slice-bounds-multipliers-now-end
+part-multipliers-now-end : tie.Need-slice_bounds-multipliers_now-end
 part-multipliers-now-end c = search rules
 
-multipliers-now-requires : tie.Need-multipliers-now-requires
+multipliers-now-requires : tie.Need-multipliers_now-requires
 multipliers-now-requires c κs =
     let s : tie.Start = search in
-    let pb = s.pre.0 in
-    ((rows_most pb, pb.pricing.problem_fits.plan.costs_long, basics_enough pb, refl), solves pb s.pre.1)
+    let pb = s.requires.0 in
+    ((rows_most pb, pb.pricing.problem_fits.plan.costs_long, basics_enough pb, refl), solves pb s.requires.1)
 
-priced-requires : tie.Need-priced-requires
+priced-requires : tie.Need-priced-own-requires
 priced-requires c κs =
-    let k : tie.After-multipliers-now = search in
+    let k : tie.After-multipliers_now = search in
     let s = entry k in
-    (prices_asks s.pre.0, multipliers_long s.pre.0 s.pre.1 k.multipliers_now.ensures)
+    (prices_asks s.requires.0, multipliers_long s.requires.0 s.requires.1 k.multipliers_now.ensures)
 
-enum-known-own : tie.Need-enum-known-own
+enum-known-own : tie.Need-enum_known-own
 enum-known-own c = search rules
 
-same_length : tie.Need-same-length
+same_length : tie.Need-shape_of-numbers-in-Halts
 same_length c = search rules
 
-same-length-2 : tie.Need-same-length-2
+same-length-2 : tie.Need-shape_of-doubles-in-Halts
 same-length-2 c = search rules
 
-returns : tie.Need-returns
+returns : tie.Need-returns-in-Halts
 returns c starts cols coeffs m =
-    let w : tie.After-own = search in
-    let q : tie.After-priced = search in
+    let w : tie.In-Halts = search in
+    let q : tie.After-priced-own = search in
     let s = entry (solved q) in
     with_factor_holds (Q q starts cols coeffs m) (S s) (factor s) (mults q starts cols coeffs m)
-    (left q starts cols coeffs m _ w.own.given.1)
+    (left q starts cols coeffs m _ w.in-Halts.is)
 
-enum-known-own-2 : tie.Need-enum-known-own-2
+enum-known-own-2 : tie.Need-enum_known-own-in-Goes-1
 enum-known-own-2 c = search rules
 
-slice-write-numbers : tie.Need-slice-write-numbers
+slice-write-numbers : tie.Need-bounds-numbers-832
 slice-write-numbers c =
-    let q : tie.After-priced = search in
+    let q : tie.After-priced-own = search in
     omega (arith, (entry (solved q)).requires.0.pricing.sized)
 
 store-requires : tie.Need-store-requires
 store-requires c κs =
-    let q : tie.After-priced = search in
+    let q : tie.After-priced-own = search in
     let s = entry (solved q) in
-    let l = factor_asks s.pre.0 in
-    let x = solves s.pre.0 s.pre.1 in
+    let l = factor_asks s.requires.0 in
+    let x = solves s.requires.0 s.requires.1 in
     ((l.numbers_long, l.coeffs_long), (x.lower_read, x.upper_read))
 
-same-length-3 : tie.Need-same-length-3
+same-length-3 : tie.Need-shape_of-numbers-in-Goes
 same-length-3 c = search rules
 
-same-length-4 : tie.Need-same-length-4
+same-length-4 : tie.Need-shape_of-doubles-in-Goes
 same-length-4 c = search rules
 
-same-length-5 : tie.Need-same-length-5
+same-length-5 : tie.Need-shape_of-factor_numbers-in-Goes
 same-length-5 c = search rules
 
-same-length-6 : tie.Need-same-length-6
+same-length-6 : tie.Need-shape_of-factor_coeffs-in-Goes
 same-length-6 c = search rules
 
-returns-2 : tie.Need-returns-2
+returns-2 : tie.Need-returns-in-Goes
 returns-2 c starts cols coeffs m =
     let z : tie.After-store = search in
-    let w : tie.After-own2 = search in
-    let q : tie.After-priced = search in
+    let w : tie.In-Goes = search in
+    let q : tie.After-priced-own = search in
     let s = entry (solved q) in
     let a = s.args in
-    ap on (stored_state a.numbers.now (E q) a.factor_numbers.now a.factor_coeffs.now w.own2.given.0.0
+    ap on (stored_state a.numbers.now (E q) a.factor_numbers.now a.factor_coeffs.now w.in-Goes.t
     (factor s) z.store.ensures.0 z.store.ensures.1)
     ∙ with_factor_holds (Q q starts cols coeffs m) (S s) (factor s) (mults q starts cols coeffs m)
-    (left q starts cols coeffs m _ w.own2.given.1)
+    (left q starts cols coeffs m _ w.in-Goes.is)
 
-pub with-factor-spec : {M : Type 1} → statement M
-with-factor-spec =
+pub with_factor_spec : {M : Type 1} → statement M
+with_factor_spec =
     tie.close
     (tie.spec
     sub-multipliers-now

@@ -11,38 +11,38 @@ use Rattle.run_dual.proofs.both.Statement.{statement}
 use Rattle.run_dual.proofs.both.Tie as tie
 
 -- the entry, and the arrays as the dual steps leave them
-abbrev entry : tie.After-restore-feasibility → tie.Start
+abbrev entry : tie.After-restore_feasibility-first → tie.Start
 entry r = search
 
-abbrev M : tie.After-restore-feasibility → List ℕ
-M r = r.restore-feasibility.new.0
+abbrev M : tie.After-restore_feasibility-first → List ℕ
+M r = r.restore_feasibility-first.new.numbers
 
-abbrev E : tie.After-restore-feasibility → List Float
-E r = r.restore-feasibility.new.1.0
+abbrev E : tie.After-restore_feasibility-first → List Float
+E r = r.restore_feasibility-first.new.doubles
 
-abbrev H : tie.After-restore-feasibility → List ℕ
-H r = r.restore-feasibility.new.1.1.0
+abbrev H : tie.After-restore_feasibility-first → List ℕ
+H r = r.restore_feasibility-first.new.factor_numbers
 
-abbrev J : tie.After-restore-feasibility → List Float
-J r = r.restore-feasibility.new.1.1.1.0
+abbrev J : tie.After-restore_feasibility-first → List Float
+J r = r.restore_feasibility-first.new.factor_coeffs
 
-restore-feasibility-requires : tie.Need-restore-feasibility-requires
-restore-feasibility-requires c κs = let s : tie.Start = search in (s.pre.0, s.pre.1)
+restore-feasibility-requires : tie.Need-restore_feasibility-first-requires
+restore-feasibility-requires c κs = let s : tie.Start = search in (s.requires.0, s.requires.1)
 
-enum_told : tie.Need-enum-told
+enum_told : tie.Need-enum_told-1
 enum_told c = search rules
 
-same_length : tie.Need-same-length
-same_length c = let r : tie.After-restore-feasibility = search in r.restore-feasibility.kept.0
+same_length : tie.Need-shape_of-numbers-in_default
+same_length c = let r : tie.After-restore_feasibility-first = search in r.restore_feasibility-first.auto.numbers
 
-same-length-2 : tie.Need-same-length-2
-same-length-2 c = let r : tie.After-restore-feasibility = search in r.restore-feasibility.kept.1.0
+same-length-2 : tie.Need-shape_of-doubles-in_default
+same-length-2 c = let r : tie.After-restore_feasibility-first = search in r.restore_feasibility-first.auto.doubles
 
-same-length-3 : tie.Need-same-length-3
-same-length-3 c = let r : tie.After-restore-feasibility = search in r.restore-feasibility.kept.1.1.0
+same-length-3 : tie.Need-shape_of-factor_numbers-in_default
+same-length-3 c = let r : tie.After-restore_feasibility-first = search in r.restore_feasibility-first.auto.factor_numbers
 
-same-length-4 : tie.Need-same-length-4
-same-length-4 c = let r : tie.After-restore-feasibility = search in r.restore-feasibility.kept.1.1.1.0
+same-length-4 : tie.Need-shape_of-factor_coeffs-in_default
+same-length-4 c = let r : tie.After-restore_feasibility-first = search in r.restore_feasibility-first.auto.factor_coeffs
 
 -- the arm is that of the five other ends
 abbrev is : ℕ → Type 0
@@ -53,57 +53,57 @@ other_kind =
     ⊎_elim (λ h. omega (arith, h))
     (⊎_elim (λ h. omega (arith, h)) (⊎_elim (λ h. omega (arith, h)) (⊎_elim (λ h. omega (arith, h)) (λ h. omega (arith, h)))))
 
-returns : tie.Need-returns
+returns : tie.Need-returns-in_default
 returns c =
-    let r : tie.After-restore-feasibility = search in
+    let r : tie.After-restore_feasibility-first = search in
     let s = entry r in
-    both_ends s.pre.0 s.args.budget _ (M r) (E r) (H r) (J r) r.restore-feasibility.ensures
-    (λ q. other_kind (rw q at c.match.keys2))
+    both_ends s.requires.0 s.args.budget _ (M r) (E r) (H r) (J r) r.restore_feasibility-first.ensures
+    (λ q. other_kind (rw q at c.in_default.in_default-own.keys2))
 
 optimize-requires : tie.Need-optimize-requires
 optimize-requires c κs =
-    let r : tie.After-restore-feasibility = search in
+    let r : tie.After-restore_feasibility-first = search in
     let s = entry r in (
-      runs_on s.pre.0 s.args.budget _ (M r) (E r) (H r) (J r) r.restore-feasibility.ensures
-          r.restore-feasibility.kept.0 r.restore-feasibility.kept.1.0,
-      s.pre.1,
+      runs_on s.requires.0 s.args.budget _ (M r) (E r) (H r) (J r) r.restore_feasibility-first.ensures
+          r.restore_feasibility-first.auto.numbers r.restore_feasibility-first.auto.doubles,
+      s.requires.1,
     )
 
-same-length-5 : tie.Need-same-length-5
+same-length-5 : tie.Need-shape_of-numbers
 same-length-5 c =
-    let r : tie.After-restore-feasibility = search in
+    let r : tie.After-restore_feasibility-first = search in
     let o : tie.After-optimize = search in
-    o.optimize.kept.0 ∙ r.restore-feasibility.kept.0
+    o.optimize.auto.numbers ∙ r.restore_feasibility-first.auto.numbers
 
-same-length-6 : tie.Need-same-length-6
+same-length-6 : tie.Need-shape_of-doubles
 same-length-6 c =
-    let r : tie.After-restore-feasibility = search in
+    let r : tie.After-restore_feasibility-first = search in
     let o : tie.After-optimize = search in
-    o.optimize.kept.1.0 ∙ r.restore-feasibility.kept.1.0
+    o.optimize.auto.doubles ∙ r.restore_feasibility-first.auto.doubles
 
-same-length-7 : tie.Need-same-length-7
+same-length-7 : tie.Need-shape_of-factor_numbers
 same-length-7 c =
-    let r : tie.After-restore-feasibility = search in
+    let r : tie.After-restore_feasibility-first = search in
     let o : tie.After-optimize = search in
-    o.optimize.kept.1.1.0 ∙ r.restore-feasibility.kept.1.1.0
+    o.optimize.auto.factor_numbers ∙ r.restore_feasibility-first.auto.factor_numbers
 
-same-length-8 : tie.Need-same-length-8
+same-length-8 : tie.Need-shape_of-factor_coeffs
 same-length-8 c =
-    let r : tie.After-restore-feasibility = search in
+    let r : tie.After-restore_feasibility-first = search in
     let o : tie.After-optimize = search in
-    o.optimize.kept.1.1.1.0 ∙ r.restore-feasibility.kept.1.1.1.0
+    o.optimize.auto.factor_coeffs ∙ r.restore_feasibility-first.auto.factor_coeffs
 
-returns-2 : tie.Need-returns-2
+returns-2 : tie.Need-returns
 returns-2 c =
-    let r : tie.After-restore-feasibility = search in
+    let r : tie.After-restore_feasibility-first = search in
     let o : tie.After-optimize = search in
-    let f : tie.After-enum-told = search in
+    let f : tie.In-Finished = search in
     let s = entry r in
-    both_goes s.pre.0 s.args.budget _ (M r) (E r) (H r) (J r) r.restore-feasibility.ensures
-    f.enum_told.given.1 _ o.optimize.ensures
+    both_goes s.requires.0 s.args.budget _ (M r) (E r) (H r) (J r) r.restore_feasibility-first.ensures
+    f.in-Finished.is _ o.optimize.ensures
 
-pub both-spec : {M : Type 1} → statement M
-both-spec =
+pub both_spec : {M : Type 1} → statement M
+both_spec =
     tie.close
     (tie.spec
     restore-feasibility-requires

@@ -32,84 +32,84 @@ abbrev G : tie.Start → List Float
 G s = s.args.factor_coeffs.now
 
 -- the way back
-abbrev start : tie.After-write-start → tie.Start
+abbrev start : tie.After-write_start → tie.Start
 start c = search
 
-abbrev wrote : tie.After-dual-feasible → tie.After-write-start
+abbrev wrote : tie.After-dual_feasible-dual → tie.After-write_start
 wrote c = search
 
 -- the arrays with the first state
-abbrev M : tie.After-write-start → List ℕ
-M c = c.write_start.new.1.1.1.1.1.1.1.1.0
+abbrev M : tie.After-write_start → List ℕ
+M c = c.write_start.new.numbers
 
-abbrev E : tie.After-write-start → List Float
-E c = c.write_start.new.1.1.1.1.1.1.1.1.1.0
+abbrev E : tie.After-write_start → List Float
+E c = c.write_start.new.doubles
 
-abbrev at : tie.After-write-start → Tally
+abbrev at : tie.After-write_start → Tally
 at c =
     record { eta_count = 0; objective = (start c).args.objective; steps = 0; factored = false; factorings = 0 }
 
-sized : (c : tie.After-write-start) → Sized (M c) (E c)
+sized : (c : tie.After-write_start) → Sized (M c) (E c)
 sized c =
     let z = (start c).requires.sized in
-    record { numbers_long = c.write_start.auto.1.1.1.1.1.1.1.1.0 ∙ z.numbers_long; doubles_long = c.write_start.auto.1.1.1.1.1.1.1.1.1.0 ∙ z.doubles_long }
+    record { numbers_long = c.write_start.auto.numbers ∙ z.numbers_long; doubles_long = c.write_start.auto.doubles ∙ z.doubles_long }
 
-first : (c : tie.After-write-start)
+first : (c : tie.After-write_start)
     → let s = start c in state_in (M c) (E c) (F s) (G s) (at c) ≡ first_state (P s) (u s) (w s) (F s) (G s)
 first c =
     let s = start c in
     ap (λ (x : Workspace). state_with x 0 s.args.objective 0 (factored_of false 0 (F s) (G s))) c.write_start.ensures
 
-write-start-requires : tie.Need-write-start-requires
+write-start-requires : tie.Need-write_start-requires
 write-start-requires c κs =
     let at-start : tie.Start = search in
-    let p = at-start.pre in
+    let p = at-start.requires in
     ((p.columns_most, p.rows_most, p.columns, p.scratch), p.sized)
 
-dual-feasible-requires : tie.Need-dual-feasible-requires
+dual-feasible-requires : tie.Need-dual_feasible-dual-requires
 dual-feasible-requires c κs =
     let at-start : tie.Start = search in
-    at-start.pre.columns
+    at-start.requires.columns
 
-go-on-requires : tie.Need-go-on-requires
+go-on-requires : tie.Need-go_on-requires
 go-on-requires c κs =
-    let x : tie.After-write-start = search in
-    let p = (start x).pre in
+    let x : tie.After-write_start = search in
+    let p = (start x).requires in
     (p.ready (M x) (E x) (at x) (sized x) (first x), p.budget_most)
 
-same_length : tie.Need-same-length
+same_length : tie.Need-shape_of-numbers
 same_length c =
-    let at-go-on : tie.After-go-on = search in
-    let at-write-start : tie.After-write-start = search in
-    at-go-on.go_on.kept.0 ∙ at-write-start.write_start.kept.1.1.1.1.1.1.1.1.0
+    let at-go-on : tie.After-go_on = search in
+    let at-write-start : tie.After-write_start = search in
+    at-go-on.go_on.auto.numbers ∙ at-write-start.write_start.auto.numbers
 
-same-length-2 : tie.Need-same-length-2
+same-length-2 : tie.Need-shape_of-doubles
 same-length-2 c =
-    let at-go-on : tie.After-go-on = search in
-    let at-write-start : tie.After-write-start = search in
-    at-go-on.go_on.kept.1.0 ∙ at-write-start.write_start.kept.1.1.1.1.1.1.1.1.1.0
+    let at-go-on : tie.After-go_on = search in
+    let at-write-start : tie.After-write_start = search in
+    at-go-on.go_on.auto.doubles ∙ at-write-start.write_start.auto.doubles
 
-same-length-3 : tie.Need-same-length-3
+same-length-3 : tie.Need-shape_of-factor_numbers
 same-length-3 c =
-    let at-go-on : tie.After-go-on = search in
-    at-go-on.go_on.kept.1.1.0
+    let at-go-on : tie.After-go_on = search in
+    at-go-on.go_on.auto.factor_numbers
 
-same-length-4 : tie.Need-same-length-4
+same-length-4 : tie.Need-shape_of-factor_coeffs
 same-length-4 c =
-    let at-go-on : tie.After-go-on = search in
-    at-go-on.go_on.kept.1.1.1.0
+    let at-go-on : tie.After-go_on = search in
+    at-go-on.go_on.auto.factor_coeffs
 
 returns : tie.Need-returns
 returns c =
-    let g : tie.After-go-on = search in
-    let d : tie.After-dual-feasible = search in
+    let g : tie.After-go_on = search in
+    let d : tie.After-dual_feasible-dual = search in
     let x = wrote d in
     let s = start x in
     ends_after (P s) s.args.budget (u s) (w s) (M x) (E x) (F s) (G s) (at x) (first x) _
-    (d.dual-feasible.ensures ∙ sym (dual_part (P s).plan)) _ g.go_on.ensures
+    (d.dual_feasible-dual.ensures ∙ sym (dual_part (P s).plan)) _ g.go_on.ensures
 
-pub launch-spec : {M : Type 1} → statement M
-launch-spec =
+pub launch_spec : {M : Type 1} → statement M
+launch_spec =
     tie.close
     (tie.spec
     write-start-requires

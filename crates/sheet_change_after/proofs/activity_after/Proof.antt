@@ -14,120 +14,120 @@ use Rattle.sheet_change_after.proofs.activity_after.Statement.{statement}
 use Rattle.sheet_change_after.proofs.activity_after.Tie as tie
 
 abbrev plan : tie.Start → Plan
-plan s = plan_of s.args.rows s.args.columns s.args.coefs.now s.args.costs.now s.args.lowers.now s.args.uppers.now s.args.lower-marks.now s.args.upper-marks.now s.args.rhs.now s.args.ops.now s.args.amounts.now s.args.mults.now
+plan s = plan_of s.args.rows s.args.columns s.args.coefs.now s.args.costs.now s.args.lowers.now s.args.uppers.now s.args.lower_marks.now s.args.upper_marks.now s.args.rhs.now s.args.ops.now s.args.amounts.now s.args.mults.now
 
 -- kind 1
-module _ (c : tie.At-match-keys1) where
+module _ (c : tie.In-1) where
   abbrev s₁ : tie.Start
   s₁ = c.before
 
   column₁ : s₁.args.e.column < s₁.args.columns
-  column₁ = s₁.pre.0.ready.index.column_in_holds (rw c.match.keys1)
+  column₁ = s₁.requires.0.ready.index.column_in_holds (rw c.in-1.is)
 
   inside₁ : s₁.args.i * s₁.args.columns + s₁.args.e.column < s₁.args.rows * s₁.args.columns
-  inside₁ = place_in s₁.args.i s₁.args.rows s₁.args.e.column s₁.args.columns s₁.pre.1 column₁
+  inside₁ = place_in s₁.args.i s₁.args.rows s₁.args.e.column s₁.args.columns s₁.requires.1 column₁
 
   abbrev by : E
-  by = sub (num s₁.args.e.number max_amount (s₁.pre.0.ready.number.amount_in c.match.keys1)) (num (s₁.args.amounts.now ‼ s₁.args.e.column) max_amount (s₁.pre.0.ready.sound.arrays_in.amounts_in s₁.args.e.column column₁))
+  by = sub (num s₁.args.e.number max_amount (s₁.requires.0.ready.number.amount_in c.in-1.is)) (num (s₁.args.amounts.now ‼ s₁.args.e.column) max_amount (s₁.requires.0.ready.sound.arrays_in.amounts_in s₁.args.e.column column₁))
 
   abbrev product : E
-  product = mul (num (s₁.args.coefs.now ‼ (s₁.args.i * s₁.args.columns + s₁.args.e.column)) max_coefficient (s₁.pre.0.ready.sound.column_in_holds (rw c.match.keys1) s₁.args.i s₁.pre.1)) by
+  product = mul (num (s₁.args.coefs.now ‼ (s₁.args.i * s₁.args.columns + s₁.args.e.column)) max_coefficient (s₁.requires.0.ready.sound.column_in_holds (rw c.in-1.is) s₁.args.i s₁.requires.1)) by
 
   abbrev moved : E
-  moved = add (num s₁.args.old max_r s₁.pre.2) product
+  moved = add (num s₁.args.old max_r s₁.requires.2) product
 
 -- kind 6, at its row
-module _ (c : tie.Then1) where
+module _ (c : tie.Then-i-e) where
   abbrev s₆ : tie.Start
   s₆ = c.before.before.before
 
   column₆ : s₆.args.e.column < s₆.args.columns
-  column₆ = s₆.pre.0.ready.index.column_in_holds (rw c.before.before.match.keys2)
+  column₆ = s₆.requires.0.ready.index.column_in_holds (rw c.in-6.is)
 
   inside₆ : s₆.args.i * s₆.args.columns + s₆.args.e.column < s₆.args.rows * s₆.args.columns
-  inside₆ = place_in s₆.args.i s₆.args.rows s₆.args.e.column s₆.args.columns s₆.pre.1 column₆
+  inside₆ = place_in s₆.args.i s₆.args.rows s₆.args.e.column s₆.args.columns s₆.requires.1 column₆
 
   abbrev by₆ : E
-  by₆ = sub (num s₆.args.e.number max_coefficient (s₆.pre.0.ready.number.coef_in c.before.before.match.keys2)) (num (s₆.args.coefs.now ‼ (s₆.args.i * s₆.args.columns + s₆.args.e.column)) max_coefficient (s₆.pre.0.ready.sound.column_in_holds (rw c.before.before.match.keys2) s₆.args.i s₆.pre.1))
+  by₆ = sub (num s₆.args.e.number max_coefficient (s₆.requires.0.ready.number.coef_in c.in-6.is)) (num (s₆.args.coefs.now ‼ (s₆.args.i * s₆.args.columns + s₆.args.e.column)) max_coefficient (s₆.requires.0.ready.sound.column_in_holds (rw c.in-6.is) s₆.args.i s₆.requires.1))
 
   abbrev product₆ : E
-  product₆ = mul by₆ (num (s₆.args.amounts.now ‼ s₆.args.e.column) max_amount (s₆.pre.0.ready.sound.arrays_in.amounts_in s₆.args.e.column column₆))
+  product₆ = mul by₆ (num (s₆.args.amounts.now ‼ s₆.args.e.column) max_amount (s₆.requires.0.ready.sound.arrays_in.amounts_in s₆.args.e.column column₆))
 
   abbrev moved₆ : E
-  moved₆ = add (num s₆.args.old max_r s₆.pre.2) product₆
+  moved₆ = add (num s₆.args.old max_r s₆.requires.2) product₆
 
 -- elsewhere
 same : (s : tie.Start) → row_change (plan s) s.args.e s.args.i ≡ pos 0 → word s.args.old ≡ s.args.old +ℤ row_change (plan s) s.args.e s.args.i
 same s z = of_word s.ranges.old ∙ sym (ap (λ (t : ℤ). s.args.old +ℤ t) z ∙ +ℤ_idr s.args.old)
 
-mul-result : tie.Need-overflow-mul-result
-mul-result c = omega (arith, inside₁ c, column₁ c, c.before.requires.0.ready.sized)
+mul-result : tie.Need-overflow_mul-result
+mul-result c = omega (arith, inside₁ c, column₁ c, c.requires.0.ready.sized)
 
-add-result : tie.Need-overflow-add-result
-add-result c = omega (arith, inside₁ c, column₁ c, c.before.requires.0.ready.sized)
+add-result : tie.Need-overflow_add-result
+add-result c = omega (arith, inside₁ c, column₁ c, c.requires.0.ready.sized)
 
-mul-result-2 : tie.Need-overflow-mul-result-2
-mul-result-2 c = omega (arith, inside₁ c, column₁ c, c.before.requires.0.ready.sized)
+mul-result-2 : tie.Need-offset_bounds-coefs-i
+mul-result-2 c = omega (arith, inside₁ c, column₁ c, c.requires.0.ready.sized)
 
-shared-slice-copy-out-result : tie.Need-shared-slice-copy-out-result
-shared-slice-copy-out-result c = omega (arith, inside₁ c, column₁ c, c.before.requires.0.ready.sized)
+shared-slice-copy-out-result : tie.Need-bounds-coefs-i
+shared-slice-copy-out-result c = omega (arith, inside₁ c, column₁ c, c.requires.0.ready.sized)
 
-mul-result-3 : tie.Need-overflow-mul-result-3
-mul-result-3 c = omega (arith, inside₁ c.before, column₁ c.before, c.before.before.requires.0.ready.sized)
+mul-result-3 : tie.Need-offset_bounds-amounts-j
+mul-result-3 c = omega (arith, inside₁ c.before, column₁ c.before, c.requires.0.ready.sized)
 
-shared-slice-copy-out-result-2 : tie.Need-shared-slice-copy-out-result-2
-shared-slice-copy-out-result-2 c = omega (arith, inside₁ c.before, column₁ c.before, c.before.before.requires.0.ready.sized)
+shared-slice-copy-out-result-2 : tie.Need-bounds-amounts-j
+shared-slice-copy-out-result-2 c = omega (arith, inside₁ c.before, column₁ c.before, c.requires.0.ready.sized)
 
-sub-result : tie.Need-overflow-sub-result
+sub-result : tie.Need-overflow_sub-result
 sub-result c = fit (by c.before.before.before.before) tt
 
-mul-result-4 : tie.Need-overflow-mul-result-4
+mul-result-4 : tie.Need-overflow_mul-result-in-1
 mul-result-4 c = fit (product c.before.before.before.before) tt
 
-add-result-2 : tie.Need-overflow-add-result-2
+add-result-2 : tie.Need-overflow_add-result-in-1
 add-result-2 c = fit (moved c.before.before.before.before) tt
 
-mul-result-5 : tie.Need-overflow-mul-result-5
-mul-result-5 c = omega (arith, inside₆ c, column₆ c, c.before.before.before.requires.0.ready.sized)
+mul-result-5 : tie.Need-overflow_mul-result-then-i-e
+mul-result-5 c = omega (arith, inside₆ c, column₆ c, c.requires.0.ready.sized)
 
-add-result-3 : tie.Need-overflow-add-result-3
-add-result-3 c = omega (arith, inside₆ c, column₆ c, c.before.before.before.requires.0.ready.sized)
+add-result-3 : tie.Need-overflow_add-result-then-i-e
+add-result-3 c = omega (arith, inside₆ c, column₆ c, c.requires.0.ready.sized)
 
-mul-result-6 : tie.Need-overflow-mul-result-6
-mul-result-6 c = omega (arith, inside₆ c, column₆ c, c.before.before.before.requires.0.ready.sized)
+mul-result-6 : tie.Need-offset_bounds-coefs-i-then-i-e
+mul-result-6 c = omega (arith, inside₆ c, column₆ c, c.requires.0.ready.sized)
 
-shared-slice-copy-out-result-3 : tie.Need-shared-slice-copy-out-result-3
-shared-slice-copy-out-result-3 c = omega (arith, inside₆ c, column₆ c, c.before.before.before.requires.0.ready.sized)
+shared-slice-copy-out-result-3 : tie.Need-bounds-coefs-i-then-i-e
+shared-slice-copy-out-result-3 c = omega (arith, inside₆ c, column₆ c, c.requires.0.ready.sized)
 
-sub-result-2 : tie.Need-overflow-sub-result-2
+sub-result-2 : tie.Need-overflow_sub-result-then-i-e
 sub-result-2 c = fit (by₆ c.before.before.before) tt
 
-mul-result-7 : tie.Need-overflow-mul-result-7
-mul-result-7 c = omega (arith, inside₆ c.before.before.before, column₆ c.before.before.before, c.before.before.before.before.before.before.requires.0.ready.sized)
+mul-result-7 : tie.Need-offset_bounds-amounts-j-then-i-e
+mul-result-7 c = omega (arith, inside₆ c.before.before.before, column₆ c.before.before.before, c.requires.0.ready.sized)
 
-shared-slice-copy-out-result-4 : tie.Need-shared-slice-copy-out-result-4
-shared-slice-copy-out-result-4 c = omega (arith, inside₆ c.before.before.before, column₆ c.before.before.before, c.before.before.before.before.before.before.requires.0.ready.sized)
+shared-slice-copy-out-result-4 : tie.Need-bounds-amounts-j-then-i-e
+shared-slice-copy-out-result-4 c = omega (arith, inside₆ c.before.before.before, column₆ c.before.before.before, c.requires.0.ready.sized)
 
-mul-result-8 : tie.Need-overflow-mul-result-8
+mul-result-8 : tie.Need-overflow_mul-result-then-i-e-2
 mul-result-8 c = fit (product₆ c.before.before.before.before) tt
 
-add-result-4 : tie.Need-overflow-add-result-4
+add-result-4 : tie.Need-overflow_add-result-then-i-e-2
 add-result-4 c = fit (moved₆ c.before.before.before.before) tt
 
-returns : tie.Need-returns
-returns c = let s = c.before.before.before.before.before in exact (moved c.before.before.before.before) tt ∙ ap (λ (t : ℤ). s.args.old +ℤ t) (sym (row_1 (plan s) s.args.e s.requires.0 c.before.before.before.before.match.keys1 s.args.i))
+returns : tie.Need-returns-in-1
+returns c = let s = c.before.before.before.before.before in exact (moved c.before.before.before.before) tt ∙ ap (λ (t : ℤ). s.args.old +ℤ t) (sym (row_1 (plan s) s.args.e s.requires.0 c.in-1.is s.args.i))
 
-returns-2 : tie.Need-returns-2
-returns-2 c = let s = c.before.before.before.before.before.before.before in exact (moved₆ c.before.before.before.before) tt ∙ ap (λ (t : ℤ). s.args.old +ℤ t) (sym (row_6 (plan s) s.args.e s.requires.0 c.before.before.before.before.before.before.match.keys2 s.args.i c.before.before.before.before.if1.true))
+returns-2 : tie.Need-returns-then-i-e
+returns-2 c = let s = c.before.before.before.before.before.before.before in exact (moved₆ c.before.before.before.before) tt ∙ ap (λ (t : ℤ). s.args.old +ℤ t) (sym (row_6 (plan s) s.args.e s.requires.0 c.in-6.is s.args.i c.if-i-e.true))
 
-returns-3 : tie.Need-returns-3
-returns-3 c = let s = c.before.before.before in same s (row_6_other (plan s) s.args.e s.requires.0 c.before.before.match.keys2 s.args.i s.requires.1 c.if1.false)
+returns-3 : tie.Need-returns-else-i-e
+returns-3 c = let s = c.before.before.before in same s (row_6_other (plan s) s.args.e s.requires.0 c.in-6.is s.args.i s.requires.1 c.if-i-e.false)
 
-returns-4 : tie.Need-returns-4
-returns-4 c = let s = c.before in same s (row_rest (plan s) s.args.e s.requires.0 c.match.rest.0.1 c.match.rest.1 s.args.i s.requires.1)
+returns-4 : tie.Need-returns-in_default
+returns-4 c = let s = c.before in same s (row_rest (plan s) s.args.e s.requires.0 c.in_default.in_default-own.rest.0.1 c.in_default.in_default-own.rest.1 s.args.i s.requires.1)
 
-pub activity-after-spec : {M : Type 1} → statement M
-activity-after-spec =
+pub activity_after_spec : {M : Type 1} → statement M
+activity_after_spec =
     tie.close
     (tie.spec
     mul-result

@@ -13,51 +13,51 @@ use Rattle.sheet_change_edit.proofs.both_fine.Statement.{statement}
 use Rattle.sheet_change_edit.proofs.both_fine.Tie as tie
 
 abbrev sheet : tie.Start → Sheet
-sheet s = sheet_of (plan_of s.args.rows s.args.columns s.args.coefs.now s.args.costs.now s.args.lowers.now s.args.uppers.now s.args.lower-marks.now s.args.upper-marks.now s.args.rhs.now s.args.ops.now s.args.amounts.now s.args.mults.now) (kept_of s.args.r.now s.args.d.now s.args.c.now s.args.b.now s.args.counts.now)
+sheet s = sheet_of (plan_of s.args.rows s.args.columns s.args.coefs.now s.args.costs.now s.args.lowers.now s.args.uppers.now s.args.lower_marks.now s.args.upper_marks.now s.args.rhs.now s.args.ops.now s.args.amounts.now s.args.mults.now) (kept_of s.args.r.now s.args.d.now s.args.c.now s.args.b.now s.args.counts.now)
 
-mul-crosses : tie.Need-overflow-mul-crosses
-mul-crosses c = omega (arith, c.before.before.before.before.requires.1.column_in_holds (rw c.if1.true), c.before.before.before.before.requires.0)
+mul-crosses : tie.Need-offset_bounds-uppers-j
+mul-crosses c = omega (arith, c.requires.1.column_in_holds (rw c.if-kind-eq3.true), c.requires.0)
 
-shared-slice-copy-out-crosses : tie.Need-shared-slice-copy-out-crosses
-shared-slice-copy-out-crosses c = omega (arith, c.before.before.before.before.requires.1.column_in_holds (rw c.if1.true), c.before.before.before.before.requires.0)
+shared-slice-copy-out-crosses : tie.Need-bounds-uppers-j
+shared-slice-copy-out-crosses c = omega (arith, c.requires.1.column_in_holds (rw c.if-kind-eq3.true), c.requires.0)
 
-shared-slice-read-crosses : tie.Need-shared-slice-read-crosses
-shared-slice-read-crosses c = omega (arith, c.before.before.before.before.before.before.requires.1.column_in_holds (rw c.before.before.if1.true), c.before.before.before.before.before.before.requires.0)
+shared-slice-read-crosses : tie.Need-bounds-upper_marks-j
+shared-slice-read-crosses c = omega (arith, c.requires.1.column_in_holds (rw c.if-kind-eq3.true), c.requires.0)
 
 crosses-requires : tie.Need-crosses-requires
 crosses-requires c κs = tt
 
-returns : tie.Need-returns
+returns : tie.Need-returns-then-kind-eq3
 returns c =
     let s = c.before.before.before.before.before.before.before.before in
-    let w = c.before.before.before.before.if1.true in
-    let h : c.crosses.result ≡ crosses s.args.e.number (s.args.uppers.now ‼ s.args.e.column) 1 (s.args.upper-marks.now # s.args.e.column) = c.crosses.ensures ∙ rw (exact (num s.args.e.number max_bound (s.requires.2.lower_in w)) tt, result (s.args.uppers.now ‼ s.args.e.column) c.before.before.before.crosses-arg.given) in
+    let w = c.if-kind-eq3.true in
+    let h : c.crosses.result ≡ crosses s.args.e.number (s.args.uppers.now ‼ s.args.e.column) 1 (s.args.upper_marks.now # s.args.e.column) = c.crosses.ensures ∙ rw (exact (num s.args.e.number max_bound (s.requires.2.lower_in w)) tt, result (s.args.uppers.now ‼ s.args.e.column) c.crosses-arg-1.given) in
     ap not h ∙ sym (both_3 (sheet s) s.args.e s.requires.0 s.requires.1 w)
 
-mul-crosses-2 : tie.Need-overflow-mul-crosses-2
-mul-crosses-2 c = omega (arith, c.before.before.before.before.before.requires.1.column_in_holds (rw c.if2.true), c.before.before.before.before.before.requires.0)
+mul-crosses-2 : tie.Need-offset_bounds-lowers-j
+mul-crosses-2 c = omega (arith, c.requires.1.column_in_holds (rw c.if-kind-eq4.true), c.requires.0)
 
-shared-slice-copy-out-crosses-2 : tie.Need-shared-slice-copy-out-crosses-2
-shared-slice-copy-out-crosses-2 c = omega (arith, c.before.before.before.before.before.requires.1.column_in_holds (rw c.if2.true), c.before.before.before.before.before.requires.0)
+shared-slice-copy-out-crosses-2 : tie.Need-bounds-lowers-j
+shared-slice-copy-out-crosses-2 c = omega (arith, c.requires.1.column_in_holds (rw c.if-kind-eq4.true), c.requires.0)
 
-shared-slice-read-crosses-2 : tie.Need-shared-slice-read-crosses-2
-shared-slice-read-crosses-2 c = omega (arith, c.before.before.before.before.before.before.before.requires.1.column_in_holds (rw c.before.before.if2.true), c.before.before.before.before.before.before.before.requires.0)
+shared-slice-read-crosses-2 : tie.Need-bounds-lower_marks-j
+shared-slice-read-crosses-2 c = omega (arith, c.requires.1.column_in_holds (rw c.if-kind-eq4.true), c.requires.0)
 
-crosses-requires-2 : tie.Need-crosses-requires-2
+crosses-requires-2 : tie.Need-crosses-requires-then-kind-eq4
 crosses-requires-2 c κs = tt
 
-returns-2 : tie.Need-returns-2
+returns-2 : tie.Need-returns-then-kind-eq4
 returns-2 c =
     let s = c.before.before.before.before.before.before.before.before.before in
-    let w = c.before.before.before.before.if2.true in
-    let h : c.crosses2.result ≡ crosses (s.args.lowers.now ‼ s.args.e.column) s.args.e.number (s.args.lower-marks.now # s.args.e.column) 1 = c.crosses2.ensures ∙ rw (result (s.args.lowers.now ‼ s.args.e.column) c.before.before.before.crosses-arg2.given, exact (num s.args.e.number max_bound (s.requires.2.upper_in w)) tt) in
+    let w = c.if-kind-eq4.true in
+    let h : c.crosses-then-kind-eq4.result ≡ crosses (s.args.lowers.now ‼ s.args.e.column) s.args.e.number (s.args.lower_marks.now # s.args.e.column) 1 = c.crosses-then-kind-eq4.ensures ∙ rw (result (s.args.lowers.now ‼ s.args.e.column) c.crosses-arg-then-kind-eq4-1.given, exact (num s.args.e.number max_bound (s.requires.2.upper_in w)) tt) in
     ap not h ∙ sym (both_4 (sheet s) s.args.e s.requires.0 s.requires.1 w)
 
-returns-3 : tie.Need-returns-3
-returns-3 c = let s = c.before.before.before.before.before in sym (both_other (sheet s).plan s.args.e c.before.if1.false c.if2.false)
+returns-3 : tie.Need-returns
+returns-3 c = let s = c.before.before.before.before.before in sym (both_other (sheet s).plan s.args.e c.if-kind-eq3.false c.if-kind-eq4.false)
 
-pub both-fine-spec : {M : Type 1} → statement M
-both-fine-spec =
+pub both_fine_spec : {M : Type 1} → statement M
+both_fine_spec =
     tie.close
     (tie.spec
     mul-crosses

@@ -3,20 +3,20 @@ use mathlib.Core.Path.{sym, ◌∙◌}
 use Rattle.sheet_change_edit.proofs.column_sound.Statement.{statement}
 use Rattle.sheet_change_edit.proofs.column_sound.Tie as tie
 
-uses-column-requires : tie.Need-uses-column-requires
+uses-column-requires : tie.Need-uses_column-requires
 uses-column-requires c κs = tt
 
-column-fine-requires : tie.Need-column-fine-requires
-column-fine-requires c κs = let s = c.before.before.before.before.before in (s.requires.0, s.requires.1.column_in_holds (sym c.before.uses-column.ensures ∙ c.if1.true))
+column-fine-requires : tie.Need-column_fine-requires
+column-fine-requires c κs = let s = c.before.before.before.before.before in (s.requires.0, s.requires.1.column_in_holds (sym c.uses_column.ensures ∙ c.if-uses_column.true))
 
-returns : tie.Need-returns
-returns c = rw (sym c.before.before.uses-column.ensures ∙ c.before.if1.true) c.column-fine.ensures
+returns : tie.Need-returns-then-uses_column
+returns c = rw (sym c.uses_column.ensures ∙ c.if-uses_column.true) c.column_fine.ensures
 
-returns-2 : tie.Need-returns-2
-returns-2 c = rw (sym c.before.uses-column.ensures ∙ c.if1.false)
+returns-2 : tie.Need-returns
+returns-2 c = rw (sym c.uses_column.ensures ∙ c.if-uses_column.false)
 
-pub column-sound-spec : {M : Type 1} → statement M
-column-sound-spec =
+pub column_sound_spec : {M : Type 1} → statement M
+column_sound_spec =
     tie.close
     (tie.spec
     uses-column-requires

@@ -3,18 +3,18 @@ use Rattle.sheet_rules.specs.Edit.{index_fine}
 use Rattle.sheet_change_edit.proofs.index_fine.Statement.{statement}
 use Rattle.sheet_change_edit.proofs.index_fine.Tie as tie
 
-uses-column-requires : tie.Need-uses-column-requires
+uses-column-requires : tie.Need-uses_column-requires
 uses-column-requires c κs = tt
 
-uses-row-requires : tie.Need-uses-row-requires
+uses-row-requires : tie.Need-uses_row-requires
 uses-row-requires c κs = tt
 
 returns : tie.Need-returns
 unfolding index_fine
-returns c = rw (c.before.before.before.uses-column.ensures, c.before.uses-row.ensures)
+returns c = rw (c.uses_column.ensures, c.uses_row.ensures)
 
-pub index-fine-spec : {M : Type 1} → statement M
-index-fine-spec =
+pub index_fine_spec : {M : Type 1} → statement M
+index_fine_spec =
     tie.close
     (tie.spec
     uses-column-requires

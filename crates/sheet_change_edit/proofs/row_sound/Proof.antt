@@ -3,20 +3,20 @@ use mathlib.Core.Path.{sym, ◌∙◌}
 use Rattle.sheet_change_edit.proofs.row_sound.Statement.{statement}
 use Rattle.sheet_change_edit.proofs.row_sound.Tie as tie
 
-uses-row-requires : tie.Need-uses-row-requires
+uses-row-requires : tie.Need-uses_row-requires
 uses-row-requires c κs = tt
 
-row-fine-requires : tie.Need-row-fine-requires
-row-fine-requires c κs = let s = c.before.before.before.before.before in (s.requires.0, s.requires.1.row_in (sym c.before.uses-row.ensures ∙ c.if1.true))
+row-fine-requires : tie.Need-row_fine-requires
+row-fine-requires c κs = let s = c.before.before.before.before.before in (s.requires.0, s.requires.1.row_within (sym c.uses_row.ensures ∙ c.if-uses_row.true))
 
-returns : tie.Need-returns
-returns c = rw (sym c.before.before.uses-row.ensures ∙ c.before.if1.true) c.row_fine.ensures
+returns : tie.Need-returns-then-uses_row
+returns c = rw (sym c.uses_row.ensures ∙ c.if-uses_row.true) c.row_fine.ensures
 
-returns-2 : tie.Need-returns-2
-returns-2 c = rw (sym c.before.uses-row.ensures ∙ c.if1.false)
+returns-2 : tie.Need-returns
+returns-2 c = rw (sym c.uses_row.ensures ∙ c.if-uses_row.false)
 
-pub row-sound-spec : {M : Type 1} → statement M
-row-sound-spec =
+pub row_sound_spec : {M : Type 1} → statement M
+row_sound_spec =
     tie.close
     (tie.spec
     uses-row-requires

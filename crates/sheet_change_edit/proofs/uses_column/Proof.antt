@@ -6,8 +6,8 @@ use Rattle.sheet_change_edit.proofs.uses_column.Tie as tie
 returns : tie.Need-returns
 returns c = refl
 
-pub uses-column-spec : {M : Type 1} → statement M
-uses-column-spec =
+pub uses_column_spec : {M : Type 1} → statement M
+uses_column_spec =
     tie.close
     (tie.spec
     returns)

@@ -6,8 +6,8 @@ use Rattle.sheet_change_edit.proofs.uses_row.Tie as tie
 returns : tie.Need-returns
 returns c = refl
 
-pub uses-row-spec : {M : Type 1} → statement M
-uses-row-spec =
+pub uses_row_spec : {M : Type 1} → statement M
+uses_row_spec =
     tie.close
     (tie.spec
     returns)

@@ -13,7 +13,7 @@ bit-requires : tie.Need-bit-requires
 bit-requires c κs = search rules
 
 returns : tie.Need-returns
-returns c = let s = c.before.before in result c.bit.result c.bit.type-inv ∙ c.bit.ensures ∙ ap bit (c.before.outside.ensures ∙ rw (of_word s.ranges.z, of_word s.ranges.low, of_word s.ranges.high))
+returns c = let s = c.before.before in result c.bit.result c.bit.type_inv ∙ c.bit.ensures ∙ ap bit (c.outside.ensures ∙ rw (of_word s.ranges.z, of_word s.ranges.low, of_word s.ranges.high))
 
-pub beyond-spec : {M : Type 1} → statement M
-beyond-spec = tie.close (tie.spec outside-requires bit-requires returns)
+pub beyond_spec : {M : Type 1} → statement M
+beyond_spec = tie.close (tie.spec outside-requires bit-requires returns)

@@ -15,7 +15,7 @@ bit-requires : tie.Need-bit-requires
 bit-requires c κs = search rules
 
 returns : tie.Need-returns
-returns c = let s = c.before.before in let h : c.before.holds.result ≡ holds s.args.op s.args.activity s.args.right = c.before.holds.ensures ∙ rw (of_word s.ranges.activity, of_word s.ranges.right) in result c.bit.result c.bit.type-inv ∙ c.bit.ensures ∙ ap (λ (t : Bool). bit (not t)) h
+returns c = let s = c.before.before in let h : c.holds.result ≡ holds s.args.op s.args.activity s.args.right = c.holds.ensures ∙ rw (of_word s.ranges.activity, of_word s.ranges.right) in result c.bit.result c.bit.type_inv ∙ c.bit.ensures ∙ ap (λ (t : Bool). bit (not t)) h
 
-pub broken-spec : {M : Type 1} → statement M
-broken-spec = tie.close (tie.spec holds-requires bit-requires returns)
+pub broken_spec : {M : Type 1} → statement M
+broken_spec = tie.close (tie.spec holds-requires bit-requires returns)

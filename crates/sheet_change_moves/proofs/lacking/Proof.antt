@@ -13,7 +13,7 @@ bit-requires : tie.Need-bit-requires
 bit-requires c κs = search rules
 
 returns : tie.Need-returns
-returns c = result c.bit.result c.bit.type-inv ∙ c.bit.ensures ∙ ap bit (c.before.lacks.ensures ∙ rw (of_word c.before.before.ranges.d))
+returns c = result c.bit.result c.bit.type_inv ∙ c.bit.ensures ∙ ap bit (c.lacks.ensures ∙ rw (of_word c.ranges.d))
 
-pub lacking-spec : {M : Type 1} → statement M
-lacking-spec = tie.close (tie.spec lacks-requires bit-requires returns)
+pub lacking_spec : {M : Type 1} → statement M
+lacking_spec = tie.close (tie.spec lacks-requires bit-requires returns)

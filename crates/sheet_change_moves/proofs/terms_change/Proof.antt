@@ -20,94 +20,94 @@ use Rattle.sheet_change_moves.proofs.Laws.{fall_size}
 use Rattle.sheet_change_moves.proofs.terms_change.Statement.{statement}
 use Rattle.sheet_change_moves.proofs.terms_change.Tie as tie
 
-abbrev invariant-loop : tie.invariant-loop
+abbrev invariant-loop : tie.invariant-loop-j
 invariant-loop rows columns row by coefs lowers uppers lower-marks upper-marks d total₀ j₀ total j = (j ≤ columns) × (to_z w64 total ≡ sum j (λ k. term (d ‼ k -ℤ coefs ‼ (row * columns + k) *ℤ to_z w64 by) (lowers ‼ k) (uppers ‼ k) (lower-marks # k) (upper-marks # k) -ℤ term (d ‼ k) (lowers ‼ k) (uppers ‼ k) (lower-marks # k) (upper-marks # k)))
 
-abbrev decreases-loop : tie.decreases-loop
+abbrev decreases-loop : tie.decreases-loop-j
 decreases-loop rows columns row by coefs lowers uppers lower-marks upper-marks d total₀ j₀ total j = columns - j
 
 -- the terms, when the move is b
 abbrev terms : tie.Start invariant-loop decreases-loop → ℤ → ℕ → ℤ
-terms s b k = term (s.args.d.now ‼ k -ℤ s.args.coefs.now ‼ (s.args.row * s.args.columns + k) *ℤ b) (s.args.lowers.now ‼ k) (s.args.uppers.now ‼ k) (s.args.lower-marks.now # k) (s.args.upper-marks.now # k) -ℤ term (s.args.d.now ‼ k) (s.args.lowers.now ‼ k) (s.args.uppers.now ‼ k) (s.args.lower-marks.now # k) (s.args.upper-marks.now # k)
+terms s b k = term (s.args.d.now ‼ k -ℤ s.args.coefs.now ‼ (s.args.row * s.args.columns + k) *ℤ b) (s.args.lowers.now ‼ k) (s.args.uppers.now ‼ k) (s.args.lower_marks.now # k) (s.args.upper_marks.now # k) -ℤ term (s.args.d.now ‼ k) (s.args.lowers.now ‼ k) (s.args.uppers.now ‼ k) (s.args.lower_marks.now # k) (s.args.upper_marks.now # k)
 
-module _ (c : tie.In-loop invariant-loop decreases-loop) where
+module _ (c : tie.In-loop-j invariant-loop decreases-loop) where
   abbrev s : tie.Start invariant-loop decreases-loop
   s = c.before.before.before.before
 
   abbrev j : ℕ
-  j = c.before.loop.j
+  j = c.loop-j.j
 
   -- this column's coefficient is there
   inside : s.args.row * s.args.columns + j < length s.args.coefs.now
-  inside = omega (arith, place_in s.args.row s.args.rows j s.args.columns s.pre.1.row_in c.loop-test.true, s.pre.1.there)
+  inside = omega (arith, place_in s.args.row s.args.rows j s.args.columns s.requires.1.row_within c.loop-j-test.true, s.requires.1.there)
 
-module _ (c : tie.After-term-change invariant-loop decreases-loop) where
-  abbrev o : tie.In-loop invariant-loop decreases-loop
+module _ (c : tie.After-term_change-total invariant-loop decreases-loop) where
+  abbrev o : tie.In-loop-j invariant-loop decreases-loop
   o = c.before.before.before.before.before.before.before
 
   -- this column's change, as the machine has it
-  now_is : word c.term-change.result ≡ terms (s o) (s o).args.by (j o)
+  now_is : word c.term_change-total.result ≡ terms (s o) (s o).args.by (j o)
   now_is =
-      result c.term-change.result c.term-change.type-inv
-      ∙ c.term-change.ensures
+      result c.term_change-total.result c.term_change-total.type_inv
+      ∙ c.term_change-total.ensures
       ∙ rw (
-        result ((s o).args.coefs.now ‼ ((s o).args.row * (s o).args.columns + j o)) c.before.before.before.before.before.before.term-change-arg.given,
-        of_word (s o).fits.by,
-        result ((s o).args.d.now ‼ j o) c.before.before.before.before.before.term-change-arg2.given,
-        result ((s o).args.lowers.now ‼ j o) c.before.before.before.before.term-change-arg3.given,
-        result ((s o).args.uppers.now ‼ j o) c.before.before.before.term-change-arg4.given,
+        result ((s o).args.coefs.now ‼ ((s o).args.row * (s o).args.columns + j o)) c.term_change-arg-1.given,
+        of_word (s o).ranges.by,
+        result ((s o).args.d.now ‼ j o) c.term_change-arg-in-loop-j-1.given,
+        result ((s o).args.lowers.now ‼ j o) c.term_change-arg-in-loop-j-2-1.given,
+        result ((s o).args.uppers.now ‼ j o) c.term_change-arg-in-loop-j-3-1.given,
       )
 
-  so_far : to_z w64 o.before.loop.total ≡ sum (j o) (terms (s o) (s o).args.by)
-  so_far = o.before.loop.inv.1 ∙ ap (λ (b : ℤ). sum (j o) (terms (s o) b)) (of_word (s o).fits.by)
+  so_far : to_z w64 o.loop-j.total-bits ≡ sum (j o) (terms (s o) (s o).args.by)
+  so_far = o.loop-j.invariant.1 ∙ ap (λ (b : ℤ). sum (j o) (terms (s o) b)) (of_word (s o).ranges.by)
 
-  step : Turn (terms (s o) (s o).args.by) (j o) (to_z w64 o.before.loop.total) (word c.term-change.result)
-  step = turn max_columns ((max_coefficient * (2 * max_multiplier)) * max_bound) (s o).args.columns (terms (s o) (s o).args.by) (j o) _ _ tt (s o).pre.0 o.loop-test.taken (λ k l. fall_size ((s o).args.lowers.now ‼ k) ((s o).args.uppers.now ‼ k) _ _ (max_coefficient * (2 * max_multiplier)) max_bound ((s o).pre.2.at k l) ((s o).pre.3.at k l) ((s o).args.d.now ‼ k) ((s o).args.coefs.now ‼ ((s o).args.row * (s o).args.columns + k) *ℤ (s o).args.by) (mul_size ((s o).args.coefs.now ‼ ((s o).args.row * (s o).args.columns + k)) (s o).args.by max_coefficient (2 * max_multiplier) ((s o).pre.1.at k l) (s o).pre.7)) so_far now_is
+  step : Turn (terms (s o) (s o).args.by) (j o) (to_z w64 o.loop-j.total-bits) (word c.term_change-total.result)
+  step = turn max_columns ((max_coefficient * (2 * max_multiplier)) * max_bound) (s o).args.columns (terms (s o) (s o).args.by) (j o) _ _ tt (s o).requires.0 o.loop-j-test.true (λ k l. fall_size ((s o).args.lowers.now ‼ k) ((s o).args.uppers.now ‼ k) _ _ (max_coefficient * (2 * max_multiplier)) max_bound ((s o).requires.2.at k l) ((s o).requires.3.at k l) ((s o).args.d.now ‼ k) ((s o).args.coefs.now ‼ ((s o).args.row * (s o).args.columns + k) *ℤ (s o).args.by) (mul_size ((s o).args.coefs.now ‼ ((s o).args.row * (s o).args.columns + k)) (s o).args.by max_coefficient (2 * max_multiplier) ((s o).requires.1.at k l) (s o).requires.7)) so_far now_is
 
-loop-holds : tie.Need-loop-init invariant-loop decreases-loop
+loop-holds : tie.Need-loop-j-init invariant-loop decreases-loop
 unfolding sum run
 loop-holds c = (omega arith, refl)
 
-mul-term-change : tie.Need-overflow-mul-term-change invariant-loop decreases-loop
+mul-term-change : tie.Need-overflow_mul-row invariant-loop decreases-loop
 mul-term-change c = omega (arith, inside c)
 
-add-term-change : tie.Need-overflow-add-term-change invariant-loop decreases-loop
+add-term-change : tie.Need-overflow_add-row invariant-loop decreases-loop
 add-term-change c = omega (arith, inside c)
 
-mul-term-change-2 : tie.Need-overflow-mul-term-change-2 invariant-loop decreases-loop
+mul-term-change-2 : tie.Need-offset_bounds-coefs-row invariant-loop decreases-loop
 mul-term-change-2 c = omega (arith, inside c)
 
-shared-slice-copy-out-term-change : tie.Need-shared-slice-copy-out-term-change invariant-loop decreases-loop
+shared-slice-copy-out-term-change : tie.Need-bounds-coefs-row invariant-loop decreases-loop
 shared-slice-copy-out-term-change c = omega (arith, inside c)
 
-mul-term-change-3 : tie.Need-overflow-mul-term-change-3 invariant-loop decreases-loop
-mul-term-change-3 c = omega (arith, c.before.before.before.before.before.requires.6.there)
+mul-term-change-3 : tie.Need-offset_bounds-d-j invariant-loop decreases-loop
+mul-term-change-3 c = omega (arith, c.requires.6.there)
 
-shared-slice-copy-out-term-change-2 : tie.Need-shared-slice-copy-out-term-change-2 invariant-loop decreases-loop
-shared-slice-copy-out-term-change-2 c = omega (arith, c.before.before.before.before.before.requires.6.there)
+shared-slice-copy-out-term-change-2 : tie.Need-bounds-d-j invariant-loop decreases-loop
+shared-slice-copy-out-term-change-2 c = omega (arith, c.requires.6.there)
 
-mul-term-change-4 : tie.Need-overflow-mul-term-change-4 invariant-loop decreases-loop
-mul-term-change-4 c = omega (arith, c.before.before.before.before.before.before.requires.2.there)
+mul-term-change-4 : tie.Need-offset_bounds-lowers-j invariant-loop decreases-loop
+mul-term-change-4 c = omega (arith, c.requires.2.there)
 
-shared-slice-copy-out-term-change-3 : tie.Need-shared-slice-copy-out-term-change-3 invariant-loop decreases-loop
-shared-slice-copy-out-term-change-3 c = omega (arith, c.before.before.before.before.before.before.requires.2.there)
+shared-slice-copy-out-term-change-3 : tie.Need-bounds-lowers-j invariant-loop decreases-loop
+shared-slice-copy-out-term-change-3 c = omega (arith, c.requires.2.there)
 
-mul-term-change-5 : tie.Need-overflow-mul-term-change-5 invariant-loop decreases-loop
-mul-term-change-5 c = omega (arith, c.before.before.before.before.before.before.before.requires.3.there)
+mul-term-change-5 : tie.Need-offset_bounds-uppers-j invariant-loop decreases-loop
+mul-term-change-5 c = omega (arith, c.requires.3.there)
 
-shared-slice-copy-out-term-change-4 : tie.Need-shared-slice-copy-out-term-change-4 invariant-loop decreases-loop
-shared-slice-copy-out-term-change-4 c = omega (arith, c.before.before.before.before.before.before.before.requires.3.there)
+shared-slice-copy-out-term-change-4 : tie.Need-bounds-uppers-j invariant-loop decreases-loop
+shared-slice-copy-out-term-change-4 c = omega (arith, c.requires.3.there)
 
-shared-slice-read-term-change : tie.Need-shared-slice-read-term-change invariant-loop decreases-loop
+shared-slice-read-term-change : tie.Need-bounds-lower_marks-j invariant-loop decreases-loop
 shared-slice-read-term-change c = search rules
 
-shared-slice-read-term-change-2 : tie.Need-shared-slice-read-term-change-2 invariant-loop decreases-loop
+shared-slice-read-term-change-2 : tie.Need-bounds-upper_marks-j invariant-loop decreases-loop
 shared-slice-read-term-change-2 c = search rules
 
-term-change-requires : tie.Need-term-change-requires invariant-loop decreases-loop
+term-change-requires : tie.Need-term_change-total-requires invariant-loop decreases-loop
 term-change-requires c κs =
     let o = c.before.before.before.before.before.before in
-    let l = o.loop-test.true in (
+    let l = o.loop-j-test.true in (
       seen ((s o).args.coefs.now ‼ ((s o).args.row * (s o).args.columns + j o)) max_coefficient ((s o).requires.1.at (j o) l) tt,
       rw (of_word (s o).ranges.by) (s o).requires.7,
       seen ((s o).args.d.now ‼ j o) max_d ((s o).requires.6.at (j o) l) tt,
@@ -115,23 +115,23 @@ term-change-requires c κs =
       seen ((s o).args.uppers.now ‼ j o) max_bound ((s o).requires.3.at (j o) l) tt,
     )
 
-add_total : tie.Need-overflow-add-total invariant-loop decreases-loop
+add_total : tie.Need-overflow_add-total invariant-loop decreases-loop
 add_total c = (step c).add_fits
 
-add-j : tie.Need-overflow-add-j invariant-loop decreases-loop
+add-j : tie.Need-overflow_add-j invariant-loop decreases-loop
 add-j c = search rules
 
-loop-less : tie.Need-loop-smaller invariant-loop decreases-loop
+loop-less : tie.Need-loop-j-smaller invariant-loop decreases-loop
 loop-less c = search rules
 
-loop-again : tie.Need-loop-preserved invariant-loop decreases-loop
-loop-again c = (omega arith, (step c).is ∙ ap (λ (b : ℤ). sum (j (o c) + 1) (terms (s (o c)) b)) (sym (of_word (s (o c)).fits.by)))
+loop-again : tie.Need-loop-j-preserved invariant-loop decreases-loop
+loop-again c = (omega arith, (step c).is ∙ ap (λ (b : ℤ). sum (j (o c) + 1) (terms (s (o c)) b)) (sym (of_word (s (o c)).ranges.by)))
 
 returns : tie.Need-returns invariant-loop decreases-loop
-returns c = let s = c.before.before.before.before in sum_done _ _ _ _ (omega arith) (omega arith) c.before.loop.invariant.1 ∙ ap (λ (b : ℤ). sum s.args.columns (terms s b)) (of_word s.ranges.by)
+returns c = let s = c.before.before.before.before in sum_done _ _ _ _ (omega arith) (omega arith) c.loop-j.invariant.1 ∙ ap (λ (b : ℤ). sum s.args.columns (terms s b)) (of_word s.ranges.by)
 
-pub terms-change-spec : {M : Type 1} → statement M
-terms-change-spec =
+pub terms_change_spec : {M : Type 1} → statement M
+terms_change_spec =
     tie.close
     (tie.spec
     invariant-loop

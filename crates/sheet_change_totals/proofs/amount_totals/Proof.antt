@@ -19,36 +19,36 @@ by s = sub (num s.args.e.number max_amount (s.requires.1.amount_in s.requires.0)
 abbrev change : tie.Start → ℤ → ℤ
 change s z = broken_change s.args.rows s.args.columns s.args.e.column z s.args.coefs.now s.args.rhs.now s.args.ops.now s.args.r.now
 
-abbrev start : tie.After-broken-change → tie.Start
+abbrev start : tie.After-broken_change-n → tie.Start
 start c = c.before.before.before.before.before.before
 
-module _ (c : tie.After-broken-change) where
-  change_is : c.broken-change.result ≡ change (start c) (val (by (start c)))
-  change_is = c.broken-change.ensures ∙ ap (change (start c)) (exact (by (start c)) tt)
+module _ (c : tie.After-broken_change-n) where
+  change_is : c.broken_change-n.result ≡ change (start c) (val (by (start c)))
+  change_is = c.broken_change-n.ensures ∙ ap (change (start c)) (exact (by (start c)) tt)
 
-  change_small : nat_abs c.broken-change.result ≤ max_rows * 2
+  change_small : nat_abs c.broken_change-n.result ≤ max_rows * 2
   change_small = rw change_is (up_to max_rows 2 (start c).args.rows _ (start c).requires.4 (λ i _. bits_size _ _))
 
-whole : (c : tie.After-column-totals) → Near c.column-totals.result
-whole c = let s = start c.before in rw c.column-totals.ensures (column_totals_near s.args.e s.pre.1 s.args.t s.args.x s.pre.2 s.pre.3)
+whole : (c : tie.After-column_totals-z) → Near c.column_totals-z.result
+whole c = let s = start c.before in rw c.column_totals-z.ensures (column_totals_near s.args.e s.requires.1 s.args.t s.args.x s.requires.2 s.requires.3)
 
-sub_by : tie.Need-overflow-sub-by
+sub_by : tie.Need-overflow_sub-by
 sub_by c = let s : tie.Start = search in fit (by s) tt
 
-broken-change-requires : tie.Need-broken-change-requires
-broken-change-requires c κs = let s : tie.Start = search in (s.pre.4, s.pre.5, s.pre.6, s.pre.7, s.pre.8, rw (exact (by s) tt) (size (by s) tt))
+broken-change-requires : tie.Need-broken_change-n-requires
+broken-change-requires c κs = let s : tie.Start = search in (s.requires.4, s.requires.5, s.requires.6, s.requires.7, s.requires.8, rw (exact (by s) tt) (size (by s) tt))
 
-column-totals-requires : tie.Need-column-totals-requires
+column-totals-requires : tie.Need-column_totals-z-requires
 column-totals-requires c κs = search rules
 
-add-t13 : tie.Need-overflow-add-t13
-add-t13 c = let m : tie.After-column-totals = search in fit (brokens m.column-totals.result (whole m) m.before.broken-change.result (change_small m.before)) tt
+add-t13 : tie.Need-overflow_add-result
+add-t13 c = let m : tie.After-column_totals-z = search in fit (brokens m.column_totals-z.result (whole m) m.broken_change-n.result (change_small m.before)) tt
 
 returns : tie.Need-returns
 returns c =
-    let m : tie.After-column-totals = search in
-    with_broken_holds m.column-totals.result (whole m) m.before.broken-change.result (change_small m.before) ∙ (λ h. with_broken (m.column-totals.ensures h) (change_is m.before h))
+    let m : tie.After-column_totals-z = search in
+    with_broken_holds m.column_totals-z.result (whole m) m.broken_change-n.result (change_small m.before) ∙ (λ h. with_broken (m.column_totals-z.ensures h) (change_is m.before h))
 
-pub amount-totals-spec : {M : Type 1} → statement M
-amount-totals-spec =
+pub amount_totals_spec : {M : Type 1} → statement M
+amount_totals_spec =
     tie.close (tie.spec sub_by broken-change-requires column-totals-requires add-t13 returns)

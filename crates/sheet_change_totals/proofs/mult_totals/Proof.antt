@@ -18,58 +18,58 @@ abbrev by : tie.Start → E
 by s = sub (num s.args.e.number max_multiplier (s.requires.1.mult_in s.requires.0)) (num s.args.y.mult max_multiplier s.requires.3.mult_in)
 
 abbrev terms : tie.Start → ℤ → ℤ
-terms s z = terms_change s.args.columns s.args.e.row z s.args.coefs.now s.args.lowers.now s.args.uppers.now s.args.lower-marks.now s.args.upper-marks.now s.args.d.now
+terms s z = terms_change s.args.columns s.args.e.row z s.args.coefs.now s.args.lowers.now s.args.uppers.now s.args.lower_marks.now s.args.upper_marks.now s.args.d.now
 
 abbrev lacking : tie.Start → ℤ → ℤ
-lacking s z = absent_change s.args.columns s.args.e.row z s.args.coefs.now s.args.lower-marks.now s.args.upper-marks.now s.args.d.now
+lacking s z = absent_change s.args.columns s.args.e.row z s.args.coefs.now s.args.lower_marks.now s.args.upper_marks.now s.args.d.now
 
-abbrev start : tie.After-terms-change → tie.Start
+abbrev start : tie.After-terms_change-b → tie.Start
 start c = c.before.before.before.before.before.before.before
 
-module _ (c : tie.After-terms-change) where
-  terms_is : c.terms-change.result ≡ terms (start c) (val (by (start c)))
-  terms_is = c.terms-change.ensures ∙ ap (terms (start c)) (exact (by (start c)) tt)
+module _ (c : tie.After-terms_change-b) where
+  terms_is : c.terms_change-b.result ≡ terms (start c) (val (by (start c)))
+  terms_is = c.terms_change-b.ensures ∙ ap (terms (start c)) (exact (by (start c)) tt)
 
-  terms_small : nat_abs c.terms-change.result ≤ terms_limit
+  terms_small : nat_abs c.terms_change-b.result ≤ terms_limit
   terms_small =
       let s = start c in
-      rw terms_is (up_to max_columns ((max_coefficient * (2 * max_multiplier)) * max_bound) s.args.columns _ s.pre.4 (λ j l. fall_size (s.args.lowers.now ‼ j) (s.args.uppers.now ‼ j) _ _ (max_coefficient * (2 * max_multiplier)) max_bound (s.pre.6.at j l) (s.pre.7.at j l) (s.args.d.now ‼ j) (s.args.coefs.now ‼ (s.args.e.row * s.args.columns + j) *ℤ val (by s)) (mul_size (s.args.coefs.now ‼ (s.args.e.row * s.args.columns + j)) (val (by s)) max_coefficient (2 * max_multiplier) (s.pre.5.at j l) (size (by s) tt))))
+      rw terms_is (up_to max_columns ((max_coefficient * (2 * max_multiplier)) * max_bound) s.args.columns _ s.requires.4 (λ j l. fall_size (s.args.lowers.now ‼ j) (s.args.uppers.now ‼ j) _ _ (max_coefficient * (2 * max_multiplier)) max_bound (s.requires.6.at j l) (s.requires.7.at j l) (s.args.d.now ‼ j) (s.args.coefs.now ‼ (s.args.e.row * s.args.columns + j) *ℤ val (by s)) (mul_size (s.args.coefs.now ‼ (s.args.e.row * s.args.columns + j)) (val (by s)) max_coefficient (2 * max_multiplier) (s.requires.5.at j l) (size (by s) tt))))
 
-module _ (c : tie.After-absent-change) where
-  lacks_is : c.absent-change.result ≡ lacking (start c.before) (val (by (start c.before)))
-  lacks_is = c.absent-change.ensures ∙ ap (lacking (start c.before)) (exact (by (start c.before)) tt)
+module _ (c : tie.After-absent_change-n) where
+  lacks_is : c.absent_change-n.result ≡ lacking (start c.before) (val (by (start c.before)))
+  lacks_is = c.absent_change-n.ensures ∙ ap (lacking (start c.before)) (exact (by (start c.before)) tt)
 
-  lacks_small : nat_abs c.absent-change.result ≤ max_columns * 2
+  lacks_small : nat_abs c.absent_change-n.result ≤ max_columns * 2
   lacks_small = rw lacks_is (up_to max_columns 2 (start c.before).args.columns _ (start c.before).requires.4 (λ j _. bits_size _ _))
 
-whole : (c : tie.After-row-totals) → Near c.row-totals.result
-whole c = let s = start c.before.before in rw c.row-totals.ensures (row_totals_near s.args.e s.pre.1 s.args.t s.args.y s.pre.2 s.pre.3)
+whole : (c : tie.After-row_totals-z) → Near c.row_totals-z.result
+whole c = let s = start c.before.before in rw c.row_totals-z.ensures (row_totals_near s.args.e s.requires.1 s.args.t s.args.y s.requires.2 s.requires.3)
 
-sub_by : tie.Need-overflow-sub-by
+sub_by : tie.Need-overflow_sub-by
 sub_by c = let s : tie.Start = search in fit (by s) tt
 
-terms-change-requires : tie.Need-terms-change-requires
-terms-change-requires c κs = let s : tie.Start = search in (s.pre.4, s.pre.5, s.pre.6, s.pre.7, s.pre.8, s.pre.9, s.pre.10, rw (exact (by s) tt) (size (by s) tt))
+terms-change-requires : tie.Need-terms_change-b-requires
+terms-change-requires c κs = let s : tie.Start = search in (s.requires.4, s.requires.5, s.requires.6, s.requires.7, s.requires.8, s.requires.9, s.requires.10, rw (exact (by s) tt) (size (by s) tt))
 
-absent-change-requires : tie.Need-absent-change-requires
-absent-change-requires c κs = let s : tie.Start = search in (s.pre.4, s.pre.5, s.pre.8, s.pre.9, s.pre.10, rw (exact (by s) tt) (size (by s) tt))
+absent-change-requires : tie.Need-absent_change-n-requires
+absent-change-requires c κs = let s : tie.Start = search in (s.requires.4, s.requires.5, s.requires.8, s.requires.9, s.requires.10, rw (exact (by s) tt) (size (by s) tt))
 
-row-totals-requires : tie.Need-row-totals-requires
+row-totals-requires : tie.Need-row_totals-z-requires
 row-totals-requires c κs = search rules
 
-add-t16 : tie.Need-overflow-add-t16
-add-t16 c = let m : tie.After-row-totals = search in fit (floors m.row-totals.result (whole m) m.before.before.terms-change.result (terms_small m.before.before)) tt
+add-t16 : tie.Need-overflow_add-result
+add-t16 c = let m : tie.After-row_totals-z = search in fit (floors m.row_totals-z.result (whole m) m.terms_change-b.result (terms_small m.before.before)) tt
 
-add-t17 : tie.Need-overflow-add-t17
-add-t17 c = let m : tie.After-row-totals = search in fit (absents m.row-totals.result (whole m) m.before.absent-change.result (lacks_small m.before)) tt
+add-t17 : tie.Need-overflow_add-result-2
+add-t17 c = let m : tie.After-row_totals-z = search in fit (absents m.row_totals-z.result (whole m) m.absent_change-n.result (lacks_small m.before)) tt
 
 returns : tie.Need-returns
 returns c =
-    let m : tie.After-row-totals = search in
-    with_terms_holds m.row-totals.result (whole m) m.before.before.terms-change.result m.before.absent-change.result (terms_small m.before.before) (lacks_small m.before) ∙ (λ h. with_terms (m.row-totals.ensures h) (terms_is m.before.before h) (lacks_is m.before h))
+    let m : tie.After-row_totals-z = search in
+    with_terms_holds m.row_totals-z.result (whole m) m.terms_change-b.result m.absent_change-n.result (terms_small m.before.before) (lacks_small m.before) ∙ (λ h. with_terms (m.row_totals-z.ensures h) (terms_is m.before.before h) (lacks_is m.before h))
 
-pub mult-totals-spec : {M : Type 1} → statement M
-mult-totals-spec =
+pub mult_totals_spec : {M : Type 1} → statement M
+mult_totals_spec =
     tie.close
     (tie.spec
     sub_by

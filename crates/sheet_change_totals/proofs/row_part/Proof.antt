@@ -16,7 +16,7 @@ use Rattle.sheet_change_totals.proofs.row_part.Tie as tie
 abbrev product : tie.Start → E
 product s = mul (num s.args.y.mult max_multiplier s.requires.mult_in) (num s.args.y.right max_right_side s.requires.right_in)
 
-mul-t2 : tie.Need-overflow-mul-t2
+mul-t2 : tie.Need-overflow_mul-result
 mul-t2 c = let s : tie.Start = search in fit (product s) tt
 
 broken-requires : tie.Need-broken-requires
@@ -34,12 +34,12 @@ returns c =
     let s : tie.Start = search in
     let y = s.args.y in
     let t : tie.After-broken = search in
-    let right = exact (num y.right max_right_side s.pre.right_in) tt in
-    let mult = exact (num y.mult max_multiplier s.pre.mult_in) tt in
+    let right = exact (num y.right max_right_side s.requires.right_in) tt in
+    let mult = exact (num y.mult max_multiplier s.requires.mult_in) tt in
     let activity : word y.activity ≡ y.activity = search rules in
     let broken = back _ (bit (not (holds y.op y.activity y.right))) 1 (t.broken.ensures ∙ rw (activity, right)) (bit_size _) tt in
-    let sign = back _ (bit (wrong y.op y.mult)) 1 (c.bit.ensures ∙ ap bit (c.before.wrong.ensures ∙ rw mult)) (bit_size _) tt in
+    let sign = back _ (bit (wrong y.op y.mult)) 1 (c.bit.ensures ∙ ap bit (c.wrong.ensures ∙ rw mult)) (bit_size _) tt in
     λ h. totals_of (pos 0) (exact (product s) tt h) (broken h) (pos 0) (sign h) (pos 0)
 
-pub row-part-spec : {M : Type 1} → statement M
-row-part-spec = tie.close (tie.spec mul-t2 broken-requires wrong-requires bit-requires returns)
+pub row_part_spec : {M : Type 1} → statement M
+row_part_spec = tie.close (tie.spec mul-t2 broken-requires wrong-requires bit-requires returns)

@@ -11,39 +11,39 @@ use Rattle.sheet_open.proofs.opening.Statement.{statement}
 use Rattle.sheet_open.proofs.opening.Tie as tie
 
 abbrev sheet : tie.Start → Sheet
-sheet s = sheet_of (plan_of s.args.rows s.args.columns s.args.coefs.now s.args.costs.now s.args.lowers.now s.args.uppers.now s.args.lower-marks.now s.args.upper-marks.now s.args.rhs.now s.args.ops.now s.args.amounts.now s.args.mults.now) (kept_of s.args.r.now s.args.d.now s.args.c.now s.args.b.now s.args.counts.now)
+sheet s = sheet_of (plan_of s.args.rows s.args.columns s.args.coefs.now s.args.costs.now s.args.lowers.now s.args.uppers.now s.args.lower_marks.now s.args.upper_marks.now s.args.rhs.now s.args.ops.now s.args.amounts.now s.args.mults.now) (kept_of s.args.r.now s.args.d.now s.args.c.now s.args.b.now s.args.counts.now)
 
 -- 11 not given
-sized : (c : tie.Else1) → PlanSized (sheet c.before.before.before.before.before).plan
-sized c = plan_sized_holds (sheet c.before.before.before.before.before) ((sizes_decide (sheet c.before.before.before.before.before)).yes_so (sym c.before.sizes_fine.ensures ∙ not-false _ c.if1.false))
+sized : (c : tie.Else-not-sizes_fine) → PlanSized (sheet c.before.before.before.before.before).plan
+sized c = plan_sized_holds (sheet c.before.before.before.before.before) ((sizes_decide (sheet c.before.before.before.before.before)).yes_so (sym c.sizes_fine.ensures ∙ not-false _ c.if-not-sizes_fine.false-raw))
 
-sizes-fine-requires : tie.Need-sizes-fine-requires
+sizes-fine-requires : tie.Need-sizes_fine-requires
 sizes-fine-requires c κs = search rules
 
-returns : tie.Need-returns
+returns : tie.Need-returns-then-not-sizes_fine
 unfolding opening first_failed
-returns c = rw (sym c.before.sizes_fine.ensures ∙ not-true _ c.if1.true)
+returns c = rw (sym c.sizes_fine.ensures ∙ not-true _ c.if-not-sizes_fine.true-raw)
 
-numbers-fine-requires : tie.Need-numbers-fine-requires
+numbers-fine-requires : tie.Need-numbers_fine-requires
 numbers-fine-requires c κs = sized c
 
-returns-2 : tie.Need-returns-2
+returns-2 : tie.Need-returns-then-not-numbers_fine
 unfolding opening first_failed
-returns-2 c = rw (sym c.before.before.before.sizes_fine.ensures ∙ not-false _ c.before.before.if1.false, sym c.before.numbers-fine.ensures ∙ not-true _ c.if2.true)
+returns-2 c = rw (sym c.sizes_fine.ensures ∙ not-false _ c.if-not-sizes_fine.false-raw, sym c.numbers_fine.ensures ∙ not-true _ c.if-not-numbers_fine.true-raw)
 
 uncrossed-requires : tie.Need-uncrossed-requires
 uncrossed-requires c κs = sized c.before.before
 
-returns-3 : tie.Need-returns-3
+returns-3 : tie.Need-returns-then-not-uncrossed
 unfolding opening first_failed
-returns-3 c = rw (sym c.before.before.before.before.before.sizes_fine.ensures ∙ not-false _ c.before.before.before.before.if1.false, sym c.before.before.before.numbers-fine.ensures ∙ not-false _ c.before.before.if2.false, sym c.before.uncrossed.ensures ∙ not-true _ c.if3.true)
+returns-3 c = rw (sym c.sizes_fine.ensures ∙ not-false _ c.if-not-sizes_fine.false-raw, sym c.numbers_fine.ensures ∙ not-false _ c.if-not-numbers_fine.false-raw, sym c.uncrossed.ensures ∙ not-true _ c.if-not-uncrossed.true-raw)
 
-returns-4 : tie.Need-returns-4
+returns-4 : tie.Need-returns
 unfolding opening first_failed
-returns-4 c = rw (sym c.before.before.before.before.before.sizes_fine.ensures ∙ not-false _ c.before.before.before.before.if1.false, sym c.before.before.before.numbers-fine.ensures ∙ not-false _ c.before.before.if2.false, sym c.before.uncrossed.ensures ∙ not-false _ c.if3.false)
+returns-4 c = rw (sym c.sizes_fine.ensures ∙ not-false _ c.if-not-sizes_fine.false-raw, sym c.numbers_fine.ensures ∙ not-false _ c.if-not-numbers_fine.false-raw, sym c.uncrossed.ensures ∙ not-false _ c.if-not-uncrossed.false-raw)
 
-pub opening-spec : {M : Type 1} → statement M
-opening-spec =
+pub opening_spec : {M : Type 1} → statement M
+opening_spec =
     tie.close
     (tie.spec
     sizes-fine-requires

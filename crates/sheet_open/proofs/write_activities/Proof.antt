@@ -12,83 +12,83 @@ use Rattle.sheet_open.proofs.Laws.{row_within, row_asks, row_is}
 use Rattle.sheet_open.proofs.write_activities.Statement.{statement}
 use Rattle.sheet_open.proofs.write_activities.Tie as tie
 
-abbrev invariant-loop : tie.invariant-loop
+abbrev invariant-loop : tie.invariant-loop-i
 invariant-loop rows columns coefs amounts r₀ i₀ r i = (i ≤ rows) × Filled (λ k. dot columns (λ j. coefs ‼ (k * columns + j)) (λ j. amounts ‼ j)) r₀ i r
 
-abbrev decreases-loop : tie.decreases-loop
+abbrev decreases-loop : tie.decreases-loop-i
 decreases-loop rows columns coefs amounts r₀ i₀ r i = rows - i
 
-module _ (c : tie.In-loop invariant-loop decreases-loop) where
+module _ (c : tie.In-loop-i invariant-loop decreases-loop) where
   abbrev s : tie.Start invariant-loop decreases-loop
   s = c.before.before
 
   abbrev i : ℕ
-  i = c.before.loop.i
+  i = c.loop-i.i
 
   -- this row's coefficients are there, and so is its cell
   inside : i * s.args.columns + s.args.columns ≤ length s.args.coefs.now
-  inside = le_trans (row_within i s.args.rows s.args.columns c.loop-test.true) s.pre.1.there
+  inside = le_trans (row_within i s.args.rows s.args.columns c.loop-i-test.true) s.requires.1.there
 
   room : i < length s.args.r.now
-  room = omega (arith, s.pre.3)
+  room = omega (arith, s.requires.3)
 
-  long : length c.before.loop.r ≡ length s.args.r.now
-  long = filled_length c.before.loop.invariant.1 (omega (arith, s.pre.3))
+  long : length c.loop-i.r ≡ length s.args.r.now
+  long = filled_length c.loop-i.invariant.1 (omega (arith, s.requires.3))
 
-loop-holds : tie.Need-loop-init invariant-loop decreases-loop
+loop-holds : tie.Need-loop-i-init invariant-loop decreases-loop
 loop-holds c = (omega arith, filled_none)
 
-mul-base : tie.Need-overflow-mul-base invariant-loop decreases-loop
+mul-base : tie.Need-overflow_mul-base invariant-loop decreases-loop
 mul-base c = omega (arith, inside c)
 
-add-end : tie.Need-overflow-add-end invariant-loop decreases-loop
+add-end : tie.Need-overflow_add-end invariant-loop decreases-loop
 add-end c = omega (arith, inside c)
 
-mul-activity : tie.Need-overflow-mul-activity invariant-loop decreases-loop
+mul-activity : tie.Need-offset_bounds-coefs-base invariant-loop decreases-loop
 mul-activity c = omega (arith, inside c)
 
-sub-activity : tie.Need-overflow-sub-activity invariant-loop decreases-loop
+sub-activity : tie.Need-slice_bounds-activity-count invariant-loop decreases-loop
 sub-activity c = omega (arith, inside c)
 
-part-activity-start : tie.Need-slice-bounds-activity-start invariant-loop decreases-loop
+part-activity-start : tie.Need-slice_bounds-activity-start invariant-loop decreases-loop
 part-activity-start c = omega (arith, inside c)
 
-part-activity-end : tie.Need-slice-bounds-activity-end invariant-loop decreases-loop
+part-activity-end : tie.Need-slice_bounds-activity-end invariant-loop decreases-loop
 part-activity-end c = omega (arith, inside c)
 
 activity-requires : tie.Need-activity-requires invariant-loop decreases-loop
-activity-requires c κs = let s = c.before.before.before in row_asks s.args.coefs.now s.args.amounts.now c.before.before.loop.i s.args.rows s.args.columns c.before.loop-test.true s.requires.0 s.requires.1 s.requires.2
+activity-requires c κs = let s = c.before.before.before in row_asks s.args.coefs.now s.args.amounts.now c.loop-i.i s.args.rows s.args.columns c.loop-i-test.true s.requires.0 s.requires.1 s.requires.2
 
-mul-t16 : tie.Need-overflow-mul-t16 invariant-loop decreases-loop
+mul-t16 : tie.Need-offset_bounds-r-i invariant-loop decreases-loop
 mul-t16 c = omega (arith, room c.before.before)
 
-slice-set-from-r : tie.Need-slice-set-from-r invariant-loop decreases-loop
+slice-set-from-r : tie.Need-bounds-r-i invariant-loop decreases-loop
 slice-set-from-r c = omega (arith, room c.before.before, long c.before.before)
 
-add-i : tie.Need-overflow-add-i invariant-loop decreases-loop
+add-i : tie.Need-overflow_add-i invariant-loop decreases-loop
 add-i c = search rules
 
-loop-less : tie.Need-loop-smaller invariant-loop decreases-loop
+loop-less : tie.Need-loop-i-smaller invariant-loop decreases-loop
 loop-less c = search rules
 
-loop-again : tie.Need-loop-preserved invariant-loop decreases-loop
+loop-again : tie.Need-loop-i-preserved invariant-loop decreases-loop
 loop-again c =
     let s = c.before.before.before.before in (
       omega arith,
       filled_more
-          c.before.before.before.loop.invariant.1
+          c.loop-i.invariant.1
           (room c.before.before)
-          (result c.activity.result c.activity.type-inv ∙ c.activity.ensures ∙ row_is s.args.coefs.now s.args.amounts.now c.before.before.before.loop.i s.args.rows s.args.columns c.before.before.loop-test.true s.requires.0 s.requires.1 s.requires.2),
+          (result c.activity.result c.activity.type_inv ∙ c.activity.ensures ∙ row_is s.args.coefs.now s.args.amounts.now c.loop-i.i s.args.rows s.args.columns c.loop-i-test.true s.requires.0 s.requires.1 s.requires.2),
     )
 
-same_length : tie.Need-same-length invariant-loop decreases-loop
-same_length c = filled_length c.before.loop.invariant.1 (omega (arith, c.before.before.requires.3))
+same_length : tie.Need-shape_of-r invariant-loop decreases-loop
+same_length c = filled_length c.loop-i.invariant.1 (omega (arith, c.requires.3))
 
 returns : tie.Need-returns invariant-loop decreases-loop
-returns c = filled_done c.before.before.args.rows (omega arith) (omega arith) c.before.loop.invariant.1
+returns c = filled_done c.args.rows (omega arith) (omega arith) c.loop-i.invariant.1
 
-pub write-activities-spec : {M : Type 1} → statement M
-write-activities-spec =
+pub write_activities_spec : {M : Type 1} → statement M
+write_activities_spec =
     tie.close
     (tie.spec
     invariant-loop

@@ -6,75 +6,62 @@ use Rattle.sheet_store_apply.proofs.apply_edit.Statement.{statement}
 use Rattle.sheet_store_apply.proofs.apply_edit.Tie as tie
 
 abbrev sheet : tie.Start → Sheet
-sheet s = sheet_of (plan_of s.args.rows s.args.columns s.args.coefs.now s.args.costs.now s.args.lowers.now s.args.uppers.now s.args.lower-marks.now s.args.upper-marks.now s.args.rhs.now s.args.ops.now s.args.amounts.now s.args.mults.now) (kept_of s.args.r.now s.args.d.now s.args.c.now s.args.b.now s.args.counts.now)
+sheet s = sheet_of (plan_of s.args.rows s.args.columns s.args.coefs.now s.args.costs.now s.args.lowers.now s.args.uppers.now s.args.lower_marks.now s.args.upper_marks.now s.args.rhs.now s.args.ops.now s.args.amounts.now s.args.mults.now) (kept_of s.args.r.now s.args.d.now s.args.c.now s.args.b.now s.args.counts.now)
 
--- the way back: from before a call, or from the end, to where the call before it left off
-abbrev before_kept : tie.After-move-kept-arg14 → tie.Start
-before_kept c = c.before.before.before.before.before.before.before.before.before.before.before.before.before.before.before.before.before
+move-kept-requires : tie.Need-move_kept-requires
+move-kept-requires c κs = (c.requires.0, c.requires.1)
 
-abbrev before-put : tie.After-put-cell-arg9 → tie.After-move-kept
-before-put c = c.before.before.before.before.before.before.before.before.before.before.before.before.before.before
+put-cell-requires : tie.Need-put_cell-requires
+put-cell-requires c κs = let s : tie.Start = search in (plan_sized_holds (sheet s) s.requires.0.sized, s.requires.0.index)
 
-abbrev put_at_holds : tie.After-mults → tie.After-put-cell
-put_at_holds c = c.before.before.before.before.before.before.before.before.before.before.before
+same_length : tie.Need-shape_of-coefs
+same_length c = c.put_cell.auto.coefs
 
-abbrev kept_at : tie.After-mults → tie.After-move-kept
-kept_at c = before-put (put_at_holds c).before
+same-length-2 : tie.Need-shape_of-costs
+same-length-2 c = c.put_cell.auto.costs
 
-move-kept-requires : tie.Need-move-kept-requires
-move-kept-requires c κs = let s = before_kept c in (s.pre.0, s.pre.1)
+same-length-3 : tie.Need-shape_of-lowers
+same-length-3 c = c.put_cell.auto.lowers
 
-put-cell-requires : tie.Need-put-cell-requires
-put-cell-requires c κs = let s = before_kept (before-put c).before in (plan_sized_holds (sheet s) s.pre.0.sized, s.pre.0.index)
+same-length-4 : tie.Need-shape_of-uppers
+same-length-4 c = c.put_cell.auto.uppers
 
-same_length : tie.Need-same-length
-same_length c = (put_at_holds c).put-cell.auto.1.1.1.0
+same-length-5 : tie.Need-shape_of-lower_marks
+same-length-5 c = c.put_cell.auto.lower_marks
 
-same-length-2 : tie.Need-same-length-2
-same-length-2 c = (put_at_holds c).put-cell.auto.1.1.1.1.0
+same-length-6 : tie.Need-shape_of-upper_marks
+same-length-6 c = c.put_cell.auto.upper_marks
 
-same-length-3 : tie.Need-same-length-3
-same-length-3 c = (put_at_holds c).put-cell.auto.1.1.1.1.1.0
+same-length-7 : tie.Need-shape_of-rhs
+same-length-7 c = c.put_cell.auto.rhs
 
-same-length-4 : tie.Need-same-length-4
-same-length-4 c = (put_at_holds c).put-cell.auto.1.1.1.1.1.1.0
+same-length-8 : tie.Need-shape_of-amounts
+same-length-8 c = c.put_cell.auto.amounts
 
-same-length-5 : tie.Need-same-length-5
-same-length-5 c = (put_at_holds c).put-cell.auto.1.1.1.1.1.1.1.0
+same-length-9 : tie.Need-shape_of-mults
+same-length-9 c = c.put_cell.auto.mults
 
-same-length-6 : tie.Need-same-length-6
-same-length-6 c = (put_at_holds c).put-cell.auto.1.1.1.1.1.1.1.1.0
+same-length-10 : tie.Need-shape_of-r
+same-length-10 c = c.move_kept.auto.r
 
-same-length-7 : tie.Need-same-length-7
-same-length-7 c = (put_at_holds c).put-cell.auto.1.1.1.1.1.1.1.1.1.0
+same-length-11 : tie.Need-shape_of-d
+same-length-11 c = c.move_kept.auto.d
 
-same-length-8 : tie.Need-same-length-8
-same-length-8 c = (put_at_holds c).put-cell.auto.1.1.1.1.1.1.1.1.1.1.1.0
+same-length-12 : tie.Need-shape_of-c
+same-length-12 c = c.move_kept.auto.c
 
-same-length-9 : tie.Need-same-length-9
-same-length-9 c = (put_at_holds c).put-cell.auto.1.1.1.1.1.1.1.1.1.1.1.1.0
+same-length-13 : tie.Need-shape_of-b
+same-length-13 c = c.move_kept.auto.b
 
-same-length-10 : tie.Need-same-length-10
-same-length-10 c = (kept_at c).move-kept.auto.1.1.1.1.1.1.1.1.1.1.1.1.1.0
-
-same-length-11 : tie.Need-same-length-11
-same-length-11 c = (kept_at c).move-kept.auto.1.1.1.1.1.1.1.1.1.1.1.1.1.1.0
-
-same-length-12 : tie.Need-same-length-12
-same-length-12 c = (kept_at c).move-kept.auto.1.1.1.1.1.1.1.1.1.1.1.1.1.1.1.0
-
-same-length-13 : tie.Need-same-length-13
-same-length-13 c = (kept_at c).move-kept.auto.1.1.1.1.1.1.1.1.1.1.1.1.1.1.1.1.0
-
-same-length-14 : tie.Need-same-length-14
-same-length-14 c = (kept_at c).move-kept.auto.1.1.1.1.1.1.1.1.1.1.1.1.1.1.1.1.1.0
+same-length-14 : tie.Need-shape_of-counts
+same-length-14 c = c.move_kept.auto.counts
 
 returns : tie.Need-returns
 unfolding applied
-returns c = λ h. sheet_of ((put_at_holds c).put-cell.ensures h) ((kept_at c).move-kept.ensures h)
+returns c = λ h. sheet_of (c.put_cell.ensures h) (c.move_kept.ensures h)
 
-pub apply-edit-spec : {M : Type 1} → statement M
-apply-edit-spec =
+pub apply_edit_spec : {M : Type 1} → statement M
+apply_edit_spec =
     tie.close
     (tie.spec
     move-kept-requires

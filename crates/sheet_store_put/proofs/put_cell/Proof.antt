@@ -15,7 +15,7 @@ use Rattle.sheet_store_put.proofs.put_cell.Statement.{statement}
 use Rattle.sheet_store_put.proofs.put_cell.Tie as tie
 
 abbrev p : tie.Start → Plan
-p s = plan_of s.args.rows s.args.columns s.args.coefs.now s.args.costs.now s.args.lowers.now s.args.uppers.now s.args.lower-marks.now s.args.upper-marks.now s.args.rhs.now s.args.ops.now s.args.amounts.now s.args.mults.now
+p s = plan_of s.args.rows s.args.columns s.args.coefs.now s.args.costs.now s.args.lowers.now s.args.uppers.now s.args.lower_marks.now s.args.upper_marks.now s.args.rhs.now s.args.ops.now s.args.amounts.now s.args.mults.now
 
 abbrev e : tie.Start → Edit
 e s = s.args.e
@@ -26,101 +26,101 @@ module _ (s : tie.Start) where
   column k u t = s.requires.1.column_in_holds (rw (eqb-true (e s).kind k t) u)
 
   row : (k : ℕ) → uses_row k ≡ true → eqb (e s).kind k ≡ true → (e s).row < s.args.rows
-  row k u t = s.pre.1.row_in (rw (eqb-true (e s).kind k t) u)
+  row k u t = s.requires.1.row_within (rw (eqb-true (e s).kind k t) u)
 
 -- the entry, from places on the way
-abbrev entry-at-slice-known3 : tie.After-slice-known3 → tie.Start
+abbrev entry-at-slice-known3 : tie.After-slice_known-3-1 → tie.Start
 entry-at-slice-known3 c = search
 
-abbrev entry-at-put-number4 : tie.After-put-number4 → tie.Start
-entry-at-put-number4 c = let x : tie.After-slice-known3 = search in entry-at-slice-known3 x
+abbrev entry-at-put-number4 : tie.After-put_number-4 → tie.Start
+entry-at-put-number4 c = let x : tie.After-slice_known-3-1 = search in entry-at-slice-known3 x
 
-put-coef-requires : tie.Need-put-coef-requires
-put-coef-requires c κs = let s : tie.Start = search in λ t. omega (arith, place_in (e s).row s.args.rows (e s).column s.args.columns (row s 6 refl t) (column s 6 refl t), s.pre.0.coefs_long)
+put-coef-requires : tie.Need-put_coef-requires
+put-coef-requires c κs = let s : tie.Start = search in λ t. omega (arith, place_in (e s).row s.args.rows (e s).column s.args.columns (row s 6 refl t) (column s 6 refl t), s.requires.0.coefs_long)
 
-put-number-requires : tie.Need-put-number-requires
-put-number-requires c κs = let s : tie.Start = search in λ t. omega (arith, column s 2 refl t, s.pre.0.costs_long)
+put-number-requires : tie.Need-put_number-requires
+put-number-requires c κs = let s : tie.Start = search in λ t. omega (arith, column s 2 refl t, s.requires.0.costs_long)
 
-put-bound-requires : tie.Need-put-bound-requires
+put-bound-requires : tie.Need-put_bound-requires
 put-bound-requires c κs =
     let s : tie.Start = search in (
-      λ t. (omega (arith, column s 3 refl t, s.pre.0.lowers_long), omega (arith, column s 3 refl t, s.pre.0.lower_marks_long)),
-      λ t. (omega (arith, column s 8 refl t, s.pre.0.lowers_long), omega (arith, column s 8 refl t, s.pre.0.lower_marks_long)),
+      λ t. (omega (arith, column s 3 refl t, s.requires.0.lowers_long), omega (arith, column s 3 refl t, s.requires.0.lower_marks_long)),
+      λ t. (omega (arith, column s 8 refl t, s.requires.0.lowers_long), omega (arith, column s 8 refl t, s.requires.0.lower_marks_long)),
     )
 
-put-bound-requires-2 : tie.Need-put-bound-requires-2
+put-bound-requires-2 : tie.Need-put_bound-requires-2
 put-bound-requires-2 c κs =
     let s : tie.Start = search in (
-      λ t. (omega (arith, column s 4 refl t, s.pre.0.uppers_long), omega (arith, column s 4 refl t, s.pre.0.upper_marks_long)),
-      λ t. (omega (arith, column s 9 refl t, s.pre.0.uppers_long), omega (arith, column s 9 refl t, s.pre.0.upper_marks_long)),
+      λ t. (omega (arith, column s 4 refl t, s.requires.0.uppers_long), omega (arith, column s 4 refl t, s.requires.0.upper_marks_long)),
+      λ t. (omega (arith, column s 9 refl t, s.requires.0.uppers_long), omega (arith, column s 9 refl t, s.requires.0.upper_marks_long)),
     )
 
-put-number-requires-2 : tie.Need-put-number-requires-2
+put-number-requires-2 : tie.Need-put_number-requires-2
 put-number-requires-2 c κs =
-    let x : tie.After-slice-known3 = search in
+    let x : tie.After-slice_known-3-1 = search in
     let s = entry-at-slice-known3 x in
-    λ t. omega (arith, row s 5 refl t, s.pre.0.rhs_long)
+    λ t. omega (arith, row s 5 refl t, s.requires.0.rhs_long)
 
-put-number-requires-3 : tie.Need-put-number-requires-3
+put-number-requires-3 : tie.Need-put_number-requires-3
 put-number-requires-3 c κs =
-    let x : tie.After-slice-known3 = search in
+    let x : tie.After-slice_known-3-1 = search in
     let s = entry-at-slice-known3 x in
-    λ t. omega (arith, column s 1 refl t, s.pre.0.amounts_long)
+    λ t. omega (arith, column s 1 refl t, s.requires.0.amounts_long)
 
-put-number-requires-4 : tie.Need-put-number-requires-4
+put-number-requires-4 : tie.Need-put_number-requires-4
 put-number-requires-4 c κs =
-    let x : tie.After-slice-known3 = search in
+    let x : tie.After-slice_known-3-1 = search in
     let s = entry-at-slice-known3 x in
-    λ t. omega (arith, row s 7 refl t, s.pre.0.mults_long)
+    λ t. omega (arith, row s 7 refl t, s.requires.0.mults_long)
 
-same_length : tie.Need-same-length
-same_length c = c.before.before.before.before.before.before.before.before.before.before.before.before.before.before.before.before.before.before.before.before.before.before.before.before.before.before.before.before.before.before.before.put-coef.auto.1.1.1.1.1.0
+same_length : tie.Need-shape_of-coefs
+same_length c = c.put_coef.auto.coefs
 
-same-length-2 : tie.Need-same-length-2
-same-length-2 c = c.before.before.before.before.before.before.before.before.before.before.before.before.before.before.before.before.before.before.before.before.before.before.before.before.before.before.before.put-number.auto.1.1.1.0
+same-length-2 : tie.Need-shape_of-costs
+same-length-2 c = c.put_number.auto.xs
 
-same-length-3 : tie.Need-same-length-3
-same-length-3 c = let at-put-bound : tie.After-put-bound = search in at-put-bound.put-bound.kept.1.1.1.1.0
+same-length-3 : tie.Need-shape_of-lowers
+same-length-3 c = let at-put-bound : tie.After-put_bound = search in at-put-bound.put_bound.auto.xs
 
-same-length-4 : tie.Need-same-length-4
-same-length-4 c = let at-put-bound2 : tie.After-put-bound2 = search in at-put-bound2.put-bound2.kept.1.1.1.1.0
+same-length-4 : tie.Need-shape_of-uppers
+same-length-4 c = let at-put-bound2 : tie.After-put_bound-2 = search in at-put-bound2.put_bound-2.auto.xs
 
-same-length-5 : tie.Need-same-length-5
-same-length-5 c = let at-put-bound : tie.After-put-bound = search in at-put-bound.put-bound.kept.1.1.1.1.1.0
+same-length-5 : tie.Need-shape_of-lower_marks
+same-length-5 c = let at-put-bound : tie.After-put_bound = search in at-put-bound.put_bound.auto.marks
 
-same-length-6 : tie.Need-same-length-6
-same-length-6 c = let at-put-bound2 : tie.After-put-bound2 = search in at-put-bound2.put-bound2.kept.1.1.1.1.1.0
+same-length-6 : tie.Need-shape_of-upper_marks
+same-length-6 c = let at-put-bound2 : tie.After-put_bound-2 = search in at-put-bound2.put_bound-2.auto.marks
 
-same-length-7 : tie.Need-same-length-7
-same-length-7 c = let at-put-number2 : tie.After-put-number2 = search in at-put-number2.put-number2.kept.1.1.1.0
+same-length-7 : tie.Need-shape_of-rhs
+same-length-7 c = let at-put-number2 : tie.After-put_number-2 = search in at-put-number2.put_number-2.auto.xs
 
-same-length-8 : tie.Need-same-length-8
-same-length-8 c = let at-put-number3 : tie.After-put-number3 = search in at-put-number3.put-number3.kept.1.1.1.0
+same-length-8 : tie.Need-shape_of-amounts
+same-length-8 c = let at-put-number3 : tie.After-put_number-3 = search in at-put-number3.put_number-3.auto.xs
 
-same-length-9 : tie.Need-same-length-9
-same-length-9 c = c.before.put-number4.auto.1.1.1.0
+same-length-9 : tie.Need-shape_of-mults
+same-length-9 c = c.put_number-4.auto.xs
 
 returns : tie.Need-returns
 returns c =
-    let at-put-number3 : tie.After-put-number3 = search in
-    let at-put-number2 : tie.After-put-number2 = search in
-    let at-put-bound2 : tie.After-put-bound2 = search in
-    let at-put-bound : tie.After-put-bound = search in
-    let x : tie.After-put-number4 = search in
+    let at-put-number3 : tie.After-put_number-3 = search in
+    let at-put-number2 : tie.After-put_number-2 = search in
+    let at-put-bound2 : tie.After-put_bound-2 = search in
+    let at-put-bound : tie.After-put_bound = search in
+    let x : tie.After-put_number-4 = search in
     let s = entry-at-put-number4 x in
-    put_all (p s) (e s) (word (e s).number) (result (e s).number c.before.before.struct-told7.given.1.1.1.0.1) _ _ _ _ _ _ _ _ _
-    c.before.before.before.before.before.before.before.before.before.before.before.before.before.before.before.before.before.before.before.before.before.before.before.before.before.before.before.before.before.before.before.put-coef.ensures
-    c.before.before.before.before.before.before.before.before.before.before.before.before.before.before.before.before.before.before.before.before.before.before.before.before.before.before.before.put-number.ensures
-    at-put-bound.put-bound.ensures.0
-    at-put-bound2.put-bound2.ensures.0
-    at-put-bound.put-bound.ensures.1
-    at-put-bound2.put-bound2.ensures.1
-    at-put-number2.put-number2.ensures
-    at-put-number3.put-number3.ensures
-    c.before.put-number4.ensures
+    put_all (p s) (e s) (word (e s).number) (result (e s).number c.struct_told-7-1.given.1.1.1.0.1) _ _ _ _ _ _ _ _ _
+    c.put_coef.ensures
+    c.put_number.ensures
+    at-put-bound.put_bound.ensures.0
+    at-put-bound2.put_bound-2.ensures.0
+    at-put-bound.put_bound.ensures.1
+    at-put-bound2.put_bound-2.ensures.1
+    at-put-number2.put_number-2.ensures
+    at-put-number3.put_number-3.ensures
+    c.put_number-4.ensures
 
-pub put-cell-spec : {M : Type 1} → statement M
-put-cell-spec =
+pub put_cell_spec : {M : Type 1} → statement M
+put_cell_spec =
     tie.close
     (tie.spec
     put-coef-requires

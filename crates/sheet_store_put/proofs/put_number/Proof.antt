@@ -9,20 +9,20 @@ use Rattle.sheet_store_put.proofs.Laws.{put_hit, put_miss}
 use Rattle.sheet_store_put.proofs.put_number.Statement.{statement}
 use Rattle.sheet_store_put.proofs.put_number.Tie as tie
 
-mul-v : tie.Need-overflow-mul-v
-mul-v c = omega (arith, c.before.requires c.if1.true)
+mul-v : tie.Need-offset_bounds-xs-i
+mul-v c = omega (arith, c.requires c.if-hit.true)
 
-slice-set-from-v : tie.Need-slice-set-from-v
-slice-set-from-v c = omega (arith, c.before.requires c.if1.true)
+slice-set-from-v : tie.Need-bounds-xs-i
+slice-set-from-v c = omega (arith, c.requires c.if-hit.true)
 
-same_length : tie.Need-same-length
+same_length : tie.Need-shape_of-xs
 same_length c = search rules
 
-returns : tie.Need-returns
-returns c = let s = c.before in ap (λ (z : ℤ). set s.args.xs.now s.args.i z) (of_word s.ranges.v) ∙ put_hit _ _ _ _ c.if1.true
+returns : tie.Need-returns-then-hit
+returns c = let s = c.before in ap (λ (z : ℤ). set s.args.xs.now s.args.i z) (of_word s.ranges.v) ∙ put_hit _ _ _ _ c.if-hit.true
 
-returns-2 : tie.Need-returns-2
-returns-2 c = put_miss _ _ _ _ c.if1.false
+returns-2 : tie.Need-returns-else-hit
+returns-2 c = put_miss _ _ _ _ c.if-hit.false
 
-pub put-number-spec : {M : Type 1} → statement M
-put-number-spec = tie.close (tie.spec mul-v slice-set-from-v same_length returns returns-2)
+pub put_number_spec : {M : Type 1} → statement M
+put_number_spec = tie.close (tie.spec mul-v slice-set-from-v same_length returns returns-2)

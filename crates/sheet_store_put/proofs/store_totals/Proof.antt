@@ -11,31 +11,31 @@ use Rattle.sheet_terms.proofs.Laws.{set_one, set_four}
 use Rattle.sheet_store_put.proofs.store_totals.Statement.{statement}
 use Rattle.sheet_store_put.proofs.store_totals.Tie as tie
 
-slice-set-from-cost : tie.Need-slice-set-from-cost
+slice-set-from-cost : tie.Need-bounds-c-0
 slice-set-from-cost c = search rules
 
-slice-set-from-floor : tie.Need-slice-set-from-floor
+slice-set-from-floor : tie.Need-bounds-b-0
 slice-set-from-floor c = search rules
 
-slice-set-from-broken : tie.Need-slice-set-from-broken
+slice-set-from-broken : tie.Need-bounds-counts-0
 slice-set-from-broken c = search rules
 
-slice-set-from-outside : tie.Need-slice-set-from-outside
-slice-set-from-outside c = let s : tie.Start = search in simp length-set (omega (arith, s.pre.2))
+slice-set-from-outside : tie.Need-bounds-counts-1
+slice-set-from-outside c = let s : tie.Start = search in simp length-set (omega (arith, s.requires.2))
 
-slice-set-from-wrong : tie.Need-slice-set-from-wrong
-slice-set-from-wrong c = let s : tie.Start = search in simp length-set (omega (arith, s.pre.2))
+slice-set-from-wrong : tie.Need-bounds-counts-2
+slice-set-from-wrong c = let s : tie.Start = search in simp length-set (omega (arith, s.requires.2))
 
-slice-set-from-absent : tie.Need-slice-set-from-absent
+slice-set-from-absent : tie.Need-bounds-counts-3
 slice-set-from-absent c = search rules
 
-same_length : tie.Need-same-length
+same_length : tie.Need-shape_of-c
 same_length c = search rules
 
-same-length-2 : tie.Need-same-length-2
+same-length-2 : tie.Need-shape_of-b
 same-length-2 c = search rules
 
-same-length-3 : tie.Need-same-length-3
+same-length-3 : tie.Need-shape_of-counts
 same-length-3 c = search rules
 
 returns : tie.Need-returns
@@ -43,14 +43,14 @@ unfolding over_kept
 returns c =
     let s : tie.Start = search in
     let t = s.args.t in
-    let told = c.struct-told6.given in
-    let cost = set_one s.args.c.now _ s.pre.0 ∙ (λ h. over (result t.cost told.0.1 h ∷ []) s.args.c.now) in
-    let floor = set_one s.args.b.now _ s.pre.1 ∙ (λ h. over (result t.floor told.1.0.1 h ∷ []) s.args.b.now) in
-    let counts = set_four s.args.counts.now _ _ _ _ s.pre.2 ∙ (λ h. over (result t.broken told.1.1.0.1 h ∷ result t.outside told.1.1.1.0.1 h ∷ result t.wrong told.1.1.1.1.0.1 h ∷ result t.absent told.1.1.1.1.1.0.1 h ∷ []) s.args.counts.now) in
+    let told = c.struct_told-6-1.given in
+    let cost = set_one s.args.c.now _ s.requires.0 ∙ (λ h. over (result t.cost told.0.1 h ∷ []) s.args.c.now) in
+    let floor = set_one s.args.b.now _ s.requires.1 ∙ (λ h. over (result t.floor told.1.0.1 h ∷ []) s.args.b.now) in
+    let counts = set_four s.args.counts.now _ _ _ _ s.requires.2 ∙ (λ h. over (result t.broken told.1.1.0.1 h ∷ result t.outside told.1.1.1.0.1 h ∷ result t.wrong told.1.1.1.1.0.1 h ∷ result t.absent told.1.1.1.1.1.0.1 h ∷ []) s.args.counts.now) in
     λ h. kept_of [] [] (cost h) (floor h) (counts h)
 
-pub store-totals-spec : {M : Type 1} → statement M
-store-totals-spec =
+pub store_totals_spec : {M : Type 1} → statement M
+store_totals_spec =
     tie.close
     (tie.spec
     slice-set-from-cost

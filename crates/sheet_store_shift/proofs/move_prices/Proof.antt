@@ -15,87 +15,87 @@ use Rattle.sheet_store_shift.proofs.Laws.{Covers, column_in_holds, columns_cover
 use Rattle.sheet_store_shift.proofs.move_prices.Statement.{statement}
 use Rattle.sheet_store_shift.proofs.move_prices.Tie as tie
 
-abbrev invariant-loop : tie.invariant-loop
+abbrev invariant-loop : tie.invariant-loop-j
 invariant-loop rows columns coefs costs lowers uppers lower-marks upper-marks rhs ops amounts mults e d₀ kind end j₀ d j = (j ≤ end) × Filled (λ k. d₀ ‼ k +ℤ price_change (plan_of rows columns coefs costs lowers uppers lower-marks upper-marks rhs ops amounts mults) e k) d₀ j d
 
-abbrev decreases-loop : tie.decreases-loop
+abbrev decreases-loop : tie.decreases-loop-j
 decreases-loop rows columns coefs costs lowers uppers lower-marks upper-marks rhs ops amounts mults e d₀ kind end j₀ d j = end - j
 
 abbrev plan : tie.Start invariant-loop decreases-loop → Plan
-plan s = plan_of s.args.rows s.args.columns s.args.coefs.now s.args.costs.now s.args.lowers.now s.args.uppers.now s.args.lower-marks.now s.args.upper-marks.now s.args.rhs.now s.args.ops.now s.args.amounts.now s.args.mults.now
+plan s = plan_of s.args.rows s.args.columns s.args.coefs.now s.args.costs.now s.args.lowers.now s.args.uppers.now s.args.lower_marks.now s.args.upper_marks.now s.args.rhs.now s.args.ops.now s.args.amounts.now s.args.mults.now
 
 -- the places gone through
-module _ (c : tie.After-touched-span invariant-loop decreases-loop) where
+module _ (c : tie.After-touched_span-places invariant-loop decreases-loop) where
   abbrev s : tie.Start invariant-loop decreases-loop
   s = c.before.before.before.before
 
-  cover : Covers s.args.columns (price_change (plan s) s.args.e) c.touched-span.result
-  cover = subst (Covers s.args.columns (price_change (plan s) s.args.e)) (sym c.touched-span.ensures) (columns_cover (plan s) s.args.e s.pre.0)
+  cover : Covers s.args.columns (price_change (plan s) s.args.e) c.touched_span-places.result
+  cover = subst (Covers s.args.columns (price_change (plan s) s.args.e)) (sym c.touched_span-places.ensures) (columns_cover (plan s) s.args.e s.requires.0)
 
 -- this turn's place and its number
-module _ (c : tie.In-loop invariant-loop decreases-loop) where
+module _ (c : tie.In-loop-j invariant-loop decreases-loop) where
   abbrev h : tie.Start invariant-loop decreases-loop
   h = c.before.before.before.before.before.before
 
   abbrev at : ℕ
-  at = c.before.loop.j
+  at = c.loop-j.j
 
   below : at < h.args.columns
-  below = omega (arith, (cover c.before.before).inside, c.loop-test.true)
+  below = omega (arith, (cover c.before.before).inside, c.loop-j-test.true)
 
   room : at < length h.args.d.now
-  room = omega (arith, below, h.pre.1.there)
+  room = omega (arith, below, h.requires.1.there)
 
-  long : length c.before.loop.d ≡ length h.args.d.now
-  long = filled_length c.before.loop.invariant.1 (omega (arith, room))
+  long : length c.loop-j.d ≡ length h.args.d.now
+  long = filled_length c.loop-j.invariant.1 (omega (arith, room))
 
-  old : c.before.loop.d ‼ at ≡ h.args.d.now ‼ at
-  old = filled_ahead c.before.loop.invariant.1 (pos 0)
+  old : c.loop-j.d ‼ at ≡ h.args.d.now ‼ at
+  old = filled_ahead c.loop-j.invariant.1 (pos 0)
 
-touched-span-requires : tie.Need-touched-span-requires invariant-loop decreases-loop
+touched-span-requires : tie.Need-touched_span-places-requires invariant-loop decreases-loop
 touched-span-requires c κs = let s = c.before.before.before in column_in_holds (plan s) s.args.e s.requires.0
 
-loop-holds : tie.Need-loop-init invariant-loop decreases-loop
-loop-holds c = let s = c.before.before.before.before in ((cover c).ordered, stay (price_change (plan s) s.args.e) s.args.d.now s.args.d.now c.touched-span.result.from filled_none (omega arith) (omega (arith, (cover c).ordered, (cover c).inside, s.requires.1.there)) (λ k a b. (cover c).before k b))
+loop-holds : tie.Need-loop-j-init invariant-loop decreases-loop
+loop-holds c = let s = c.before.before.before.before in ((cover c).ordered, stay (price_change (plan s) s.args.e) s.args.d.now s.args.d.now c.touched_span-places.result.from filled_none (omega arith) (omega (arith, (cover c).ordered, (cover c).inside, s.requires.1.there)) (λ k a b. (cover c).before k b))
 
-mul-price-after : tie.Need-overflow-mul-price-after invariant-loop decreases-loop
-mul-price-after c = omega (arith, below c, c.before.before.before.before.before.before.requires.0.ready.sized)
+mul-price-after : tie.Need-offset_bounds-d-j invariant-loop decreases-loop
+mul-price-after c = omega (arith, below c, c.requires.0.ready.sized)
 
-slice-copy-out-price-after : tie.Need-slice-copy-out-price-after invariant-loop decreases-loop
+slice-copy-out-price-after : tie.Need-slice_copy_out-price_after invariant-loop decreases-loop
 slice-copy-out-price-after c = omega (arith, room c, long c)
 
-price-after-requires : tie.Need-price-after-requires invariant-loop decreases-loop
-price-after-requires c κs = let h = c.before.before.before.before.before.before.before in (h.requires.0, below c.before, seen (c.before.before.loop.d ‼ c.before.before.loop.j) max_d (rw (old c.before) (h.requires.1.at c.before.before.loop.j (below c.before))) tt)
+price-after-requires : tie.Need-price_after-requires invariant-loop decreases-loop
+price-after-requires c κs = let h = c.before.before.before.before.before.before.before in (h.requires.0, below c.before, seen (c.loop-j.d ‼ c.loop-j.j) max_d (rw (old c.before) (h.requires.1.at c.loop-j.j (below c.before))) tt)
 
-mul-t28 : tie.Need-overflow-mul-t28 invariant-loop decreases-loop
-mul-t28 c = omega (arith, below c.before.before, c.before.before.before.before.before.before.before.before.requires.0.ready.sized)
+mul-t28 : tie.Need-offset_bounds-d-j-in-loop-j invariant-loop decreases-loop
+mul-t28 c = omega (arith, below c.before.before, c.requires.0.ready.sized)
 
-slice-set-from-d : tie.Need-slice-set-from-d invariant-loop decreases-loop
+slice-set-from-d : tie.Need-bounds-d-j invariant-loop decreases-loop
 slice-set-from-d c = omega (arith, room c.before.before, long c.before.before)
 
-add-j : tie.Need-overflow-add-j invariant-loop decreases-loop
-add-j c = omega (arith, below c.before.before, c.before.before.before.before.before.before.before.before.requires.0.ready.sized)
+add-j : tie.Need-overflow_add-j invariant-loop decreases-loop
+add-j c = omega (arith, below c.before.before, c.requires.0.ready.sized)
 
-loop-less : tie.Need-loop-smaller invariant-loop decreases-loop
-loop-less c = omega (arith, c.before.before.loop-test.true)
+loop-less : tie.Need-loop-j-smaller invariant-loop decreases-loop
+loop-less c = omega (arith, c.loop-j-test.true)
 
-loop-again : tie.Need-loop-preserved invariant-loop decreases-loop
+loop-again : tie.Need-loop-j-preserved invariant-loop decreases-loop
 loop-again c =
     let t = c.before.before in
     let h = c.before.before.before.before.before.before.before.before in
-    (omega (arith, t.loop-test.true), filled_more c.before.before.before.loop.invariant.1 (room t) (result c.price-after.result c.price-after.type-inv ∙ c.price-after.ensures ∙ ap (λ (z : ℤ). z +ℤ price_change (plan h) h.args.e c.before.before.before.loop.j) (result (c.before.before.before.loop.d ‼ c.before.before.before.loop.j) c.before.price-after-arg.given ∙ old t)))
+    (omega (arith, t.loop-j-test.true), filled_more c.loop-j.invariant.1 (room t) (result c.price_after.result c.price_after.type_inv ∙ c.price_after.ensures ∙ ap (λ (z : ℤ). z +ℤ price_change (plan h) h.args.e c.loop-j.j) (result (c.loop-j.d ‼ c.loop-j.j) c.price_after-arg-1.given ∙ old t)))
 
-same_length : tie.Need-same-length invariant-loop decreases-loop
-same_length c = let s = c.before.before.before.before.before.before in filled_length c.before.loop.invariant.1 (omega (arith, c.before.loop.invariant.0, (cover c.before.before).inside, s.requires.1.there))
+same_length : tie.Need-shape_of-d invariant-loop decreases-loop
+same_length c = let s = c.before.before.before.before.before.before in filled_length c.loop-j.invariant.1 (omega (arith, c.loop-j.invariant.0, (cover c.before.before).inside, s.requires.1.there))
 
 returns : tie.Need-returns invariant-loop decreases-loop
 unfolding moved_d price_change
 returns c =
     let s = c.before.before.before.before.before.before in
-    filled_over (stay (price_change (plan s) s.args.e) s.args.d.now c.before.loop.d s.args.columns c.before.loop.invariant.1 (omega (arith, c.before.loop.invariant.0, (cover c.before.before).inside)) s.requires.1.there (λ k a b. (cover c.before.before).after k (omega (arith, c.loop-test.false)) b))
+    filled_over (stay (price_change (plan s) s.args.e) s.args.d.now c.loop-j.d s.args.columns c.loop-j.invariant.1 (omega (arith, c.loop-j.invariant.0, (cover c.before.before).inside)) s.requires.1.there (λ k a b. (cover c.before.before).after k (omega (arith, c.loop-j-test.false)) b))
 
-pub move-prices-spec : {M : Type 1} → statement M
-move-prices-spec =
+pub move_prices_spec : {M : Type 1} → statement M
+move_prices_spec =
     tie.close
     (tie.spec
     invariant-loop

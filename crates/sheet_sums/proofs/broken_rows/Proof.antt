@@ -18,72 +18,72 @@ use Rattle.sheet_terms.proofs.Laws.{Turn, turn, sum_done}
 use Rattle.sheet_sums.proofs.broken_rows.Statement.{statement}
 use Rattle.sheet_sums.proofs.broken_rows.Tie as tie
 
-abbrev invariant-loop : tie.invariant-loop
+abbrev invariant-loop : tie.invariant-loop-i
 invariant-loop rows rhs ops r total₀ i₀ total i = (i ≤ rows) × (to_z w64 total ≡ sum i (λ k. bit (not (holds (ops # k) (r ‼ k) (rhs ‼ k)))))
 
-abbrev decreases-loop : tie.decreases-loop
+abbrev decreases-loop : tie.decreases-loop-i
 decreases-loop rows rhs ops r total₀ i₀ total i = rows - i
 
-module _ (c : tie.After-bit invariant-loop decreases-loop) where
+module _ (c : tie.After-bit-total invariant-loop decreases-loop) where
   abbrev s : tie.Start invariant-loop decreases-loop
   s = c.before.before.before.before.before.before.before.before
 
   abbrev i : ℕ
-  i = c.before.before.before.before.before.before.loop.i
+  i = c.loop-i.i
 
   -- the terms
   abbrev at : ℕ → ℤ
   at k = bit (not (holds (s.args.ops.now # k) (s.args.r.now ‼ k) (s.args.rhs.now ‼ k)))
 
   -- this turn's, as the machine has it
-  now_is : word c.bit.result ≡ at i
-  now_is = let h : c.before.holds.result ≡ holds (s.args.ops.now # i) (s.args.r.now ‼ i) (s.args.rhs.now ‼ i) = c.before.holds.ensures ∙ rw (result (s.args.r.now ‼ i) c.before.before.before.holds-arg.given, result (s.args.rhs.now ‼ i) c.before.before.holds-arg2.given) in result c.bit.result c.bit.type-inv ∙ c.bit.ensures ∙ ap (λ (t : Bool). bit (not t)) h
+  now_is : word c.bit-total.result ≡ at i
+  now_is = let h : c.holds.result ≡ holds (s.args.ops.now # i) (s.args.r.now ‼ i) (s.args.rhs.now ‼ i) = c.holds.ensures ∙ rw (result (s.args.r.now ‼ i) c.holds-arg-1.given, result (s.args.rhs.now ‼ i) c.holds-arg-in-loop-i-1.given) in result c.bit-total.result c.bit-total.type_inv ∙ c.bit-total.ensures ∙ ap (λ (t : Bool). bit (not t)) h
 
-  step : Turn at i (to_z w64 c.before.before.before.before.before.before.loop.total) (word c.bit.result)
-  step = turn max_rows 1 s.args.rows at i _ _ tt s.pre.0 c.before.before.before.before.before.loop-test.true (λ k _. bit_size _) c.before.before.before.before.before.before.loop.invariant.1 now_is
+  step : Turn at i (to_z w64 c.loop-i.total-bits) (word c.bit-total.result)
+  step = turn max_rows 1 s.args.rows at i _ _ tt s.requires.0 c.loop-i-test.true (λ k _. bit_size _) c.loop-i.invariant.1 now_is
 
-loop-holds : tie.Need-loop-init invariant-loop decreases-loop
+loop-holds : tie.Need-loop-i-init invariant-loop decreases-loop
 unfolding sum run
 loop-holds c = (omega arith, refl)
 
-shared-slice-read-holds : tie.Need-shared-slice-read-init invariant-loop decreases-loop
+shared-slice-read-holds : tie.Need-bounds-ops-i invariant-loop decreases-loop
 shared-slice-read-holds c = search rules
 
-mul_holds : tie.Need-overflow-mul-holds invariant-loop decreases-loop
+mul_holds : tie.Need-offset_bounds-r-i invariant-loop decreases-loop
 mul_holds c = search rules
 
-shared-slice-copy-out-holds : tie.Need-shared-slice-copy-out-init invariant-loop decreases-loop
+shared-slice-copy-out-holds : tie.Need-bounds-r-i invariant-loop decreases-loop
 shared-slice-copy-out-holds c = search rules
 
-mul-holds-2 : tie.Need-overflow-mul-holds-2 invariant-loop decreases-loop
+mul-holds-2 : tie.Need-offset_bounds-rhs-i invariant-loop decreases-loop
 mul-holds-2 c = search rules
 
-shared-slice-copy-out-holds-2 : tie.Need-shared-slice-copy-out-init-2 invariant-loop decreases-loop
+shared-slice-copy-out-holds-2 : tie.Need-bounds-rhs-i invariant-loop decreases-loop
 shared-slice-copy-out-holds-2 c = search rules
 
 holds-requires : tie.Need-holds-requires invariant-loop decreases-loop
 holds-requires c κs = search rules
 
-bit-requires : tie.Need-bit-requires invariant-loop decreases-loop
+bit-requires : tie.Need-bit-total-requires invariant-loop decreases-loop
 bit-requires c κs = search rules
 
-add_total : tie.Need-overflow-add-total invariant-loop decreases-loop
+add_total : tie.Need-overflow_add-total invariant-loop decreases-loop
 add_total c = (step c).add_fits
 
-add-i : tie.Need-overflow-add-i invariant-loop decreases-loop
+add-i : tie.Need-overflow_add-i invariant-loop decreases-loop
 add-i c = search rules
 
-loop-less : tie.Need-loop-smaller invariant-loop decreases-loop
+loop-less : tie.Need-loop-i-smaller invariant-loop decreases-loop
 loop-less c = search rules
 
-loop-again : tie.Need-loop-preserved invariant-loop decreases-loop
+loop-again : tie.Need-loop-i-preserved invariant-loop decreases-loop
 loop-again c = (omega arith, (step c).is)
 
 returns : tie.Need-returns invariant-loop decreases-loop
-returns c = sum_done _ _ _ _ (omega arith) (omega arith) c.before.loop.invariant.1
+returns c = sum_done _ _ _ _ (omega arith) (omega arith) c.loop-i.invariant.1
 
-pub broken-rows-spec : {M : Type 1} → statement M
-broken-rows-spec =
+pub broken_rows_spec : {M : Type 1} → statement M
+broken_rows_spec =
     tie.close
     (tie.spec
     invariant-loop

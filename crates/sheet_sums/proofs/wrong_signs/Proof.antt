@@ -17,66 +17,66 @@ use Rattle.sheet_terms.proofs.Laws.{Turn, turn, sum_done}
 use Rattle.sheet_sums.proofs.wrong_signs.Statement.{statement}
 use Rattle.sheet_sums.proofs.wrong_signs.Tie as tie
 
-abbrev invariant-loop : tie.invariant-loop
+abbrev invariant-loop : tie.invariant-loop-i
 invariant-loop rows ops mults total₀ i₀ total i = (i ≤ rows) × (to_z w64 total ≡ sum i (λ k. bit (wrong (ops # k) (mults ‼ k))))
 
-abbrev decreases-loop : tie.decreases-loop
+abbrev decreases-loop : tie.decreases-loop-i
 decreases-loop rows ops mults total₀ i₀ total i = rows - i
 
-module _ (c : tie.After-bit invariant-loop decreases-loop) where
+module _ (c : tie.After-bit-total invariant-loop decreases-loop) where
   abbrev s : tie.Start invariant-loop decreases-loop
   s = c.before.before.before.before.before.before.before
 
   abbrev i : ℕ
-  i = c.before.before.before.before.before.loop.i
+  i = c.loop-i.i
 
   -- the terms
   abbrev at : ℕ → ℤ
   at k = bit (wrong (s.args.ops.now # k) (s.args.mults.now ‼ k))
 
   -- this turn's, as the machine has it
-  now_is : word c.bit.result ≡ at i
-  now_is = result c.bit.result c.bit.type-inv ∙ c.bit.ensures ∙ ap bit (c.before.wrong.ensures ∙ rw (result (s.args.mults.now ‼ i) c.before.before.wrong-arg.given))
+  now_is : word c.bit-total.result ≡ at i
+  now_is = result c.bit-total.result c.bit-total.type_inv ∙ c.bit-total.ensures ∙ ap bit (c.wrong.ensures ∙ rw (result (s.args.mults.now ‼ i) c.wrong-arg-1.given))
 
-  step : Turn at i (to_z w64 c.before.before.before.before.before.loop.total) (word c.bit.result)
-  step = turn max_rows 1 s.args.rows at i _ _ tt s.pre.0 c.before.before.before.before.loop-test.true (λ k _. bit_size _) c.before.before.before.before.before.loop.invariant.1 now_is
+  step : Turn at i (to_z w64 c.loop-i.total-bits) (word c.bit-total.result)
+  step = turn max_rows 1 s.args.rows at i _ _ tt s.requires.0 c.loop-i-test.true (λ k _. bit_size _) c.loop-i.invariant.1 now_is
 
-loop-holds : tie.Need-loop-init invariant-loop decreases-loop
+loop-holds : tie.Need-loop-i-init invariant-loop decreases-loop
 unfolding sum run
 loop-holds c = (omega arith, refl)
 
-shared-slice-read-wrong : tie.Need-shared-slice-read-wrong invariant-loop decreases-loop
+shared-slice-read-wrong : tie.Need-bounds-ops-i invariant-loop decreases-loop
 shared-slice-read-wrong c = search rules
 
-mul-wrong : tie.Need-overflow-mul-wrong invariant-loop decreases-loop
+mul-wrong : tie.Need-offset_bounds-mults-i invariant-loop decreases-loop
 mul-wrong c = search rules
 
-shared-slice-copy-out-wrong : tie.Need-shared-slice-copy-out-wrong invariant-loop decreases-loop
+shared-slice-copy-out-wrong : tie.Need-bounds-mults-i invariant-loop decreases-loop
 shared-slice-copy-out-wrong c = search rules
 
 wrong-requires : tie.Need-wrong-requires invariant-loop decreases-loop
 wrong-requires c κs = search rules
 
-bit-requires : tie.Need-bit-requires invariant-loop decreases-loop
+bit-requires : tie.Need-bit-total-requires invariant-loop decreases-loop
 bit-requires c κs = search rules
 
-add_total : tie.Need-overflow-add-total invariant-loop decreases-loop
+add_total : tie.Need-overflow_add-total invariant-loop decreases-loop
 add_total c = (step c).add_fits
 
-add-i : tie.Need-overflow-add-i invariant-loop decreases-loop
+add-i : tie.Need-overflow_add-i invariant-loop decreases-loop
 add-i c = search rules
 
-loop-less : tie.Need-loop-smaller invariant-loop decreases-loop
+loop-less : tie.Need-loop-i-smaller invariant-loop decreases-loop
 loop-less c = search rules
 
-loop-again : tie.Need-loop-preserved invariant-loop decreases-loop
+loop-again : tie.Need-loop-i-preserved invariant-loop decreases-loop
 loop-again c = (omega arith, (step c).is)
 
 returns : tie.Need-returns invariant-loop decreases-loop
-returns c = sum_done _ _ _ _ (omega arith) (omega arith) c.before.loop.invariant.1
+returns c = sum_done _ _ _ _ (omega arith) (omega arith) c.loop-i.invariant.1
 
-pub wrong-signs-spec : {M : Type 1} → statement M
-wrong-signs-spec =
+pub wrong_signs_spec : {M : Type 1} → statement M
+wrong_signs_spec =
     tie.close
     (tie.spec
     invariant-loop

@@ -19,81 +19,81 @@ use Rattle.sheet_terms.proofs.Laws.{pass_zeros}
 use Rattle.sheet_terms.proofs.activity.Statement.{statement}
 use Rattle.sheet_terms.proofs.activity.Tie as tie
 
-abbrev invariant-loop : tie.invariant-loop
+abbrev invariant-loop : tie.invariant-loop-j
 invariant-loop row amounts n r₀ j₀ r j = (j ≤ length row) × (to_z w64 r ≡ sum j (λ k. row ‼ k *ℤ amounts ‼ k))
 
-abbrev decreases-loop : tie.decreases-loop
+abbrev decreases-loop : tie.decreases-loop-j
 decreases-loop row amounts n r₀ j₀ r j = length row - j
 
-shared-slice-copy-out-if2 : tie.Need-shared-slice-copy-out-if2 invariant-loop decreases-loop
+shared-slice-copy-out-if2 : tie.Need-bounds-row-0 invariant-loop decreases-loop
 shared-slice-copy-out-if2 c = search rules
 
-shared-slice-copy-out-if2-2 : tie.Need-shared-slice-copy-out-if2-2 invariant-loop decreases-loop
+shared-slice-copy-out-if2-2 : tie.Need-bounds-row-1 invariant-loop decreases-loop
 shared-slice-copy-out-if2-2 c = search rules
 
-shared-slice-copy-out-if2-3 : tie.Need-shared-slice-copy-out-if2-3 invariant-loop decreases-loop
+shared-slice-copy-out-if2-3 : tie.Need-bounds-row-2 invariant-loop decreases-loop
 shared-slice-copy-out-if2-3 c = search rules
 
-go-on-requires : tie.Need-go-on-requires invariant-loop decreases-loop
+go-on-requires : tie.Need-go_on-requires invariant-loop decreases-loop
 unfolding sum run
 go-on-requires c κs =
-    let p = c.before.before.before.before.before.requires in
+    let p = c.requires in
     (omega arith, omega arith, p.0, p.1, p.2, refl)
 
-returns : tie.Need-returns invariant-loop decreases-loop
+returns : tie.Need-returns-then-row invariant-loop decreases-loop
 unfolding row_sum
-returns c = result _ c.go_on.type-inv ∙ c.go_on.ensures
+returns c = result _ c.go_on.type_inv ∙ c.go_on.ensures
 
-loop-holds : tie.Need-loop-init invariant-loop decreases-loop
+loop-holds : tie.Need-loop-j-init invariant-loop decreases-loop
 unfolding sum run
 loop-holds c = (search rules, refl)
 
-add-loop : tie.Need-overflow-add-loop invariant-loop decreases-loop
+add-loop : tie.Need-overflow_add-j invariant-loop decreases-loop
 add-loop c = search rules
 
 quiet-requires : tie.Need-quiet-requires invariant-loop decreases-loop
 quiet-requires c κs = search rules
 
-add-go-on : tie.Need-overflow-add-go-on invariant-loop decreases-loop
+add-go-on : tie.Need-overflow_add-j-then-not-quiet invariant-loop decreases-loop
 add-go-on c = search rules
 
-go-on-requires-2 : tie.Need-go-on-requires-2 invariant-loop decreases-loop
+go-on-requires-2 : tie.Need-go_on-r-requires invariant-loop decreases-loop
 go-on-requires-2 c κs =
-    let l = c.before.before.before.loop in
-    let p = c.before.before.before.before.before.requires in
+    let l = c.loop-j in
+    let p = c.requires in
     (omega arith, omega arith, p.0, p.1, p.2, l.invariant.1)
 
-add-j : tie.Need-overflow-add-j invariant-loop decreases-loop
+add-j : tie.Need-overflow_add-j-in-loop-j invariant-loop decreases-loop
 add-j c = search rules
 
-loop-less : tie.Need-loop-smaller invariant-loop decreases-loop
+loop-less : tie.Need-loop-j-smaller invariant-loop decreases-loop
 loop-less c = search rules
 
-loop-again : tie.Need-loop-preserved invariant-loop decreases-loop
+loop-again : tie.Need-loop-j-preserved invariant-loop decreases-loop
 loop-again c =
-    let l = c.before.before.before.loop in
-    let p = c.before.before.before.before.before.args in
+    let l = c.loop-j in
+    let p = c.args in
     let none = pass_zeros p.row.now p.amounts.now l.j block in
-    let is = sym c.before.quiet.ensures in (
+    let is = sym c.quiet.ensures in (
       search rules,
       ⊎_elim
-          (λ t. rw t.2 (result _ t.1.ok ∙ t.1.ensures))
-          (λ t. ap (to_z w64) t.1 ∙ l.invariant.1 ∙ sym (none (is ∙ (turned itself).0 t.0.left)))
-          c.if3.branch,
+          (λ t. rw t.r-is-bits (result _ t.go_on-r.type_inv ∙ t.go_on-r.ensures))
+          (λ t. ap (to_z w64) t.r-is-bits ∙ l.invariant.1 ∙ sym (none (is ∙ (turned itself).0 t.if-not-quiet.false-raw)))
+          c.if-not-quiet.branch-raw,
     )
 
-go-on-requires-3 : tie.Need-go-on-requires-3 invariant-loop decreases-loop
+go-on-requires-3 : tie.Need-go_on-requires-2 invariant-loop decreases-loop
 go-on-requires-3 c κs =
-    let l = c.before.loop in
-    let p = c.before.before.before.requires in
+    let l = c.loop-j in
+    let p = c.requires in
     (l.invariant.0, omega arith, p.0, p.1, p.2, l.invariant.1)
 
-returns-2 : tie.Need-returns-2 invariant-loop decreases-loop
+returns-2 : tie.Need-returns invariant-loop decreases-loop
 unfolding row_sum
-returns-2 c = result _ c.go-on3.type-inv ∙ c.go-on3.ensures
+returns-2 c = result _ c.go_on-2.type_inv ∙ c.go_on-2.ensures
 
-pub activity-spec : {M : Type 1} → statement M
-activity-spec =
+pub activity_spec : {M : Type 1} → statement M
+activity_spec =
     tie.close
     (tie.spec
     invariant-loop

@@ -8,5 +8,5 @@ returns : tie.Need-returns
 unfolding outside
 returns c = rw (of_word c.ranges.z, of_word c.ranges.low, of_word c.ranges.high)
 
-pub outside-spec : {M : Type 1} → statement M
-outside-spec = tie.close (tie.spec returns)
+pub outside_spec : {M : Type 1} → statement M
+outside_spec = tie.close (tie.spec returns)

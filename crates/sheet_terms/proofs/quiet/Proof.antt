@@ -14,43 +14,43 @@ use Rattle.sheet_terms.proofs.Word.{or_zero, zero_word}
 use Rattle.sheet_terms.proofs.quiet.Statement.{statement}
 use Rattle.sheet_terms.proofs.quiet.Tie as tie
 
-abbrev invariant-loop : tie.invariant-loop
+abbrev invariant-loop : tie.invariant-loop-k
 invariant-loop row j bits₀ k₀ bits k = (k ≤ block) × (eqb bits 0 ≡ all k (λ i. is_zero (row ‼ (j + i))))
 
-abbrev decreases-loop : tie.decreases-loop
+abbrev decreases-loop : tie.decreases-loop-k
 decreases-loop row j bits₀ k₀ bits k = block - k
 
-loop-holds : tie.Need-loop-init invariant-loop decreases-loop
+loop-holds : tie.Need-loop-k-init invariant-loop decreases-loop
 unfolding all
 loop-holds c = (search rules, refl)
 
-add-bits : tie.Need-overflow-add-bits invariant-loop decreases-loop
+add-bits : tie.Need-overflow_add-bits invariant-loop decreases-loop
 add-bits c = search rules
 
-mul-bits : tie.Need-overflow-mul-bits invariant-loop decreases-loop
+mul-bits : tie.Need-offset_bounds-row-j invariant-loop decreases-loop
 mul-bits c = search rules
 
-shared-slice-copy-out-bits : tie.Need-shared-slice-copy-out-bits invariant-loop decreases-loop
+shared-slice-copy-out-bits : tie.Need-bounds-row-j invariant-loop decreases-loop
 shared-slice-copy-out-bits c = search rules
 
-add-k : tie.Need-overflow-add-k invariant-loop decreases-loop
+add-k : tie.Need-overflow_add-k invariant-loop decreases-loop
 add-k c = search rules
 
-loop-less : tie.Need-loop-smaller invariant-loop decreases-loop
+loop-less : tie.Need-loop-k-smaller invariant-loop decreases-loop
 loop-less c = search rules
 
-loop-again : tie.Need-loop-preserved invariant-loop decreases-loop
+loop-again : tie.Need-loop-k-preserved invariant-loop decreases-loop
 unfolding all
 loop-again c = (
   search rules,
-  rw (or_zero, c.before.before.loop.invariant.1, zero_word _ (record { sfits = c.bits.given }), add-one),
+  rw (or_zero, c.loop-k.invariant.1, zero_word _ (record { sfits = c.bits-1.given }), add-one),
 )
 
 returns : tie.Need-returns invariant-loop decreases-loop
-returns c = let e : c.before.loop.k ≡ block = omega arith in rw e at c.before.loop.invariant.1
+returns c = let e : c.loop-k.k ≡ block = omega arith in rw e at c.loop-k.invariant.1
 
-pub quiet-spec : {M : Type 1} → statement M
-quiet-spec =
+pub quiet_spec : {M : Type 1} → statement M
+quiet_spec =
     tie.close
     (tie.spec
     invariant-loop

@@ -14,29 +14,29 @@ use borrow.Author.Rules.{rules}
 use Rattle.sheet_terms.proofs.size.Statement.{statement}
 use Rattle.sheet_terms.proofs.size.Tie as tie
 
-negative : (c : tie.Then1) → Below c.before.args.z
-negative c = below c.before.args.z c.before.ranges.z (subst T (sym (ap (λ (z : ℤ). lt_z z (pos 0)) (sym (to_z-of_z w64 _ c.before.ranges.z)) ∙ c.if1.true)) tt)
+negative : (c : tie.Then-z-lt0) → Below c.args.z
+negative c = below c.args.z c.ranges.z (subst T (sym (ap (λ (z : ℤ). lt_z z (pos 0)) (sym (to_z-of_z w64 _ c.ranges.z)) ∙ c.if-z-lt0.true)) tt)
 
-add-k : tie.Need-overflow-add-k
+add-k : tie.Need-overflow_add-k
 add-k c = (negative c).one_fits
 
-sub-k : tie.Need-overflow-sub-k
+sub-k : tie.Need-overflow_sub-k
 sub-k c = (negative c).neg_fits
 
-cast-result : tie.Need-overflow-cast-result
+cast-result : tie.Need-overflow_cast-result
 cast-result c = rw (negative c).is (tt, omega (arith, (negative c).small))
 
-add-result : tie.Need-overflow-add-result
+add-result : tie.Need-overflow_add-result
 add-result c = rw (negative c).is (omega (arith, (negative c).small))
 
-returns : tie.Need-returns
+returns : tie.Need-returns-then-z-lt0
 returns c = rw (negative c).is (negative c).one_more
 
-cast-result-2 : tie.Need-overflow-cast-result-2
-cast-result-2 c = (yes_non_neg (lt_z_no {a = word c.before.args.z} {b = pos 0} (subst (λ (t : Bool). T (not t)) (sym c.if1.false) tt)), rw (to_z-of_z w64 c.before.args.z c.before.ranges.z) (Fits-nat_abs tt c.before.ranges.z))
+cast-result-2 : tie.Need-overflow_cast-result-2
+cast-result-2 c = (yes_non_neg (lt_z_no {a = word c.args.z} {b = pos 0} (subst (λ (t : Bool). T (not t)) (sym c.if-z-lt0.false) tt)), rw (to_z-of_z w64 c.args.z c.ranges.z) (Fits-nat_abs tt c.ranges.z))
 
-returns-2 : tie.Need-returns-2
+returns-2 : tie.Need-returns
 returns-2 c = search rules
 
-pub size-spec : {M : Type 1} → statement M
-size-spec = tie.close (tie.spec add-k sub-k cast-result add-result returns cast-result-2 returns-2)
+pub size_spec : {M : Type 1} → statement M
+size_spec = tie.close (tie.spec add-k sub-k cast-result add-result returns cast-result-2 returns-2)

@@ -8,14 +8,14 @@ use Rattle.sheet_tests.proofs.all_within.Tie as tie
 joined-requires : tie.Need-joined-requires
 joined-requires c κs = search rules
 
-returns : tie.Need-returns
-returns c = sym (joined_tells _ _ _ (rw (← c.before.joined.ensures) c.if1.true))
+returns : tie.Need-returns-then-joined-limit
+returns c = sym (joined_tells _ _ _ (rw (← c.joined.ensures) c.if-joined-limit.true))
 
-each-within-requires : tie.Need-each-within-requires
+each-within-requires : tie.Need-each_within-requires
 each-within-requires c κs = search rules
 
-returns-2 : tie.Need-returns-2
+returns-2 : tie.Need-returns
 returns-2 c = search rules
 
-pub all-within-spec : {M : Type 1} → statement M
-all-within-spec = tie.close (tie.spec joined-requires returns each-within-requires returns-2)
+pub all_within_spec : {M : Type 1} → statement M
+all_within_spec = tie.close (tie.spec joined-requires returns each-within-requires returns-2)

@@ -8,12 +8,12 @@ use Rattle.sheet_terms.proofs.Machine.{of_word}
 use Rattle.sheet_tests.proofs.count_fine.Statement.{statement}
 use Rattle.sheet_tests.proofs.count_fine.Tie as tie
 
-cast-result : tie.Need-overflow-cast-result
+cast-result : tie.Need-overflow_cast-result
 cast-result c = search rules
 
 returns : tie.Need-returns
 unfolding count_fine
 returns c = rw (of_word c.ranges.z, to_z_pos w64 c.args.n (omega arith))
 
-pub count-fine-spec : {M : Type 1} → statement M
-count-fine-spec = tie.close (tie.spec cast-result returns)
+pub count_fine_spec : {M : Type 1} → statement M
+count_fine_spec = tie.close (tie.spec cast-result returns)

@@ -8,5 +8,5 @@ returns : tie.Need-returns
 unfolding crosses
 returns c = rw (of_word c.ranges.low, of_word c.ranges.high)
 
-pub crosses-spec : {M : Type 1} → statement M
-crosses-spec = tie.close (tie.spec returns)
+pub crosses_spec : {M : Type 1} → statement M
+crosses_spec = tie.close (tie.spec returns)

@@ -17,54 +17,54 @@ nothing_else : (costs signs floor : Bool) → signs && floor ≡ false → false
 nothing_else true signs floor e = sym e
 nothing_else false signs floor e = refl
 
-shared-slice-copy-out-is-zero : tie.Need-shared-slice-copy-out-is-zero
+shared-slice-copy-out-is-zero : tie.Need-bounds-counts-2
 shared-slice-copy-out-is-zero c = search rules
 
-is-zero-requires : tie.Need-is-zero-requires
+is-zero-requires : tie.Need-is_zero-requires
 is-zero-requires c κs = search rules
 
-shared-slice-copy-out-is-zero-2 : tie.Need-shared-slice-copy-out-is-zero-2
+shared-slice-copy-out-is-zero-2 : tie.Need-bounds-counts-3
 shared-slice-copy-out-is-zero-2 c = search rules
 
-is-zero-requires-2 : tie.Need-is-zero-requires-2
+is-zero-requires-2 : tie.Need-is_zero-requires-2
 is-zero-requires-2 c κs = search rules
 
-shared-slice-copy-out-if1 : tie.Need-shared-slice-copy-out-if1
+shared-slice-copy-out-if1 : tie.Need-bounds-b-0
 shared-slice-copy-out-if1 c = search rules
 
-all-within-requires : tie.Need-all-within-requires
+all-within-requires : tie.Need-all_within-requires
 all-within-requires c κs = search rules
 
-returns : tie.Need-returns
+returns : tie.Need-returns-then-is_zero-b
 unfolding none_exists
 returns c =
     let p = c.before.before in
     c.all_within.ensures
     ∙ costs_decide _ _ _
     (rw (
-      p.before.before.before.is_zero.ensures,
-      p.before.is-zero2.ensures,
-      result _ p.before.before.before.before.is-zero-arg.given,
-      result _ p.before.before.is-zero-arg2.given,
-      result _ p.if12.given,
-    ) at c.before.if1.true)
+      p.is_zero.ensures,
+      p.is_zero-2.ensures,
+      result _ p.is_zero-arg-1.given,
+      result _ p.is_zero-arg-2-1.given,
+      result _ p.t13-1.given,
+    ) at c.if-is_zero-b.true)
 
-returns-2 : tie.Need-returns-2
+returns-2 : tie.Need-returns
 unfolding none_exists
 returns-2 c =
     let p = c.before in
-    let a = p.before.before.before.before.before.args in
+    let a = p.args in
     nothing_else (all_within 0 a.columns a.costs.now) _ _
     (rw (
-      p.before.before.before.is_zero.ensures,
-      p.before.is-zero2.ensures,
-      result _ p.before.before.before.before.is-zero-arg.given,
-      result _ p.before.before.is-zero-arg2.given,
-      result _ p.if12.given,
-    ) at c.if1.false)
+      p.is_zero.ensures,
+      p.is_zero-2.ensures,
+      result _ p.is_zero-arg-1.given,
+      result _ p.is_zero-arg-2-1.given,
+      result _ p.t13-1.given,
+    ) at c.if-is_zero-b.false)
 
-pub none-exists-spec : {M : Type 1} → statement M
-none-exists-spec =
+pub none_exists_spec : {M : Type 1} → statement M
+none_exists_spec =
     tie.close
     (tie.spec
     shared-slice-copy-out-is-zero

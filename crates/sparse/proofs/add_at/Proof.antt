@@ -5,29 +5,29 @@ use borrow.Author.Rules.{rules}
 use Rattle.sparse.proofs.add_at.Statement.{statement}
 use Rattle.sparse.proofs.add_at.Tie as tie
 
-touch-requires : tie.Need-touch-requires
+touch-requires : tie.Need-touch-n-requires
 touch-requires c κs = search rules
 
-mul-values : tie.Need-overflow-mul-values
+mul-values : tie.Need-offset_bounds-values-i
 mul-values c = search rules
 
-element-copy-out-values : tie.Need-element-copy-out-values
+element-copy-out-values : tie.Need-bounds-values-i
 element-copy-out-values c = search rules
 
-mul-values-2 : tie.Need-overflow-mul-values-2
+mul-values-2 : tie.Need-offset_bounds-values-i-2
 mul-values-2 c = search rules
 
-element-write-values : tie.Need-element-write-values
+element-write-values : tie.Need-bounds-values-i-2
 element-write-values c = search rules
 
 returns : tie.Need-returns
 unfolding put_at
 returns c =
-    let d : tie.After-touch = search in
-    ap (sv_of _) d.touch.ensures
+    let d : tie.After-touch-n = search in
+    ap (sv_of _) d.touch-n.ensures
 
-pub add-at-spec : {M : Type 1} → statement M
-add-at-spec =
+pub add_at_spec : {M : Type 1} → statement M
+add_at_spec =
     tie.close
     (tie.spec
     touch-requires

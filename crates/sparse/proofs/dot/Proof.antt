@@ -11,55 +11,55 @@ use Rattle.sparse.specs.Scattered.{dot_turn, dot}
 use Rattle.sparse.proofs.dot.Statement.{statement}
 use Rattle.sparse.proofs.dot.Tie as tie
 
-abbrev invariant-loop : tie.invariant-loop
+abbrev invariant-loop : tie.invariant-loop-k
 invariant-loop at xs v sum₀ k₀ sum k = (k ≤ length at) × (sum ≡ run (dot_turn at xs v) k f0)
 
-abbrev decreases-loop : tie.decreases-loop
+abbrev decreases-loop : tie.decreases-loop-k
 decreases-loop at xs v sum₀ k₀ sum k = length at - k
 
 -- in a turn the place is within the values
-place : (t : tie.In-loop invariant-loop decreases-loop) → get_or t.before.before.args.at.now t.before.loop.k 0 < length t.before.before.args.v.now
-place t = t.before.before.requires.1.inside t.before.loop.k t.loop-test.true
+place : (t : tie.In-loop-k invariant-loop decreases-loop) → get_or t.args.at.now t.loop-k.k 0 < length t.args.v.now
+place t = t.requires.1.inside t.loop-k.k t.loop-k-test.true
 
-loop-holds : tie.Need-loop-init invariant-loop decreases-loop
+loop-holds : tie.Need-loop-k-init invariant-loop decreases-loop
 unfolding run
 loop-holds c = (omega arith, refl)
 
-mul-i : tie.Need-overflow-mul-i invariant-loop decreases-loop
+mul-i : tie.Need-offset_bounds-at-k invariant-loop decreases-loop
 mul-i c = search rules
 
-shared-slice-read-i : tie.Need-shared-slice-read-i invariant-loop decreases-loop
+shared-slice-read-i : tie.Need-bounds-at-k invariant-loop decreases-loop
 shared-slice-read-i c = search rules
 
-mul-sum : tie.Need-overflow-mul-sum invariant-loop decreases-loop
+mul-sum : tie.Need-offset_bounds-xs-k invariant-loop decreases-loop
 mul-sum c = omega arith
 
-shared-slice-read-sum : tie.Need-shared-slice-read-sum invariant-loop decreases-loop
+shared-slice-read-sum : tie.Need-bounds-xs-k invariant-loop decreases-loop
 shared-slice-read-sum c = omega arith
 
-mul-sum-2 : tie.Need-overflow-mul-sum-2 invariant-loop decreases-loop
-mul-sum-2 c = let t : tie.In-loop invariant-loop decreases-loop = search in omega (arith, place t)
+mul-sum-2 : tie.Need-offset_bounds-v-i invariant-loop decreases-loop
+mul-sum-2 c = let t : tie.In-loop-k invariant-loop decreases-loop = search in omega (arith, place t)
 
-shared-slice-read-sum-2 : tie.Need-shared-slice-read-sum-2 invariant-loop decreases-loop
-shared-slice-read-sum-2 c = let t : tie.In-loop invariant-loop decreases-loop = search in omega (arith, place t)
+shared-slice-read-sum-2 : tie.Need-bounds-v-i invariant-loop decreases-loop
+shared-slice-read-sum-2 c = let t : tie.In-loop-k invariant-loop decreases-loop = search in omega (arith, place t)
 
-add-k : tie.Need-overflow-add-k invariant-loop decreases-loop
+add-k : tie.Need-overflow_add-k invariant-loop decreases-loop
 add-k c = search rules
 
-loop-less : tie.Need-loop-smaller invariant-loop decreases-loop
+loop-less : tie.Need-loop-k-smaller invariant-loop decreases-loop
 loop-less c = search rules
 
-loop-again : tie.Need-loop-preserved invariant-loop decreases-loop
+loop-again : tie.Need-loop-k-preserved invariant-loop decreases-loop
 loop-again c =
-    let t : tie.In-loop invariant-loop decreases-loop = search in
-    (omega arith, next _ _ t.before.loop.k t.before.loop.inv.1 refl)
+    let t : tie.In-loop-k invariant-loop decreases-loop = search in
+    (omega arith, next _ _ t.loop-k.k t.loop-k.invariant.1 refl)
 
 returns : tie.Need-returns invariant-loop decreases-loop
 unfolding dot
-returns c = done _ _ _ _ c.before.loop.invariant.0 c.loop-test.false c.before.loop.invariant.1
+returns c = done _ _ _ _ c.loop-k.invariant.0 c.loop-k-test.false c.loop-k.invariant.1
 
-pub dot-spec : {M : Type 1} → statement M
-dot-spec =
+pub dot_spec : {M : Type 1} → statement M
+dot_spec =
     tie.close
     (tie.spec
     invariant-loop

@@ -6,33 +6,33 @@ use Rattle.sparse.proofs.Laws.{wf_room}
 use Rattle.sparse.proofs.touch.Statement.{statement}
 use Rattle.sparse.proofs.touch.Tie as tie
 
-element-copy-out-if1 : tie.Need-element-copy-out-if1
+element-copy-out-if1 : tie.Need-bounds-marks-i
 element-copy-out-if1 c = search rules
 
-returns : tie.Need-returns
+returns : tie.Need-returns-then-marks-i
 unfolding touched
-returns c = rw c.if1.true
+returns c = rw c.if-marks-i.true
 
-element-write-marks : tie.Need-element-write-marks
+element-write-marks : tie.Need-bounds-marks-i-2
 element-write-marks c = search rules
 
-mul-list : tie.Need-overflow-mul-list
+mul-list : tie.Need-offset_bounds-list-count
 mul-list c = search rules
 
-element-write-list : tie.Need-element-write-list
+element-write-list : tie.Need-bounds-list-count
 element-write-list c =
     let s : tie.Start = search in
-    omega (arith, wf_room _ s.pre.1 _ s.pre.0 c.if1.false)
+    omega (arith, wf_room _ s.requires.1 _ s.requires.0 c.if-marks-i.false)
 
-add-result : tie.Need-overflow-add-result
+add-result : tie.Need-overflow_add-result
 add-result c = search rules
 
-returns-2 : tie.Need-returns-2
+returns-2 : tie.Need-returns
 unfolding touched
-returns-2 c = rw c.if1.false
+returns-2 c = rw c.if-marks-i.false
 
-pub touch-spec : {M : Type 1} → statement M
-touch-spec =
+pub touch_spec : {M : Type 1} → statement M
+touch_spec =
     tie.close
     (tie.spec
     element-copy-out-if1

@@ -15,64 +15,64 @@ use native.Mathlib.Omega.{arith}
 use Rattle.start.proofs.passes_7.Statement.{statement}
 use Rattle.start.proofs.passes_7.Tie as tie
 
-abbrev invariant-loop : tie.invariant-loop
+abbrev invariant-loop : tie.invariant-loop-r
 invariant-loop ops kept slacks r₀ r = (r ≤ length kept) × (all r (λ q. in_bounds (slack_min (ops # (kept # q))) (slacks ! q) (slack_max (ops # (kept # q)))) ≡ true)
 
-abbrev decreases-loop : tie.decreases-loop
+abbrev decreases-loop : tie.decreases-loop-r
 decreases-loop ops kept slacks r₀ r = length kept - r
 
-abbrev entry : tie.In-loop invariant-loop decreases-loop → tie.Start invariant-loop decreases-loop
+abbrev entry : tie.In-loop-r invariant-loop decreases-loop → tie.Start invariant-loop decreases-loop
 entry t = search
 
 -- in a turn the row's comparison is there
-op_there : (t : tie.In-loop invariant-loop decreases-loop) → get_or (entry t).args.kept.now t.before.loop.r 0 < length (entry t).args.ops.now
-op_there t = (entry t).requires.1.inside t.before.loop.r t.loop-test.true
+op_there : (t : tie.In-loop-r invariant-loop decreases-loop) → get_or (entry t).args.kept.now t.loop-r.r 0 < length (entry t).args.ops.now
+op_there t = (entry t).requires.1.inside t.loop-r.r t.loop-r-test.true
 
-loop-holds : tie.Need-loop-init invariant-loop decreases-loop
+loop-holds : tie.Need-loop-r-init invariant-loop decreases-loop
 unfolding all
 loop-holds c = (omega arith, refl)
 
-mul-i : tie.Need-overflow-mul-i invariant-loop decreases-loop
+mul-i : tie.Need-offset_bounds-kept-r invariant-loop decreases-loop
 mul-i c = omega arith
 
-shared-slice-read-i : tie.Need-shared-slice-read-i invariant-loop decreases-loop
+shared-slice-read-i : tie.Need-bounds-kept-r invariant-loop decreases-loop
 shared-slice-read-i c = omega arith
 
-shared-slice-read-in-bounds : tie.Need-shared-slice-read-in-bounds invariant-loop decreases-loop
-shared-slice-read-in-bounds c = let t : tie.In-loop invariant-loop decreases-loop = search in op_there t
+shared-slice-read-in-bounds : tie.Need-bounds-ops-i invariant-loop decreases-loop
+shared-slice-read-in-bounds c = let t : tie.In-loop-r invariant-loop decreases-loop = search in op_there t
 
-mul-in-bounds : tie.Need-overflow-mul-in-bounds invariant-loop decreases-loop
+mul-in-bounds : tie.Need-offset_bounds-slacks-r invariant-loop decreases-loop
 mul-in-bounds c = omega arith
 
-element-copy-out-in-bounds : tie.Need-element-copy-out-in-bounds invariant-loop decreases-loop
+element-copy-out-in-bounds : tie.Need-bounds-slacks-r invariant-loop decreases-loop
 element-copy-out-in-bounds c = omega arith
 
-in-bounds-requires : tie.Need-in-bounds-requires invariant-loop decreases-loop
+in-bounds-requires : tie.Need-in_bounds-requires invariant-loop decreases-loop
 in-bounds-requires c κs = search rules
 
-returns : tie.Need-returns invariant-loop decreases-loop
+returns : tie.Need-returns-then-not-in_bounds invariant-loop decreases-loop
 unfolding slacks_inside
 returns c =
-    let t : tie.In-loop invariant-loop decreases-loop = search in
-    sym (all_fails _ _ _ t.loop-test.taken (sym c.before.in_bounds.ensures ∙ (turned_true itself).0 c.if1.true))
+    let t : tie.In-loop-r invariant-loop decreases-loop = search in
+    sym (all_fails _ _ _ t.loop-r-test.true (sym c.in_bounds.ensures ∙ (turned_true itself).0 c.if-not-in_bounds.true-raw))
 
-add_r : tie.Need-overflow-add-r invariant-loop decreases-loop
+add_r : tie.Need-overflow_add-r invariant-loop decreases-loop
 add_r c = omega arith
 
-loop-less : tie.Need-loop-smaller invariant-loop decreases-loop
+loop-less : tie.Need-loop-r-smaller invariant-loop decreases-loop
 loop-less c = omega arith
 
-loop-again : tie.Need-loop-preserved invariant-loop decreases-loop
+loop-again : tie.Need-loop-r-preserved invariant-loop decreases-loop
 loop-again c =
-    let a : tie.At-loop invariant-loop decreases-loop = search in
-    (omega arith, all_next _ _ a.loop.inv.1 (sym c.before.in_bounds.ensures ∙ (turned itself).0 c.if1.false))
+    let a : tie.At-loop-r invariant-loop decreases-loop = search in
+    (omega arith, all_next _ _ a.loop-r.invariant.1 (sym c.in_bounds.ensures ∙ (turned itself).0 c.if-not-in_bounds.false-raw))
 
-returns-2 : tie.Need-returns-2 invariant-loop decreases-loop
+returns-2 : tie.Need-returns invariant-loop decreases-loop
 unfolding slacks_inside
-returns-2 c = sym (all_done _ _ _ c.before.loop.invariant.0 c.loop-test.false c.before.loop.invariant.1)
+returns-2 c = sym (all_done _ _ _ c.loop-r.invariant.0 c.loop-r-test.false c.loop-r.invariant.1)
 
-pub passes-7-spec : {M : Type 1} → statement M
-passes-7-spec =
+pub passes_7_spec : {M : Type 1} → statement M
+passes_7_spec =
     tie.close
     (tie.spec
     invariant-loop

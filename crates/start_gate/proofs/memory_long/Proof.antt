@@ -8,7 +8,7 @@ use Rattle.start_gate.proofs.Long.{long_is}
 use Rattle.start_gate.proofs.memory_long.Statement.{statement}
 use Rattle.start_gate.proofs.memory_long.Tie as tie
 
-add-result : tie.Need-overflow-add-result
+add-result : tie.Need-overflow_add-result
 add-result c = search rules
 
 returns : tie.Need-returns
@@ -17,7 +17,7 @@ returns c =
     let a = s.args in
     sym
     (long_is (plan_of a.columns a.rows 0 0 f0 [] [] [] [] [] [] [] []) a.values.now a.numbers.now
-    a.doubles.now a.factor_numbers.now a.factor_coeffs.now s.pre.0 s.pre.1)
+    a.doubles.now a.factor_numbers.now a.factor_coeffs.now s.requires.0 s.requires.1)
 
-pub memory-long-spec : {M : Type 1} → statement M
-memory-long-spec = tie.close (tie.spec add-result returns)
+pub memory_long_spec : {M : Type 1} → statement M
+memory_long_spec = tie.close (tie.spec add-result returns)

@@ -10,67 +10,67 @@ use native.Mathlib.Omega.{arith}
 use Rattle.start_norms.proofs.add_squares.Statement.{statement}
 use Rattle.start_norms.proofs.add_squares.Tie as tie
 
-abbrev invariant-loop : tie.invariant-loop
+abbrev invariant-loop : tie.invariant-loop-k
 invariant-loop cols coeffs norms₀ k₀ norms k = (k ≤ length cols) × (norms ≡ run (square_turn cols coeffs) k norms₀)
 
-abbrev decreases-loop : tie.decreases-loop
+abbrev decreases-loop : tie.decreases-loop-k
 decreases-loop cols coeffs norms₀ k₀ norms k = length cols - k
 
 -- in a turn the column is within the norms
-place : (t : tie.In-loop invariant-loop decreases-loop) → get_or t.before.before.args.cols.now t.before.loop.k 0 < max_columns
-place t = t.before.before.requires.1.inside t.before.loop.k t.loop-test.true
+place : (t : tie.In-loop-k invariant-loop decreases-loop) → get_or t.args.cols.now t.loop-k.k 0 < max_columns
+place t = t.requires.1.inside t.loop-k.k t.loop-k-test.true
 
-loop-holds : tie.Need-loop-init invariant-loop decreases-loop
+loop-holds : tie.Need-loop-k-init invariant-loop decreases-loop
 unfolding run
 loop-holds c = (omega arith, refl)
 
-mul-j : tie.Need-overflow-mul-j invariant-loop decreases-loop
+mul-j : tie.Need-offset_bounds-cols-k invariant-loop decreases-loop
 mul-j c = omega arith
 
-shared-slice-read-j : tie.Need-shared-slice-read-j invariant-loop decreases-loop
+shared-slice-read-j : tie.Need-bounds-cols-k invariant-loop decreases-loop
 shared-slice-read-j c = omega arith
 
-mul-norms : tie.Need-overflow-mul-norms invariant-loop decreases-loop
-mul-norms c = let t : tie.In-loop invariant-loop decreases-loop = search in omega (arith, place t)
+mul-norms : tie.Need-offset_bounds-norms-j invariant-loop decreases-loop
+mul-norms c = let t : tie.In-loop-k invariant-loop decreases-loop = search in omega (arith, place t)
 
-element-copy-out-norms : tie.Need-element-copy-out-norms invariant-loop decreases-loop
-element-copy-out-norms c = let t : tie.In-loop invariant-loop decreases-loop = search in omega (arith, place t)
+element-copy-out-norms : tie.Need-bounds-norms-j invariant-loop decreases-loop
+element-copy-out-norms c = let t : tie.In-loop-k invariant-loop decreases-loop = search in omega (arith, place t)
 
-mul-norms-2 : tie.Need-overflow-mul-norms-2 invariant-loop decreases-loop
+mul-norms-2 : tie.Need-offset_bounds-coeffs-k invariant-loop decreases-loop
 mul-norms-2 c = omega arith
 
-shared-slice-read-norms : tie.Need-shared-slice-read-norms invariant-loop decreases-loop
+shared-slice-read-norms : tie.Need-bounds-coeffs-k invariant-loop decreases-loop
 shared-slice-read-norms c = omega arith
 
-mul-norms-3 : tie.Need-overflow-mul-norms-3 invariant-loop decreases-loop
+mul-norms-3 : tie.Need-offset_bounds-coeffs-k-in-loop-k invariant-loop decreases-loop
 mul-norms-3 c = omega arith
 
-shared-slice-read-norms-2 : tie.Need-shared-slice-read-norms-2 invariant-loop decreases-loop
+shared-slice-read-norms-2 : tie.Need-bounds-coeffs-k-in-loop-k invariant-loop decreases-loop
 shared-slice-read-norms-2 c = omega arith
 
-mul-norms-4 : tie.Need-overflow-mul-norms-4 invariant-loop decreases-loop
-mul-norms-4 c = let t : tie.In-loop invariant-loop decreases-loop = search in omega (arith, place t)
+mul-norms-4 : tie.Need-offset_bounds-norms-j-in-loop-k invariant-loop decreases-loop
+mul-norms-4 c = let t : tie.In-loop-k invariant-loop decreases-loop = search in omega (arith, place t)
 
-element-write-norms : tie.Need-element-write-norms invariant-loop decreases-loop
-element-write-norms c = let t : tie.In-loop invariant-loop decreases-loop = search in omega (arith, place t)
+element-write-norms : tie.Need-bounds-norms-j-in-loop-k invariant-loop decreases-loop
+element-write-norms c = let t : tie.In-loop-k invariant-loop decreases-loop = search in omega (arith, place t)
 
-add-k : tie.Need-overflow-add-k invariant-loop decreases-loop
+add-k : tie.Need-overflow_add-k invariant-loop decreases-loop
 add-k c = omega arith
 
-loop-less : tie.Need-loop-smaller invariant-loop decreases-loop
+loop-less : tie.Need-loop-k-smaller invariant-loop decreases-loop
 loop-less c = omega arith
 
-loop-again : tie.Need-loop-preserved invariant-loop decreases-loop
+loop-again : tie.Need-loop-k-preserved invariant-loop decreases-loop
 loop-again c =
-    let t : tie.In-loop invariant-loop decreases-loop = search in
-    (omega arith, next _ _ t.before.loop.k t.before.loop.inv.1 refl)
+    let t : tie.In-loop-k invariant-loop decreases-loop = search in
+    (omega arith, next _ _ t.loop-k.k t.loop-k.invariant.1 refl)
 
 returns : tie.Need-returns invariant-loop decreases-loop
 unfolding add_squares
-returns c = done _ _ _ _ c.before.loop.invariant.0 c.loop-test.false c.before.loop.invariant.1
+returns c = done _ _ _ _ c.loop-k.invariant.0 c.loop-k-test.false c.loop-k.invariant.1
 
-pub add-squares-spec : {M : Type 1} → statement M
-add-squares-spec =
+pub add_squares_spec : {M : Type 1} → statement M
+add_squares_spec =
     tie.close
     (tie.spec
     invariant-loop

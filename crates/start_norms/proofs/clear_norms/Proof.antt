@@ -7,40 +7,40 @@ use native.Mathlib.Omega.{arith}
 use Rattle.start_norms.proofs.clear_norms.Statement.{statement}
 use Rattle.start_norms.proofs.clear_norms.Tie as tie
 
-abbrev invariant-loop : tie.invariant-loop
+abbrev invariant-loop : tie.invariant-loop-j
 invariant-loop n norms₀ j₀ norms j = (j ≤ n) × Filled (λ _. f0) norms₀ j norms
 
-abbrev decreases-loop : tie.decreases-loop
+abbrev decreases-loop : tie.decreases-loop-j
 decreases-loop n norms₀ j₀ norms j = n - j
 
-loop-holds : tie.Need-loop-init invariant-loop decreases-loop
+loop-holds : tie.Need-loop-j-init invariant-loop decreases-loop
 loop-holds c = (omega arith, filled_none)
 
-mul-norms : tie.Need-overflow-mul-norms invariant-loop decreases-loop
+mul-norms : tie.Need-offset_bounds-norms-j invariant-loop decreases-loop
 mul-norms c = omega arith
 
-element-write-norms : tie.Need-element-write-norms invariant-loop decreases-loop
+element-write-norms : tie.Need-bounds-norms-j invariant-loop decreases-loop
 element-write-norms c = omega arith
 
-add-j : tie.Need-overflow-add-j invariant-loop decreases-loop
+add-j : tie.Need-overflow_step-j invariant-loop decreases-loop
 add-j c = omega arith
 
-loop-less : tie.Need-loop-smaller invariant-loop decreases-loop
+loop-less : tie.Need-loop-j-smaller invariant-loop decreases-loop
 loop-less c = omega arith
 
-loop-again : tie.Need-loop-preserved invariant-loop decreases-loop
+loop-again : tie.Need-loop-j-preserved invariant-loop decreases-loop
 loop-again c =
-    let t : tie.In-loop invariant-loop decreases-loop = search in
-    (omega arith, filled_more t.before.loop.inv.1 (omega arith) refl)
+    let t : tie.In-loop-j invariant-loop decreases-loop = search in
+    (omega arith, filled_more t.loop-j.invariant.1 (omega arith) refl)
 
 returns : tie.Need-returns invariant-loop decreases-loop
 returns c =
     let s : tie.Start invariant-loop decreases-loop = search in
-    let q : c.before.loop.j ≡ s.args.n = omega arith in
-    filled_over (rw q at c.before.loop.invariant.1)
+    let q : c.loop-j.j ≡ s.args.n = omega arith in
+    filled_over (rw q at c.loop-j.invariant.1)
 
-pub clear-norms-spec : {M : Type 1} → statement M
-clear-norms-spec =
+pub clear_norms_spec : {M : Type 1} → statement M
+clear_norms_spec =
     tie.close
     (tie.spec
     invariant-loop

@@ -14,69 +14,69 @@ use native.Mathlib.Omega.{arith}
 use Rattle.start_norms.proofs.sum_squares.Statement.{statement}
 use Rattle.start_norms.proofs.sum_squares.Tie as tie
 
-abbrev invariant-loop : tie.invariant-loop
+abbrev invariant-loop : tie.invariant-loop-r
 invariant-loop starts cols coeffs kept norms₀ r₀ norms r = (r ≤ length kept) × (norms ≡ run (square_row (rowed 0 starts cols coeffs kept)) r norms₀)
 
-abbrev decreases-loop : tie.decreases-loop
+abbrev decreases-loop : tie.decreases-loop-r
 decreases-loop starts cols coeffs kept norms₀ r₀ norms r = length kept - r
 
-abbrev entry : tie.In-loop invariant-loop decreases-loop → tie.Start invariant-loop decreases-loop
+abbrev entry : tie.In-loop-r invariant-loop decreases-loop → tie.Start invariant-loop decreases-loop
 entry t = search
 
-abbrev problem_at : tie.In-loop invariant-loop decreases-loop → Problem
+abbrev problem_at : tie.In-loop-r invariant-loop decreases-loop → Problem
 problem_at t = let a = (entry t).args in rowed 0 a.starts.now a.cols.now a.coeffs.now a.kept.now
 
 -- in a turn row r can be read
-readable : (t : tie.In-loop invariant-loop decreases-loop) → RowReads (problem_at t) max_columns t.before.loop.r
-readable t = (entry t).requires.row t.before.loop.r t.loop-test.true
+readable : (t : tie.In-loop-r invariant-loop decreases-loop) → RowReads (problem_at t) max_columns t.loop-r.r
+readable t = (entry t).requires.row t.loop-r.r t.loop-r-test.true
 
-loop-holds : tie.Need-loop-init invariant-loop decreases-loop
+loop-holds : tie.Need-loop-r-init invariant-loop decreases-loop
 unfolding run
 loop-holds c = (omega arith, refl)
 
-mul-i : tie.Need-overflow-mul-i invariant-loop decreases-loop
+mul-i : tie.Need-offset_bounds-kept-r invariant-loop decreases-loop
 mul-i c = omega arith
 
-shared-slice-read-i : tie.Need-shared-slice-read-i invariant-loop decreases-loop
+shared-slice-read-i : tie.Need-bounds-kept-r invariant-loop decreases-loop
 shared-slice-read-i c = omega arith
 
-row-cols-requires : tie.Need-row-cols-requires invariant-loop decreases-loop
+row-cols-requires : tie.Need-row_cols-row_cols-requires invariant-loop decreases-loop
 row-cols-requires c κs =
-    let t : tie.In-loop invariant-loop decreases-loop = search in
+    let t : tie.In-loop-r invariant-loop decreases-loop = search in
     cols_in _ _ _ (readable t)
 
-row-coeffs-requires : tie.Need-row-coeffs-requires invariant-loop decreases-loop
+row-coeffs-requires : tie.Need-row_coeffs-row_coeffs-requires invariant-loop decreases-loop
 row-coeffs-requires c κs =
-    let t : tie.In-loop invariant-loop decreases-loop = search in
+    let t : tie.In-loop-r invariant-loop decreases-loop = search in
     coeffs_in _ _ _ (readable t)
 
-add-squares-requires : tie.Need-add-squares-requires invariant-loop decreases-loop
+add-squares-requires : tie.Need-add_squares-requires invariant-loop decreases-loop
 add-squares-requires c κs =
-    let t : tie.In-loop invariant-loop decreases-loop = search in
-    let a : tie.After-row-cols invariant-loop decreases-loop = search in
-    let b : tie.After-row-coeffs invariant-loop decreases-loop = search in
-    rw (a.row-cols.ensures, b.row-coeffs.ensures) (row_read _ _ _ (readable t))
+    let t : tie.In-loop-r invariant-loop decreases-loop = search in
+    let a : tie.After-row_cols-row_cols invariant-loop decreases-loop = search in
+    let b : tie.After-row_coeffs-row_coeffs invariant-loop decreases-loop = search in
+    rw (a.row_cols-row_cols.ensures, b.row_coeffs-row_coeffs.ensures) (row_read _ _ _ (readable t))
 
-add_r : tie.Need-overflow-add-r invariant-loop decreases-loop
+add_r : tie.Need-overflow_add-r invariant-loop decreases-loop
 add_r c = omega arith
 
-loop-less : tie.Need-loop-smaller invariant-loop decreases-loop
+loop-less : tie.Need-loop-r-smaller invariant-loop decreases-loop
 loop-less c = omega arith
 
-loop-again : tie.Need-loop-preserved invariant-loop decreases-loop
+loop-again : tie.Need-loop-r-preserved invariant-loop decreases-loop
 loop-again c =
-    let t : tie.In-loop invariant-loop decreases-loop = search in
-    let a : tie.After-row-cols invariant-loop decreases-loop = search in
-    let b : tie.After-row-coeffs invariant-loop decreases-loop = search in
-    let d : tie.After-add-squares invariant-loop decreases-loop = search in
-    (omega arith, next _ _ t.before.loop.r t.before.loop.inv.1 (d.add-squares.ensures ∙ rw (a.row-cols.ensures, b.row-coeffs.ensures)))
+    let t : tie.In-loop-r invariant-loop decreases-loop = search in
+    let a : tie.After-row_cols-row_cols invariant-loop decreases-loop = search in
+    let b : tie.After-row_coeffs-row_coeffs invariant-loop decreases-loop = search in
+    let d : tie.After-add_squares invariant-loop decreases-loop = search in
+    (omega arith, next _ _ t.loop-r.r t.loop-r.invariant.1 (d.add_squares.ensures ∙ rw (a.row_cols-row_cols.ensures, b.row_coeffs-row_coeffs.ensures)))
 
 returns : tie.Need-returns invariant-loop decreases-loop
 unfolding squares
-returns c = done _ _ _ _ c.before.loop.invariant.0 c.loop-test.false c.before.loop.invariant.1
+returns c = done _ _ _ _ c.loop-r.invariant.0 c.loop-r-test.false c.loop-r.invariant.1
 
-pub sum-squares-spec : {M : Type 1} → statement M
-sum-squares-spec =
+pub sum_squares_spec : {M : Type 1} → statement M
+sum_squares_spec =
     tie.close
     (tie.spec
     invariant-loop

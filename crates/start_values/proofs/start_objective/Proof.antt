@@ -11,45 +11,45 @@ use native.Mathlib.Omega.{arith}
 use Rattle.start_values.proofs.start_objective.Statement.{statement}
 use Rattle.start_values.proofs.start_objective.Tie as tie
 
-abbrev invariant-loop : tie.invariant-loop
+abbrev invariant-loop : tie.invariant-loop-j
 invariant-loop costs n xs sum₀ j₀ sum j = (j ≤ n) × (sum ≡ run (objective_turn (costed n costs [] []) xs) j f0)
 
-abbrev decreases-loop : tie.decreases-loop
+abbrev decreases-loop : tie.decreases-loop-j
 decreases-loop costs n xs sum₀ j₀ sum j = n - j
 
-loop-holds : tie.Need-loop-init invariant-loop decreases-loop
+loop-holds : tie.Need-loop-j-init invariant-loop decreases-loop
 unfolding run
 loop-holds c = (omega arith, refl)
 
-mul-sum : tie.Need-overflow-mul-sum invariant-loop decreases-loop
+mul-sum : tie.Need-offset_bounds-xs-j invariant-loop decreases-loop
 mul-sum c = omega arith
 
-element-copy-out-sum : tie.Need-element-copy-out-sum invariant-loop decreases-loop
+element-copy-out-sum : tie.Need-bounds-xs-j invariant-loop decreases-loop
 element-copy-out-sum c = omega arith
 
-mul-sum-2 : tie.Need-overflow-mul-sum-2 invariant-loop decreases-loop
+mul-sum-2 : tie.Need-offset_bounds-costs-j invariant-loop decreases-loop
 mul-sum-2 c = omega arith
 
-shared-slice-read-sum : tie.Need-shared-slice-read-sum invariant-loop decreases-loop
+shared-slice-read-sum : tie.Need-bounds-costs-j invariant-loop decreases-loop
 shared-slice-read-sum c = omega arith
 
-add-j : tie.Need-overflow-add-j invariant-loop decreases-loop
+add-j : tie.Need-overflow_step-j invariant-loop decreases-loop
 add-j c = omega arith
 
-loop-less : tie.Need-loop-smaller invariant-loop decreases-loop
+loop-less : tie.Need-loop-j-smaller invariant-loop decreases-loop
 loop-less c = omega arith
 
-loop-again : tie.Need-loop-preserved invariant-loop decreases-loop
+loop-again : tie.Need-loop-j-preserved invariant-loop decreases-loop
 loop-again c =
-    let t : tie.In-loop invariant-loop decreases-loop = search in
-    (omega arith, next _ _ t.before.loop.j t.before.loop.inv.1 refl)
+    let t : tie.In-loop-j invariant-loop decreases-loop = search in
+    (omega arith, next _ _ t.loop-j.j t.loop-j.invariant.1 refl)
 
 returns : tie.Need-returns invariant-loop decreases-loop
 unfolding start_objective
-returns c = done _ _ _ _ c.before.loop.invariant.0 c.loop-test.false c.before.loop.invariant.1
+returns c = done _ _ _ _ c.loop-j.invariant.0 c.loop-j-test.false c.loop-j.invariant.1
 
-pub start-objective-spec : {M : Type 1} → statement M
-start-objective-spec =
+pub start_objective_spec : {M : Type 1} → statement M
+start_objective_spec =
     tie.close
     (tie.spec
     invariant-loop

@@ -5,42 +5,42 @@ use borrow.Author.Rules.{rules}
 use Rattle.start_values.proofs.start_slack.Statement.{statement}
 use Rattle.start_values.proofs.start_slack.Tie as tie
 
-mul-i : tie.Need-overflow-mul-i
+mul-i : tie.Need-offset_bounds-kept-r
 mul-i c = search rules
 
-shared-slice-read-i : tie.Need-shared-slice-read-i
+shared-slice-read-i : tie.Need-bounds-kept-r
 shared-slice-read-i c = search rules
 
-row-cols-requires : tie.Need-row-cols-requires
+row-cols-requires : tie.Need-row_cols-row_cols-requires
 row-cols-requires c κs = search rules
 
-row-coeffs-requires : tie.Need-row-coeffs-requires
+row-coeffs-requires : tie.Need-row_coeffs-row_coeffs-requires
 row-coeffs-requires c κs = search rules
 
-mul-result : tie.Need-overflow-mul-result
+mul-result : tie.Need-offset_bounds-rhs-i
 mul-result c = search rules
 
-shared-slice-read-result : tie.Need-shared-slice-read-result
+shared-slice-read-result : tie.Need-bounds-rhs-i
 shared-slice-read-result c =
     let s : tie.Start = search in
-    s.pre.0.1.inside _ s.pre.0.0
+    s.requires.0.1.inside _ s.requires.0.0
 
 dot-requires : tie.Need-dot-requires
 dot-requires c κs =
     let s : tie.Start = search in
-    let a : tie.After-row-cols = search in
-    let b : tie.After-row-coeffs = search in
-    rw (a.row-cols.ensures, b.row-coeffs.ensures) (row_read _ _ _ s.pre.1)
+    let a : tie.After-row_cols-row_cols = search in
+    let b : tie.After-row_coeffs-row_coeffs = search in
+    rw (a.row_cols-row_cols.ensures, b.row_coeffs-row_coeffs.ensures) (row_read _ _ _ s.requires.1)
 
 returns : tie.Need-returns
 unfolding start_slack
 returns c =
-    let a : tie.After-row-cols = search in
-    let b : tie.After-row-coeffs = search in
-    rw (c.dot.ensures, a.row-cols.ensures, b.row-coeffs.ensures)
+    let a : tie.After-row_cols-row_cols = search in
+    let b : tie.After-row_coeffs-row_coeffs = search in
+    rw (c.dot.ensures, a.row_cols-row_cols.ensures, b.row_coeffs-row_coeffs.ensures)
 
-pub start-slack-spec : {M : Type 1} → statement M
-start-slack-spec =
+pub start_slack_spec : {M : Type 1} → statement M
+start_slack_spec =
     tie.close
     (tie.spec
     mul-i

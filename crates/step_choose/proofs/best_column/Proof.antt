@@ -14,58 +14,58 @@ use Rattle.step_choose.specs.Parts.{column, better_of}
 use Rattle.step_choose.proofs.best_column.Statement.{statement}
 use Rattle.step_choose.proofs.best_column.Tie as tie
 
-abbrev invariant-loop : tie.invariant-loop
+abbrev invariant-loop : tie.invariant-loop-c
 invariant-loop n prices norms flags best₀ c₀ best c = (c ≤ n) × (column best ≡ run (better_turn (non_basic_of [] [] prices norms flags)) c (best_of n Num.-inf))
 
-abbrev decreases-loop : tie.decreases-loop
+abbrev decreases-loop : tie.decreases-loop-c
 decreases-loop n prices norms flags best₀ c₀ best c = n - c
 
 infinity-requires : tie.Need-infinity-requires invariant-loop decreases-loop
 infinity-requires c κs = search rules
 
-loop-holds : tie.Need-loop-init invariant-loop decreases-loop
+loop-holds : tie.Need-loop-c-init invariant-loop decreases-loop
 unfolding run neg
 loop-holds c = (omega arith, rw c.infinity.ensures)
 
-mul-better : tie.Need-overflow-mul-better invariant-loop decreases-loop
+mul-better : tie.Need-offset_bounds-prices-c invariant-loop decreases-loop
 mul-better c = search rules
 
-shared-slice-read-better : tie.Need-shared-slice-read-better invariant-loop decreases-loop
+shared-slice-read-better : tie.Need-bounds-prices-c invariant-loop decreases-loop
 shared-slice-read-better c = search rules
 
-mul-better-2 : tie.Need-overflow-mul-better-2 invariant-loop decreases-loop
+mul-better-2 : tie.Need-offset_bounds-norms-c invariant-loop decreases-loop
 mul-better-2 c = search rules
 
-shared-slice-read-better-2 : tie.Need-shared-slice-read-better-2 invariant-loop decreases-loop
+shared-slice-read-better-2 : tie.Need-bounds-norms-c invariant-loop decreases-loop
 shared-slice-read-better-2 c = search rules
 
-mul-better-3 : tie.Need-overflow-mul-better-3 invariant-loop decreases-loop
+mul-better-3 : tie.Need-offset_bounds-flags-c invariant-loop decreases-loop
 mul-better-3 c = search rules
 
-shared-slice-read-better-3 : tie.Need-shared-slice-read-better-3 invariant-loop decreases-loop
+shared-slice-read-better-3 : tie.Need-bounds-flags-c invariant-loop decreases-loop
 shared-slice-read-better-3 c = search rules
 
-better-requires : tie.Need-better-requires invariant-loop decreases-loop
+better-requires : tie.Need-better-best-requires invariant-loop decreases-loop
 better-requires c κs = search rules
 
-add-c : tie.Need-overflow-add-c invariant-loop decreases-loop
+add-c : tie.Need-overflow_add-c invariant-loop decreases-loop
 add-c c = search rules
 
-loop-less : tie.Need-loop-smaller invariant-loop decreases-loop
+loop-less : tie.Need-loop-c-smaller invariant-loop decreases-loop
 loop-less c = search rules
 
-loop-again : tie.Need-loop-preserved invariant-loop decreases-loop
+loop-again : tie.Need-loop-c-preserved invariant-loop decreases-loop
 unfolding better_turn better_of
 loop-again c =
-    let t : tie.In-loop invariant-loop decreases-loop = search in
-    (omega arith, next _ _ t.before.loop.c t.before.loop.inv.1 c.better.ensures)
+    let t : tie.In-loop-c invariant-loop decreases-loop = search in
+    (omega arith, next _ _ t.loop-c.c t.loop-c.invariant.1 c.better-best.ensures)
 
 returns : tie.Need-returns invariant-loop decreases-loop
 unfolding best_column
-returns c = done _ _ _ _ c.before.loop.invariant.0 c.loop-test.false c.before.loop.invariant.1
+returns c = done _ _ _ _ c.loop-c.invariant.0 c.loop-c-test.false c.loop-c.invariant.1
 
-pub best-column-spec : {M : Type 1} → statement M
-best-column-spec =
+pub best_column_spec : {M : Type 1} → statement M
+best_column_spec =
     tie.close
     (tie.spec
     invariant-loop

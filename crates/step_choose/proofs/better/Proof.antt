@@ -8,28 +8,28 @@ use borrow.Author.Rules.{rules}
 use Rattle.step_choose.proofs.better.Statement.{statement}
 use Rattle.step_choose.proofs.better.Tie as tie
 
-read-flags-requires : tie.Need-read-flags-requires
+read-flags-requires : tie.Need-read_flags-requires
 read-flags-requires c κs = search rules
 
-may-enter-requires : tie.Need-may-enter-requires
+may-enter-requires : tie.Need-may_enter-requires
 may-enter-requires c κs = search rules
 
 -- what the filter says of the column
-filter : (a : tie.After-may-enter) → a.may-enter.result ≡ may_enter (flags_of a.before.before.args.flags) a.before.before.args.price
-filter a = a.may-enter.ensures ∙ ap (λ f. may_enter f a.before.before.args.price) a.before.read-Flags.ensures
+filter : (a : tie.After-may_enter) → a.may_enter.result ≡ may_enter (flags_of a.args.flags) a.args.price
+filter a = a.may_enter.ensures ∙ ap (λ f. may_enter f a.args.price) a.before.read_flags.ensures
 
-returns : tie.Need-returns
+returns : tie.Need-returns-then-not-may_enter
 unfolding better_of score_of
-returns c = rw (sym (filter c.before) ∙ not-true _ c.if1.true, better_of)
+returns c = rw (sym (filter c.before) ∙ not-true _ c.if-not-may_enter.true-raw, better_of)
 
-returns-2 : tie.Need-returns-2
+returns-2 : tie.Need-returns-then-best-score
 unfolding better_of score_of
-returns-2 c = rw (sym (filter c.before.before.before) ∙ not-false _ c.before.before.if1.false, c.if2.true, better_of)
+returns-2 c = rw (sym (filter c.before.before.before) ∙ not-false _ c.if-not-may_enter.false-raw, c.if-best-score.true, better_of)
 
-returns-3 : tie.Need-returns-3
+returns-3 : tie.Need-returns
 unfolding better_of score_of
-returns-3 c = rw (sym (filter c.before.before.before) ∙ not-false _ c.before.before.if1.false, c.if2.false, better_of)
+returns-3 c = rw (sym (filter c.before.before.before) ∙ not-false _ c.if-not-may_enter.false-raw, c.if-best-score.false, better_of)
 
-pub better-spec : {M : Type 1} → statement M
-better-spec =
+pub better_spec : {M : Type 1} → statement M
+better_spec =
     tie.close (tie.spec read-flags-requires may-enter-requires returns returns-2 returns-3)

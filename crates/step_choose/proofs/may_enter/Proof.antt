@@ -4,12 +4,12 @@ use Rattle.rules.specs.Choose.{may_enter}
 use Rattle.step_choose.proofs.may_enter.Statement.{statement}
 use Rattle.step_choose.proofs.may_enter.Tie as tie
 
-under-eps-requires : tie.Need-under-eps-requires
+under-eps-requires : tie.Need-under_eps-requires
 under-eps-requires c κs = search rules
 
 returns : tie.Need-returns
 unfolding may_enter
-returns c = rw c.under-eps.ensures
+returns c = rw c.under_eps.ensures
 
-pub may-enter-spec : {M : Type 1} → statement M
-may-enter-spec = tie.close (tie.spec under-eps-requires returns)
+pub may_enter_spec : {M : Type 1} → statement M
+may_enter_spec = tie.close (tie.spec under-eps-requires returns)

@@ -7,53 +7,53 @@ use Rattle.state.specs.Packed.{packed}
 use Rattle.step_dual_reads.proofs.dual_ratio.Statement.{statement}
 use Rattle.step_dual_reads.proofs.dual_ratio.Tie as tie
 
-sub-dual-ratio : tie.Need-overflow-sub-dual-ratio
+sub-dual-ratio : tie.Need-slice_bounds-dual_ratio-count
 sub-dual-ratio c = search rules
 
-part-dual-ratio-start : tie.Need-slice-bounds-dual-ratio-start
+part-dual-ratio-start : tie.Need-slice_bounds-dual_ratio-start
 part-dual-ratio-start c = search rules
 
-part-dual-ratio-end : tie.Need-slice-bounds-dual-ratio-end
+part-dual-ratio-end : tie.Need-slice_bounds-dual_ratio-end
 part-dual-ratio-end c = search rules
 
-sub-dual-ratio-2 : tie.Need-overflow-sub-dual-ratio-2
+sub-dual-ratio-2 : tie.Need-slice_bounds-dual_ratio-count-2
 sub-dual-ratio-2 c = search rules
 
-part-dual-ratio-start-2 : tie.Need-slice-bounds-dual-ratio-start-2
+part-dual-ratio-start-2 : tie.Need-slice_bounds-dual_ratio-start-2
 part-dual-ratio-start-2 c = search rules
 
-part-dual-ratio-end-2 : tie.Need-slice-bounds-dual-ratio-end-2
+part-dual-ratio-end-2 : tie.Need-slice_bounds-dual_ratio-end-2
 part-dual-ratio-end-2 c = search rules
 
-sub-dual-ratio-3 : tie.Need-overflow-sub-dual-ratio-3
+sub-dual-ratio-3 : tie.Need-slice_bounds-dual_ratio-count-3
 sub-dual-ratio-3 c = search rules
 
-part-dual-ratio-start-3 : tie.Need-slice-bounds-dual-ratio-start-3
+part-dual-ratio-start-3 : tie.Need-slice_bounds-dual_ratio-start-3
 part-dual-ratio-start-3 c = search rules
 
-part-dual-ratio-end-3 : tie.Need-slice-bounds-dual-ratio-end-3
+part-dual-ratio-end-3 : tie.Need-slice_bounds-dual_ratio-end-3
 part-dual-ratio-end-3 c = search rules
 
-sub-dual-ratio-4 : tie.Need-overflow-sub-dual-ratio-4
+sub-dual-ratio-4 : tie.Need-slice_bounds-dual_ratio-count-4
 sub-dual-ratio-4 c = search rules
 
-part-dual-ratio-start-4 : tie.Need-slice-bounds-dual-ratio-start-4
+part-dual-ratio-start-4 : tie.Need-slice_bounds-dual_ratio-start-4
 part-dual-ratio-start-4 c = search rules
 
-part-dual-ratio-end-4 : tie.Need-slice-bounds-dual-ratio-end-4
+part-dual-ratio-end-4 : tie.Need-slice_bounds-dual_ratio-end-4
 part-dual-ratio-end-4 c = search rules
 
-dual-ratio-requires : tie.Need-dual-ratio-requires
-dual-ratio-requires c κs = let s : tie.Start = search in pricing_part_holds s.pre.1
+dual-ratio-requires : tie.Need-dual_ratio-requires
+dual-ratio-requires c κs = let s : tie.Start = search in pricing_part_holds s.requires.1
 
 returns : tie.Need-returns
 returns c m =
     let s : tie.Start = search in
     let a = s.args in
-    c.dual-ratio.ensures m ∙ sym (dual_ratio_part a.still (packed a.numbers.now a.doubles.now) a.l (sv a.values.now m a.list.now a.count))
+    c.dual_ratio.ensures m ∙ sym (dual_ratio_part a.still (packed a.numbers.now a.doubles.now) a.l (sv a.values.now m a.list.now a.count))
 
-pub dual-ratio-spec : {M : Type 1} → statement M
-dual-ratio-spec =
+pub dual_ratio_spec : {M : Type 1} → statement M
+dual_ratio_spec =
     tie.close
     (tie.spec
     sub-dual-ratio

@@ -3,13 +3,13 @@ use Rattle.rules.specs.DualRow.{bound_broken}
 use Rattle.step_leaving.proofs.bound_broken.Statement.{statement}
 use Rattle.step_leaving.proofs.bound_broken.Tie as tie
 
-returns : tie.Need-returns
+returns : tie.Need-returns-then-value-lower
 unfolding bound_broken
-returns c = rw (c.if1.true, bound_broken)
+returns c = rw (c.if-value-lower.true, bound_broken)
 
-returns-2 : tie.Need-returns-2
+returns-2 : tie.Need-returns
 unfolding bound_broken
-returns-2 c = rw (c.if1.false, bound_broken)
+returns-2 c = rw (c.if-value-lower.false, bound_broken)
 
-pub bound-broken-spec : {M : Type 1} → statement M
-bound-broken-spec = tie.close (tie.spec returns returns-2)
+pub bound_broken_spec : {M : Type 1} → statement M
+bound_broken_spec = tie.close (tie.spec returns returns-2)

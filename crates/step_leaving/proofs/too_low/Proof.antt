@@ -8,5 +8,5 @@ returns : tie.Need-returns
 unfolding too_low
 returns c = refl
 
-pub too-low-spec : {M : Type 1} → statement M
-too-low-spec = tie.close (tie.spec returns)
+pub too_low_spec : {M : Type 1} → statement M
+too_low_spec = tie.close (tie.spec returns)

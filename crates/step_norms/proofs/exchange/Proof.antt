@@ -27,138 +27,134 @@ abbrev col : tie.Start → List Bool → Sv
 col s m = sv s.args.values.now m s.args.list.now s.args.count
 
 abbrev inv : tie.Start → Sv
-inv s = sv s.args.y.now s.requires.1.1.3.marks s.args.y-list.now s.args.y-count
+inv s = sv s.args.y.now s.requires.1.1.3.marks s.args.y_list.now s.args.y_count
 
 -- the way back from the tests
-abbrev squared : tie.After-decide-arg → tie.After-sq-norm
-squared a = search
-
-abbrev squares : tie.After-decide → tie.After-sq-norm
+abbrev squares : tie.After-decide → tie.After-sq_norm-sq
 squares d = search
 
-abbrev lent : tie.After-sq-norm → tie.Start
+abbrev lent : tie.After-sq_norm-sq → tie.Start
 lent q = search
 
 abbrev entry : tie.After-decide → tie.Start
 entry d = lent (squares d)
 
-abbrev tested_at : tie.Else1 → tie.After-decide
+abbrev tested_at : tie.Else-not-decide → tie.After-decide
 tested_at z = search
 
-abbrev passed : tie.After-exchange → tie.Else1
+abbrev passed : tie.After-exchange-went → tie.Else-not-decide
 passed x = search
 
-abbrev stop-at : tie.After-went → tie.After-exchange
+abbrev stop-at : tie.In-Stops → tie.After-exchange-went
 stop-at w = search
 
-abbrev move_at : tie.After-went2 → tie.After-exchange
+abbrev move_at : tie.In-On → tie.After-exchange-went
 move_at w = search
 
-abbrev storing : tie.After-store-dual-norms → tie.After-went2
+abbrev storing : tie.After-store_dual_norms → tie.In-On
 storing k = search
 
 decides : (d : tie.After-decide) (m : List Bool)
-    → tested_by d.decide.result d.decide.new.0 ≡ tested (Q (entry d)) (S (entry d)) (col (entry d) m) (entry d).args.x (inv (entry d))
-decides d m = let s = entry d in d.decide.ensures (Q s) m s.pre.1.1.3.marks refl
+    → tested_by d.decide.result d.decide.new.tau ≡ tested (Q (entry d)) (S (entry d)) (col (entry d) m) (entry d).args.x (inv (entry d))
+decides d m = let s = entry d in d.decide.ensures (Q s) m s.requires.1.1.3.marks refl
 
-sq-norm-requires : tie.Need-sq-norm-requires
-sq-norm-requires c κs = let s : tie.Start = search in let p = s.pre.1.1 in inverse_listed s.pre.0 p.2 p.3
+sq-norm-requires : tie.Need-sq_norm-sq-requires
+sq-norm-requires c κs = let s : tie.Start = search in let p = s.requires.1.1 in inverse_listed s.requires.0 p.2 p.3
 
 decide-requires : tie.Need-decide-requires
 decide-requires c κs =
-    let a : tie.After-decide-arg = search in
-    let q = squared a in
+    let q : tie.After-sq_norm-sq = search in
     let s = lent q in
-    let rd = s.pre.0 in
-    let p = s.pre.1.1 in
+    let rd = s.requires.0 in
+    let p = s.requires.1.1 in
     let l = inverse_listed rd p.2 p.3 in
-    ((fresh_blank, rd.sized, column_listing rd p.0), ((l.0, l.1, record { sum = q.sq-norm.ensures }), tau_asks rd p.2 p.3))
+    ((fresh_blank, rd.sized, column_listing rd p.0), ((l.0, l.1, record { sum = q.sq_norm-sq.ensures }), tau_asks rd p.2 p.3))
 
-same_length : tie.Need-same-length
+same_length : tie.Need-shape_of-numbers-then-not-decide
 same_length c = search rules
 
-same-length-2 : tie.Need-same-length-2
+same-length-2 : tie.Need-shape_of-doubles-then-not-decide
 same-length-2 c = search rules
 
-same-length-3 : tie.Need-same-length-3
+same-length-3 : tie.Need-shape_of-factor_numbers-then-not-decide
 same-length-3 c = search rules
 
-same-length-4 : tie.Need-same-length-4
+same-length-4 : tie.Need-shape_of-factor_coeffs-then-not-decide
 same-length-4 c = search rules
 
-returns : tie.Need-returns
+returns : tie.Need-returns-then-not-decide
 returns c m =
     let d : tie.After-decide = search in
     let s = entry d in
-    norms_end (Q s) (S s) s.args.e (col s m) (inv s) s.args.x s.pre.1.1.3.is d.decide.result d.decide.last.0 (decides d m) (not-true _ c.if1.true)
+    norms_end (Q s) (S s) s.args.e (col s m) (inv s) s.args.x s.requires.1.1.3.is d.decide.result d.decide.new.tau (decides d m) (not-true _ c.if-not-decide.true-raw)
 
-exchange-requires : tie.Need-exchange-requires
-exchange-requires c κs = let z : tie.Else1 = search in (entry (tested_at z)).requires
+exchange-requires : tie.Need-exchange-went-requires
+exchange-requires c κs = let z : tie.Else-not-decide = search in (entry (tested_at z)).requires
 
-enum-known-went : tie.Need-enum-known-went
+enum-known-went : tie.Need-enum_known-went
 enum-known-went c = search rules
 
-same-length-5 : tie.Need-same-length-5
+same-length-5 : tie.Need-shape_of-numbers-in-Stops
 same-length-5 c = search rules
 
-same-length-6 : tie.Need-same-length-6
+same-length-6 : tie.Need-shape_of-doubles-in-Stops
 same-length-6 c = search rules
 
-same-length-7 : tie.Need-same-length-7
+same-length-7 : tie.Need-shape_of-factor_numbers-in-Stops
 same-length-7 c = search rules
 
-same-length-8 : tie.Need-same-length-8
+same-length-8 : tie.Need-shape_of-factor_coeffs-in-Stops
 same-length-8 c = search rules
 
-returns-2 : tie.Need-returns-2
+returns-2 : tie.Need-returns-in-Stops
 returns-2 c m =
-    let w : tie.After-went = search in
+    let w : tie.In-Stops = search in
     let x = stop-at w in
     let z = passed x in
     let d = tested_at z in
     let s = entry d in
-    let l = x.exchange.last in
-    norms_stop (Q s) (S s) s.args.e (col s m) (inv s) s.args.x s.pre.1.1.3.is d.decide.result d.decide.last.0 (decides d m) (not-false _ z.if1.left)
-    x.exchange.result l.0 l.1.0 l.1.1.0 l.1.1.1.0 (x.exchange.ensures m) _ w.went.given.1
+    let l = x.exchange-went.new in
+    norms_stop (Q s) (S s) s.args.e (col s m) (inv s) s.args.x s.requires.1.1.3.is d.decide.result d.decide.new.tau (decides d m) (not-false _ z.if-not-decide.false-raw)
+    x.exchange-went.result l.numbers l.doubles l.factor_numbers l.factor_coeffs (x.exchange-went.ensures m) _ w.in-Stops.is
 
-enum-known-went-2 : tie.Need-enum-known-went-2
+enum-known-went-2 : tie.Need-enum_known-went-in-On-1
 enum-known-went-2 c = search rules
 
-store-dual-norms-requires : tie.Need-store-dual-norms-requires
+store-dual-norms-requires : tie.Need-store_dual_norms-requires
 store-dual-norms-requires c κs =
-    let w : tie.After-went2 = search in
+    let w : tie.In-On = search in
     let x = move_at w in
     let s = entry (tested_at (passed x)) in
-    let rd = s.pre.0 in
-    (column_listing rd s.pre.1.1.0, omega (arith, rd.sized, x.exchange.kept.1.0))
+    let rd = s.requires.0 in
+    (column_listing rd s.requires.1.1.0, omega (arith, rd.sized, x.exchange-went.auto.doubles))
 
-same-length-9 : tie.Need-same-length-9
+same-length-9 : tie.Need-shape_of-numbers-in-On
 same-length-9 c = search rules
 
-same-length-10 : tie.Need-same-length-10
+same-length-10 : tie.Need-shape_of-doubles-in-On
 same-length-10 c = search rules
 
-same-length-11 : tie.Need-same-length-11
+same-length-11 : tie.Need-shape_of-factor_numbers-in-On
 same-length-11 c = search rules
 
-same-length-12 : tie.Need-same-length-12
+same-length-12 : tie.Need-shape_of-factor_coeffs-in-On
 same-length-12 c = search rules
 
-returns-3 : tie.Need-returns-3
+returns-3 : tie.Need-returns-in-On
 returns-3 c m =
-    let k : tie.After-store-dual-norms = search in
+    let k : tie.After-store_dual_norms = search in
     let w = storing k in
     let x = move_at w in
     let z = passed x in
     let d = tested_at z in
     let s = entry d in
-    let l = x.exchange.last in
-    norms_move (Q s) (S s) s.args.e (col s m) (inv s) s.args.x s.pre.1.1.3.is d.decide.result d.decide.last.0 (decides d m) (not-false _ z.if1.left)
-    x.exchange.result l.0 l.1.0 l.1.1.0 l.1.1.1.0 (x.exchange.ensures m) _ w.went2.given.1
-    _ ((squares d).sq-norm.ensures s.pre.1.1.3.marks) blank.pat k.store-dual-norms.last.0 (k.store-dual-norms.ensures l.0 m blank.pat)
+    let l = x.exchange-went.new in
+    norms_move (Q s) (S s) s.args.e (col s m) (inv s) s.args.x s.requires.1.1.3.is d.decide.result d.decide.new.tau (decides d m) (not-false _ z.if-not-decide.false-raw)
+    x.exchange-went.result l.numbers l.doubles l.factor_numbers l.factor_coeffs (x.exchange-went.ensures m) _ w.in-On.is
+    _ ((squares d).sq_norm-sq.ensures s.requires.1.1.3.marks) blank.pat k.store_dual_norms.new.doubles (k.store_dual_norms.ensures l.numbers m blank.pat)
 
-pub exchange-spec : {M : Type 1} → statement M
-exchange-spec =
+pub exchange_spec : {M : Type 1} → statement M
+exchange_spec =
     tie.close
     (tie.spec
     sq-norm-requires

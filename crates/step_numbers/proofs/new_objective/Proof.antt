@@ -8,5 +8,5 @@ returns : tie.Need-returns
 unfolding new_objective
 returns c = refl
 
-pub new-objective-spec : {M : Type 1} → statement M
-new-objective-spec = tie.close (tie.spec returns)
+pub new_objective_spec : {M : Type 1} → statement M
+new_objective_spec = tie.close (tie.spec returns)

@@ -4,13 +4,13 @@ use Rattle.step_numbers.specs.New.{val_by}
 use Rattle.step_numbers.proofs.new_val.Statement.{statement}
 use Rattle.step_numbers.proofs.new_val.Tie as tie
 
-returns : tie.Need-returns
+returns : tie.Need-returns-then-r-row
 unfolding val_by
-returns c = rw (eq-eqb _ _ c.if1.true, val_by)
+returns c = rw (eq-eqb _ _ c.if-r-row.true, val_by)
 
-returns-2 : tie.Need-returns-2
+returns-2 : tie.Need-returns-else-r-row
 unfolding val_by
-returns-2 c = rw (ne_eqb _ _ c.if1.false, val_by)
+returns-2 c = rw (ne_eqb _ _ c.if-r-row.false, val_by)
 
-pub new-val-spec : {M : Type 1} → statement M
-new-val-spec = tie.close (tie.spec returns returns-2)
+pub new_val_spec : {M : Type 1} → statement M
+new_val_spec = tie.close (tie.spec returns returns-2)

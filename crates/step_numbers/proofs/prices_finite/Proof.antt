@@ -15,72 +15,72 @@ use Rattle.step_numbers.specs.New.{price_by}
 use Rattle.step_numbers.proofs.prices_finite.Statement.{statement}
 use Rattle.step_numbers.proofs.prices_finite.Tie as tie
 
-abbrev invariant-loop : tie.invariant-loop
+abbrev invariant-loop : tie.invariant-loop-k
 invariant-loop prices values list count pivot col pivot-obj k₀ k = (k ≤ count) × (all k (λ i. finite (price_by col pivot-obj (list # i) (prices ! (list # i)) (values ! (list # i)))) ≡ true)
 
-abbrev decreases-loop : tie.decreases-loop
+abbrev decreases-loop : tie.decreases-loop-k
 decreases-loop prices values list count pivot col pivot-obj k₀ k = count - k
 
-abbrev entry : tie.At-loop invariant-loop decreases-loop → tie.Start invariant-loop decreases-loop
+abbrev entry : tie.At-loop-k invariant-loop decreases-loop → tie.Start invariant-loop decreases-loop
 entry a = search
 
 -- in a turn the place is within the arrays
-place : (t : tie.In-loop invariant-loop decreases-loop) → (get_or (entry t.before).args.list.now t.before.loop.k 0 < places) × (get_or (entry t.before).args.list.now t.before.loop.k 0 < length (entry t.before).args.prices.now)
-place t = let s = (entry t.before).pre in (s.place t.before.loop.k t.loop-test.true, s.cell t.before.loop.k t.loop-test.true)
+place : (t : tie.In-loop-k invariant-loop decreases-loop) → (get_or (entry t.before).args.list.now t.loop-k.k 0 < places) × (get_or (entry t.before).args.list.now t.loop-k.k 0 < length (entry t.before).args.prices.now)
+place t = let s = (entry t.before).requires in (s.place t.loop-k.k t.loop-k-test.true, s.cell t.loop-k.k t.loop-k-test.true)
 
-loop-holds : tie.Need-loop-init invariant-loop decreases-loop
+loop-holds : tie.Need-loop-k-init invariant-loop decreases-loop
 unfolding all
 loop-holds c = (omega arith, refl)
 
-mul-j : tie.Need-overflow-mul-j invariant-loop decreases-loop
-mul-j c = let s : tie.Start invariant-loop decreases-loop = search in omega (arith, s.pre)
+mul-j : tie.Need-offset_bounds-list-k invariant-loop decreases-loop
+mul-j c = let s : tie.Start invariant-loop decreases-loop = search in omega (arith, s.requires)
 
-element-copy-out-j : tie.Need-element-copy-out-j invariant-loop decreases-loop
-element-copy-out-j c = let s : tie.Start invariant-loop decreases-loop = search in omega (arith, s.pre)
+element-copy-out-j : tie.Need-bounds-list-k invariant-loop decreases-loop
+element-copy-out-j c = let s : tie.Start invariant-loop decreases-loop = search in omega (arith, s.requires)
 
-mul-old : tie.Need-overflow-mul-old invariant-loop decreases-loop
-mul-old c = let t : tie.In-loop invariant-loop decreases-loop = search in omega (arith, place t)
+mul-old : tie.Need-offset_bounds-prices-j invariant-loop decreases-loop
+mul-old c = let t : tie.In-loop-k invariant-loop decreases-loop = search in omega (arith, place t)
 
-shared-slice-read-old : tie.Need-shared-slice-read-old invariant-loop decreases-loop
-shared-slice-read-old c = let t : tie.In-loop invariant-loop decreases-loop = search in omega (arith, place t)
+shared-slice-read-old : tie.Need-bounds-prices-j invariant-loop decreases-loop
+shared-slice-read-old c = let t : tie.In-loop-k invariant-loop decreases-loop = search in omega (arith, place t)
 
-mul-new-price : tie.Need-overflow-mul-new-price invariant-loop decreases-loop
-mul-new-price c = let t : tie.In-loop invariant-loop decreases-loop = search in omega (arith, place t)
+mul-new-price : tie.Need-offset_bounds-values-j invariant-loop decreases-loop
+mul-new-price c = let t : tie.In-loop-k invariant-loop decreases-loop = search in omega (arith, place t)
 
-element-copy-out-new-price : tie.Need-element-copy-out-new-price invariant-loop decreases-loop
-element-copy-out-new-price c = let t : tie.In-loop invariant-loop decreases-loop = search in omega (arith, place t)
+element-copy-out-new-price : tie.Need-bounds-values-j invariant-loop decreases-loop
+element-copy-out-new-price c = let t : tie.In-loop-k invariant-loop decreases-loop = search in omega (arith, place t)
 
-new-price-requires : tie.Need-new-price-requires invariant-loop decreases-loop
+new-price-requires : tie.Need-new_price-price-requires invariant-loop decreases-loop
 new-price-requires c κs = tt
 
-is-finite-requires : tie.Need-is-finite-requires invariant-loop decreases-loop
+is-finite-requires : tie.Need-is_finite-requires invariant-loop decreases-loop
 is-finite-requires c κs = tt
 
-returns : tie.Need-returns invariant-loop decreases-loop
+returns : tie.Need-returns-then-not-is_finite invariant-loop decreases-loop
 unfolding stores_finite new_price price_by
 returns c =
-    let t : tie.In-loop invariant-loop decreases-loop = search in
-    let d : tie.After-new-price invariant-loop decreases-loop = search in
-    λ _. sym (all_fails _ _ t.before.loop.k t.loop-test.taken (ap finite (sym d.new-price.ensures) ∙ sym c.before.is_finite.ensures ∙ not-true _ c.if1.true))
+    let t : tie.In-loop-k invariant-loop decreases-loop = search in
+    let d : tie.After-new_price-price invariant-loop decreases-loop = search in
+    λ _. sym (all_fails _ _ t.loop-k.k t.loop-k-test.true (ap finite (sym d.new_price-price.ensures) ∙ sym c.is_finite.ensures ∙ not-true _ c.if-not-is_finite.true-raw))
 
-add-k : tie.Need-overflow-add-k invariant-loop decreases-loop
+add-k : tie.Need-overflow_add-k invariant-loop decreases-loop
 add-k c = omega arith
 
-loop-less : tie.Need-loop-smaller invariant-loop decreases-loop
+loop-less : tie.Need-loop-k-smaller invariant-loop decreases-loop
 loop-less c = omega arith
 
-loop-again : tie.Need-loop-preserved invariant-loop decreases-loop
+loop-again : tie.Need-loop-k-preserved invariant-loop decreases-loop
 loop-again c =
-    let t : tie.In-loop invariant-loop decreases-loop = search in
-    let d : tie.After-new-price invariant-loop decreases-loop = search in
-    (omega arith, all_next _ t.before.loop.k t.before.loop.inv.1 (ap finite (sym d.new-price.ensures) ∙ sym c.before.is_finite.ensures ∙ not-false _ c.if1.false))
+    let t : tie.In-loop-k invariant-loop decreases-loop = search in
+    let d : tie.After-new_price-price invariant-loop decreases-loop = search in
+    (omega arith, all_next _ t.loop-k.k t.loop-k.invariant.1 (ap finite (sym d.new_price-price.ensures) ∙ sym c.is_finite.ensures ∙ not-false _ c.if-not-is_finite.false-raw))
 
-returns-2 : tie.Need-returns-2 invariant-loop decreases-loop
+returns-2 : tie.Need-returns invariant-loop decreases-loop
 unfolding stores_finite new_price price_by
-returns-2 c = λ _. sym (all_done _ _ _ c.before.loop.invariant.0 c.loop-test.false c.before.loop.invariant.1)
+returns-2 c = λ _. sym (all_done _ _ _ c.loop-k.invariant.0 c.loop-k-test.false c.loop-k.invariant.1)
 
-pub prices-finite-spec : {M : Type 1} → statement M
-prices-finite-spec =
+pub prices_finite_spec : {M : Type 1} → statement M
+prices_finite_spec =
     tie.close
     (tie.spec
     invariant-loop

@@ -15,72 +15,72 @@ use Rattle.step_numbers.specs.New.{val_by}
 use Rattle.step_numbers.proofs.vals_finite.Statement.{statement}
 use Rattle.step_numbers.proofs.vals_finite.Tie as tie
 
-abbrev invariant-loop : tie.invariant-loop
+abbrev invariant-loop : tie.invariant-loop-k
 invariant-loop basic-var-vals values list count value diff row k₀ k = (k ≤ count) × (all k (λ i. finite (val_by row value diff (list # i) (basic-var-vals ! (list # i)) (values ! (list # i)))) ≡ true)
 
-abbrev decreases-loop : tie.decreases-loop
+abbrev decreases-loop : tie.decreases-loop-k
 decreases-loop basic-var-vals values list count value diff row k₀ k = count - k
 
-abbrev entry : tie.At-loop invariant-loop decreases-loop → tie.Start invariant-loop decreases-loop
+abbrev entry : tie.At-loop-k invariant-loop decreases-loop → tie.Start invariant-loop decreases-loop
 entry a = search
 
 -- in a turn the place is within the arrays
-place : (t : tie.In-loop invariant-loop decreases-loop) → (get_or (entry t.before).args.list.now t.before.loop.k 0 < places) × (get_or (entry t.before).args.list.now t.before.loop.k 0 < length (entry t.before).args.basic-var-vals.now)
-place t = let s = (entry t.before).pre in (s.place t.before.loop.k t.loop-test.true, s.cell t.before.loop.k t.loop-test.true)
+place : (t : tie.In-loop-k invariant-loop decreases-loop) → (get_or (entry t.before).args.list.now t.loop-k.k 0 < places) × (get_or (entry t.before).args.list.now t.loop-k.k 0 < length (entry t.before).args.basic_var_vals.now)
+place t = let s = (entry t.before).requires in (s.place t.loop-k.k t.loop-k-test.true, s.cell t.loop-k.k t.loop-k-test.true)
 
-loop-holds : tie.Need-loop-init invariant-loop decreases-loop
+loop-holds : tie.Need-loop-k-init invariant-loop decreases-loop
 unfolding all
 loop-holds c = (omega arith, refl)
 
-mul-r : tie.Need-overflow-mul-r invariant-loop decreases-loop
-mul-r c = let s : tie.Start invariant-loop decreases-loop = search in omega (arith, s.pre)
+mul-r : tie.Need-offset_bounds-list-k invariant-loop decreases-loop
+mul-r c = let s : tie.Start invariant-loop decreases-loop = search in omega (arith, s.requires)
 
-element-copy-out-r : tie.Need-element-copy-out-r invariant-loop decreases-loop
-element-copy-out-r c = let s : tie.Start invariant-loop decreases-loop = search in omega (arith, s.pre)
+element-copy-out-r : tie.Need-bounds-list-k invariant-loop decreases-loop
+element-copy-out-r c = let s : tie.Start invariant-loop decreases-loop = search in omega (arith, s.requires)
 
-mul-new-val : tie.Need-overflow-mul-new-val invariant-loop decreases-loop
-mul-new-val c = let t : tie.In-loop invariant-loop decreases-loop = search in omega (arith, place t)
+mul-new-val : tie.Need-offset_bounds-basic_var_vals-r invariant-loop decreases-loop
+mul-new-val c = let t : tie.In-loop-k invariant-loop decreases-loop = search in omega (arith, place t)
 
-shared-slice-read-new-val : tie.Need-shared-slice-read-new-val invariant-loop decreases-loop
-shared-slice-read-new-val c = let t : tie.In-loop invariant-loop decreases-loop = search in omega (arith, place t)
+shared-slice-read-new-val : tie.Need-bounds-basic_var_vals-r invariant-loop decreases-loop
+shared-slice-read-new-val c = let t : tie.In-loop-k invariant-loop decreases-loop = search in omega (arith, place t)
 
-mul-new-val-2 : tie.Need-overflow-mul-new-val-2 invariant-loop decreases-loop
-mul-new-val-2 c = let t : tie.In-loop invariant-loop decreases-loop = search in omega (arith, place t)
+mul-new-val-2 : tie.Need-offset_bounds-values-r invariant-loop decreases-loop
+mul-new-val-2 c = let t : tie.In-loop-k invariant-loop decreases-loop = search in omega (arith, place t)
 
-element-copy-out-new-val : tie.Need-element-copy-out-new-val invariant-loop decreases-loop
-element-copy-out-new-val c = let t : tie.In-loop invariant-loop decreases-loop = search in omega (arith, place t)
+element-copy-out-new-val : tie.Need-bounds-values-r invariant-loop decreases-loop
+element-copy-out-new-val c = let t : tie.In-loop-k invariant-loop decreases-loop = search in omega (arith, place t)
 
-new-val-requires : tie.Need-new-val-requires invariant-loop decreases-loop
+new-val-requires : tie.Need-new_val-x-requires invariant-loop decreases-loop
 new-val-requires c κs = tt
 
-is-finite-requires : tie.Need-is-finite-requires invariant-loop decreases-loop
+is-finite-requires : tie.Need-is_finite-requires invariant-loop decreases-loop
 is-finite-requires c κs = tt
 
-returns : tie.Need-returns invariant-loop decreases-loop
+returns : tie.Need-returns-then-not-is_finite invariant-loop decreases-loop
 unfolding stores_finite new_val moved_val val_by
 returns c =
-    let t : tie.In-loop invariant-loop decreases-loop = search in
-    let d : tie.After-new-val invariant-loop decreases-loop = search in
-    λ _. sym (all_fails _ _ t.before.loop.k t.loop-test.taken (ap finite (sym d.new-val.ensures) ∙ sym c.before.is_finite.ensures ∙ not-true _ c.if1.true))
+    let t : tie.In-loop-k invariant-loop decreases-loop = search in
+    let d : tie.After-new_val-x invariant-loop decreases-loop = search in
+    λ _. sym (all_fails _ _ t.loop-k.k t.loop-k-test.true (ap finite (sym d.new_val-x.ensures) ∙ sym c.is_finite.ensures ∙ not-true _ c.if-not-is_finite.true-raw))
 
-add-k : tie.Need-overflow-add-k invariant-loop decreases-loop
+add-k : tie.Need-overflow_add-k invariant-loop decreases-loop
 add-k c = omega arith
 
-loop-less : tie.Need-loop-smaller invariant-loop decreases-loop
+loop-less : tie.Need-loop-k-smaller invariant-loop decreases-loop
 loop-less c = omega arith
 
-loop-again : tie.Need-loop-preserved invariant-loop decreases-loop
+loop-again : tie.Need-loop-k-preserved invariant-loop decreases-loop
 loop-again c =
-    let t : tie.In-loop invariant-loop decreases-loop = search in
-    let d : tie.After-new-val invariant-loop decreases-loop = search in
-    (omega arith, all_next _ t.before.loop.k t.before.loop.inv.1 (ap finite (sym d.new-val.ensures) ∙ sym c.before.is_finite.ensures ∙ not-false _ c.if1.false))
+    let t : tie.In-loop-k invariant-loop decreases-loop = search in
+    let d : tie.After-new_val-x invariant-loop decreases-loop = search in
+    (omega arith, all_next _ t.loop-k.k t.loop-k.invariant.1 (ap finite (sym d.new_val-x.ensures) ∙ sym c.is_finite.ensures ∙ not-false _ c.if-not-is_finite.false-raw))
 
-returns-2 : tie.Need-returns-2 invariant-loop decreases-loop
+returns-2 : tie.Need-returns invariant-loop decreases-loop
 unfolding stores_finite new_val moved_val val_by
-returns-2 c = λ _. sym (all_done _ _ _ c.before.loop.invariant.0 c.loop-test.false c.before.loop.invariant.1)
+returns-2 c = λ _. sym (all_done _ _ _ c.loop-k.invariant.0 c.loop-k-test.false c.loop-k.invariant.1)
 
-pub vals-finite-spec : {M : Type 1} → statement M
-vals-finite-spec =
+pub vals_finite_spec : {M : Type 1} → statement M
+vals_finite_spec =
     tie.close
     (tie.spec
     invariant-loop

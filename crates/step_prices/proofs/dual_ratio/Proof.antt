@@ -11,98 +11,98 @@ use Rattle.step_prices.proofs.dual_ratio.Statement.{statement}
 use Rattle.step_prices.proofs.dual_ratio.Tie as tie
 
 abbrev lent : tie.Start → Workspace
-lent s = columns_of s.args.basic-var-vals.now s.args.nb-var-vals.now s.args.prices.now s.args.flags.now
+lent s = columns_of s.args.basic_var_vals.now s.args.nb_var_vals.now s.args.prices.now s.args.flags.now
 
-mul-from : tie.Need-overflow-mul-from
+mul-from : tie.Need-offset_bounds-basic_var_vals-row
 mul-from c = search rules
 
-shared-slice-read-from : tie.Need-shared-slice-read-from
+shared-slice-read-from : tie.Need-bounds-basic_var_vals-row
 shared-slice-read-from c = search rules
 
-pass-one-requires : tie.Need-pass-one-requires
-pass-one-requires c κs = let s : tie.Start = search in passing_part_holds s.pre.passing
+pass-one-requires : tie.Need-pass_one-first-requires
+pass-one-requires c κs = let s : tie.Start = search in passing_part_holds s.requires.passing
 
-enum-known-first : tie.Need-enum-known-first
+enum-known-first : tie.Need-enum_known-first
 enum-known-first c = search rules
 
-enum_told : tie.Need-enum-told
+enum_told : tie.Need-enum_told-1
 enum_told c = search rules
 
-returns : tie.Need-returns
+returns : tie.Need-returns-in_default
 unfolding leaving_rises
 returns c =
     let s : tie.Start = search in
-    λ m. ratio_23 _ (lent s) _ _ (c.before.before.pass-one.ensures m ∙ max_step_part (lent s) _ _) c.enum_told.given.1
+    λ m. ratio_23 _ (lent s) _ _ (c.pass_one-first.ensures m ∙ max_step_part (lent s) _ _) c.in_default.is
 
-pass-two-requires : tie.Need-pass-two-requires
-pass-two-requires c κs = let s : tie.Start = search in passing_part_holds s.pre.passing
+pass-two-requires : tie.Need-pass_two-at-requires
+pass-two-requires c κs = let s : tie.Start = search in passing_part_holds s.requires.passing
 
-mul-col : tie.Need-overflow-mul-col
+mul-col : tie.Need-offset_bounds-list-at
 mul-col c = search rules
 
-element-copy-out-col : tie.Need-element-copy-out-col
+element-copy-out-col : tie.Need-bounds-list-at
 element-copy-out-col c = search rules
 
-mul-exchange : tie.Need-overflow-mul-exchange
+mul-exchange : tie.Need-offset_bounds-prices-col
 mul-exchange c =
     let s : tie.Start = search in
-    let a : tie.Then1 = search in
-    omega (arith, s.pre.passing.column _ a.if1.taken)
+    let a : tie.Then-at-count = search in
+    omega (arith, s.requires.passing.column _ a.if-at-count.true)
 
-shared-slice-read-exchange : tie.Need-shared-slice-read-exchange
+shared-slice-read-exchange : tie.Need-bounds-prices-col
 shared-slice-read-exchange c =
     let s : tie.Start = search in
-    let a : tie.Then1 = search in
-    omega (arith, s.pre.passing.column _ a.if1.taken)
+    let a : tie.Then-at-count = search in
+    omega (arith, s.requires.passing.column _ a.if-at-count.true)
 
-mul-exchange-2 : tie.Need-overflow-mul-exchange-2
+mul-exchange-2 : tie.Need-offset_bounds-nb_var_vals-col
 mul-exchange-2 c =
     let s : tie.Start = search in
-    let a : tie.Then1 = search in
-    omega (arith, s.pre.valued _ a.if1.taken)
+    let a : tie.Then-at-count = search in
+    omega (arith, s.requires.valued _ a.if-at-count.true)
 
-shared-slice-read-exchange-2 : tie.Need-shared-slice-read-exchange-2
+shared-slice-read-exchange-2 : tie.Need-bounds-nb_var_vals-col
 shared-slice-read-exchange-2 c =
     let s : tie.Start = search in
-    let a : tie.Then1 = search in
-    omega (arith, s.pre.valued _ a.if1.taken)
+    let a : tie.Then-at-count = search in
+    omega (arith, s.requires.valued _ a.if-at-count.true)
 
-mul-exchange-3 : tie.Need-overflow-mul-exchange-3
+mul-exchange-3 : tie.Need-offset_bounds-values-col
 mul-exchange-3 c =
     let s : tie.Start = search in
-    let a : tie.Then1 = search in
-    omega (arith, s.pre.passing.column _ a.if1.taken)
+    let a : tie.Then-at-count = search in
+    omega (arith, s.requires.passing.column _ a.if-at-count.true)
 
-element-copy-out-exchange : tie.Need-element-copy-out-exchange
+element-copy-out-exchange : tie.Need-bounds-values-col
 element-copy-out-exchange c =
     let s : tie.Start = search in
-    let a : tie.Then1 = search in
-    omega (arith, s.pre.passing.column _ a.if1.taken)
+    let a : tie.Then-at-count = search in
+    omega (arith, s.requires.passing.column _ a.if-at-count.true)
 
 exchange-requires : tie.Need-exchange-requires
 exchange-requires c κs = search rules
 
-returns-2 : tie.Need-returns-2
+returns-2 : tie.Need-returns-then-at-count
 unfolding leaving_rises
 returns-2 c =
     let s : tie.Start = search in
-    let o : tie.After-pass-one = search in
-    let v : tie.After-first = search in
-    let t : tie.After-pass-two = search in
-    let a : tie.Then1 = search in
-    λ m. ratio_exchanges _ (lent s) _ _ (o.pass-one.ensures m ∙ max_step_part (lent s) _ _) v.first.given.1 (t.pass-two.ensures m ∙ pass_two_part (lent s) _ _ _) a.if1.taken c.exchange.ensures
+    let o : tie.After-pass_one-first = search in
+    let v : tie.In-Step = search in
+    let t : tie.After-pass_two-at = search in
+    let a : tie.Then-at-count = search in
+    λ m. ratio_exchanges _ (lent s) _ _ (o.pass_one-first.ensures m ∙ max_step_part (lent s) _ _) v.in-Step.is (t.pass_two-at.ensures m ∙ pass_two_part (lent s) _ _ _) a.if-at-count.true c.exchange.ensures
 
-returns-3 : tie.Need-returns-3
+returns-3 : tie.Need-returns
 unfolding leaving_rises
 returns-3 c =
     let s : tie.Start = search in
-    let o : tie.After-pass-one = search in
-    let v : tie.After-first = search in
-    let t : tie.After-pass-two = search in
-    λ m. ratio_none _ (lent s) _ _ (o.pass-one.ensures m ∙ max_step_part (lent s) _ _) v.first.given.1 (t.pass-two.ensures m ∙ pass_two_part (lent s) _ _ _) c.if1.false
+    let o : tie.After-pass_one-first = search in
+    let v : tie.In-Step = search in
+    let t : tie.After-pass_two-at = search in
+    λ m. ratio_none _ (lent s) _ _ (o.pass_one-first.ensures m ∙ max_step_part (lent s) _ _) v.in-Step.is (t.pass_two-at.ensures m ∙ pass_two_part (lent s) _ _ _) c.if-at-count.false
 
-pub dual-ratio-spec : {M : Type 1} → statement M
-dual-ratio-spec =
+pub dual_ratio_spec : {M : Type 1} → statement M
+dual_ratio_spec =
     tie.close
     (tie.spec
     mul-from

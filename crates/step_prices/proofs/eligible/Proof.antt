@@ -4,17 +4,17 @@ use Rattle.rules.specs.DualRatio.{eligible}
 use Rattle.step_prices.proofs.eligible.Statement.{statement}
 use Rattle.step_prices.proofs.eligible.Tie as tie
 
-may-move-requires : tie.Need-may-move-requires
+may-move-requires : tie.Need-may_move-requires
 may-move-requires c κs = search rules
 
-may-move-requires-2 : tie.Need-may-move-requires-2
+may-move-requires-2 : tie.Need-may_move-requires-2
 may-move-requires-2 c κs = search rules
 
 returns : tie.Need-returns
 unfolding eligible
 returns c =
-    let a : tie.After-may-move = search in
-    rw (a.may-move.ensures, c.may-move2.ensures)
+    let a : tie.After-may_move = search in
+    rw (a.may_move.ensures, c.may_move-2.ensures)
 
-pub eligible-spec : {M : Type 1} → statement M
-eligible-spec = tie.close (tie.spec may-move-requires may-move-requires-2 returns)
+pub eligible_spec : {M : Type 1} → statement M
+eligible_spec = tie.close (tie.spec may-move-requires may-move-requires-2 returns)

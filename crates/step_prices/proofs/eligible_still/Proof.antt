@@ -13,5 +13,5 @@ returns c =
     let a : tie.After-abs = search in
     rw a.abs.ensures
 
-pub eligible-still-spec : {M : Type 1} → statement M
-eligible-still-spec = tie.close (tie.spec abs-requires returns)
+pub eligible_still_spec : {M : Type 1} → statement M
+eligible_still_spec = tie.close (tie.spec abs-requires returns)

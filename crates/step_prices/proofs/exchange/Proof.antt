@@ -14,7 +14,7 @@ returns : tie.Need-returns
 unfolding exchange_by
 returns c =
     let a : tie.After-abs = search in
-    rw (a.abs.ensures, c.abs2.ensures)
+    rw (a.abs.ensures, c.abs-2.ensures)
 
-pub exchange-spec : {M : Type 1} → statement M
-exchange-spec = tie.close (tie.spec abs-requires abs-requires-2 returns)
+pub exchange_spec : {M : Type 1} → statement M
+exchange_spec = tie.close (tie.spec abs-requires abs-requires-2 returns)

@@ -17,93 +17,93 @@ use Rattle.step_prices.proofs.Passes.{one_more, max_step_23, max_step_is}
 use Rattle.step_prices.proofs.pass_one.Statement.{statement}
 use Rattle.step_prices.proofs.pass_one.Tie as tie
 
-abbrev invariant-loop : tie.invariant-loop
+abbrev invariant-loop : tie.invariant-loop-k
 invariant-loop still up prices flags values list count step₀ k₀ step k =
     (k ≤ count)
     × (all k (dual_sound_at (priced_of prices flags) (test_by still up) (sv values [] list count)) ≡ true)
     × (step ≡ run (dual_pass_one_turn (priced_of prices flags) (test_by still up) (sv values [] list count)) k Num.+inf)
 
-abbrev decreases-loop : tie.decreases-loop
+abbrev decreases-loop : tie.decreases-loop-k
 decreases-loop still up prices flags values list count step₀ k₀ step k = count - k
 
-abbrev entry : tie.At-loop invariant-loop decreases-loop → tie.Start invariant-loop decreases-loop
+abbrev entry : tie.At-loop-k invariant-loop decreases-loop → tie.Start invariant-loop decreases-loop
 entry a = search
 
-abbrev lent : tie.At-loop invariant-loop decreases-loop → Workspace
+abbrev lent : tie.At-loop-k invariant-loop decreases-loop → Workspace
 lent a = priced_of (entry a).args.prices.now (entry a).args.flags.now
 
 -- the row, whose marks aren't read
-abbrev row : tie.At-loop invariant-loop decreases-loop → Sv
+abbrev row : tie.At-loop-k invariant-loop decreases-loop → Sv
 row a = sv (entry a).args.values.now [] (entry a).args.list.now (entry a).args.count
 
 -- in a turn the place is a column
-column : (t : tie.In-loop invariant-loop decreases-loop) → Column (lent t.before) (get_or (entry t.before).args.list.now t.before.loop.k 0)
-column t = (entry t.before).pre.column t.before.loop.k t.loop-test.true
+column : (t : tie.In-loop-k invariant-loop decreases-loop) → Column (lent t.before) (get_or (entry t.before).args.list.now t.loop-k.k 0)
+column t = (entry t.before).requires.column t.loop-k.k t.loop-k-test.true
 
-infinity-requires : tie.Need-infinity-requires invariant-loop decreases-loop
+infinity-requires : tie.Need-infinity-step-requires invariant-loop decreases-loop
 infinity-requires c κs = search rules
 
-loop-holds : tie.Need-loop-init invariant-loop decreases-loop
+loop-holds : tie.Need-loop-k-init invariant-loop decreases-loop
 unfolding run all
-loop-holds c = (omega arith, refl, c.infinity.ensures)
+loop-holds c = (omega arith, refl, c.infinity-step.ensures)
 
-mul-c : tie.Need-overflow-mul-c invariant-loop decreases-loop
+mul-c : tie.Need-offset_bounds-list-k invariant-loop decreases-loop
 mul-c c = search rules
 
-element-copy-out-c : tie.Need-element-copy-out-c invariant-loop decreases-loop
+element-copy-out-c : tie.Need-bounds-list-k invariant-loop decreases-loop
 element-copy-out-c c = search rules
 
-mul-shrink : tie.Need-overflow-mul-shrink invariant-loop decreases-loop
-mul-shrink c = let t : tie.In-loop invariant-loop decreases-loop = search in omega (arith, column t)
+mul-shrink : tie.Need-offset_bounds-flags-c invariant-loop decreases-loop
+mul-shrink c = let t : tie.In-loop-k invariant-loop decreases-loop = search in omega (arith, column t)
 
-shared-slice-read-shrink : tie.Need-shared-slice-read-shrink invariant-loop decreases-loop
-shared-slice-read-shrink c = let t : tie.In-loop invariant-loop decreases-loop = search in omega (arith, column t)
+shared-slice-read-shrink : tie.Need-bounds-flags-c invariant-loop decreases-loop
+shared-slice-read-shrink c = let t : tie.In-loop-k invariant-loop decreases-loop = search in omega (arith, column t)
 
-mul-shrink-2 : tie.Need-overflow-mul-shrink-2 invariant-loop decreases-loop
-mul-shrink-2 c = let t : tie.In-loop invariant-loop decreases-loop = search in omega (arith, column t)
+mul-shrink-2 : tie.Need-offset_bounds-prices-c invariant-loop decreases-loop
+mul-shrink-2 c = let t : tie.In-loop-k invariant-loop decreases-loop = search in omega (arith, column t)
 
-shared-slice-read-shrink-2 : tie.Need-shared-slice-read-shrink-2 invariant-loop decreases-loop
-shared-slice-read-shrink-2 c = let t : tie.In-loop invariant-loop decreases-loop = search in omega (arith, column t)
+shared-slice-read-shrink-2 : tie.Need-bounds-prices-c invariant-loop decreases-loop
+shared-slice-read-shrink-2 c = let t : tie.In-loop-k invariant-loop decreases-loop = search in omega (arith, column t)
 
-mul-shrink-3 : tie.Need-overflow-mul-shrink-3 invariant-loop decreases-loop
-mul-shrink-3 c = let t : tie.In-loop invariant-loop decreases-loop = search in omega (arith, column t)
+mul-shrink-3 : tie.Need-offset_bounds-values-c invariant-loop decreases-loop
+mul-shrink-3 c = let t : tie.In-loop-k invariant-loop decreases-loop = search in omega (arith, column t)
 
-element-copy-out-shrink : tie.Need-element-copy-out-shrink invariant-loop decreases-loop
-element-copy-out-shrink c = let t : tie.In-loop invariant-loop decreases-loop = search in omega (arith, column t)
+element-copy-out-shrink : tie.Need-bounds-values-c invariant-loop decreases-loop
+element-copy-out-shrink c = let t : tie.In-loop-k invariant-loop decreases-loop = search in omega (arith, column t)
 
-shrink-requires : tie.Need-shrink-requires invariant-loop decreases-loop
+shrink-requires : tie.Need-shrink-next-requires invariant-loop decreases-loop
 shrink-requires c κs = search rules
 
-enum-known-next : tie.Need-enum-known-next invariant-loop decreases-loop
+enum-known-next : tie.Need-enum_known-next invariant-loop decreases-loop
 enum-known-next c = search rules
 
-enum_told : tie.Need-enum-told invariant-loop decreases-loop
+enum_told : tie.Need-enum_told-1 invariant-loop decreases-loop
 enum_told c = search rules
 
-returns : tie.Need-returns invariant-loop decreases-loop
+returns : tie.Need-returns-in_default invariant-loop decreases-loop
 returns c =
-    let t : tie.In-loop invariant-loop decreases-loop = search in
-    λ m. max_step_23 (lent t.before) _ _ t.before.loop.k _ c.before.before.shrink.ensures c.enum_told.given.1 t.loop-test.taken
+    let t : tie.In-loop-k invariant-loop decreases-loop = search in
+    λ m. max_step_23 (lent t.before) _ _ t.loop-k.k _ c.shrink-next.ensures c.in_default.is t.loop-k-test.true
 
-add-k : tie.Need-overflow-add-k invariant-loop decreases-loop
+add-k : tie.Need-overflow_add-k invariant-loop decreases-loop
 add-k c = search rules
 
-loop-less : tie.Need-loop-smaller invariant-loop decreases-loop
+loop-less : tie.Need-loop-k-smaller invariant-loop decreases-loop
 loop-less c = search rules
 
-loop-again : tie.Need-loop-preserved invariant-loop decreases-loop
+loop-again : tie.Need-loop-k-preserved invariant-loop decreases-loop
 loop-again c =
-    let t : tie.In-loop invariant-loop decreases-loop = search in
-    let a : tie.After-shrink invariant-loop decreases-loop = search in
-    let y = one_more (lent t.before) _ (row t.before) t.before.loop.k _ a.shrink.ensures c.before.next.given.1 in
-    (omega arith, all_next _ _ t.before.loop.inv.1 y.0, next _ _ t.before.loop.k t.before.loop.inv.2 y.1)
+    let t : tie.In-loop-k invariant-loop decreases-loop = search in
+    let a : tie.After-shrink-next invariant-loop decreases-loop = search in
+    let y = one_more (lent t.before) _ (row t.before) t.loop-k.k _ a.shrink-next.ensures c.in-Step.is in
+    (omega arith, all_next _ _ t.loop-k.invariant.1 y.0, next _ _ t.loop-k.k t.loop-k.invariant.2 y.1)
 
-returns-2 : tie.Need-returns-2 invariant-loop decreases-loop
+returns-2 : tie.Need-returns invariant-loop decreases-loop
 returns-2 c =
-    λ m. max_step_is (lent c.before) _ _ c.before.loop.k c.before.loop.invariant.0 c.loop-test.false c.before.loop.invariant.1 c.before.loop.invariant.2
+    λ m. max_step_is (lent c.before) _ _ c.loop-k.k c.loop-k.invariant.0 c.loop-k-test.false c.loop-k.invariant.1 c.loop-k.invariant.2
 
-pub pass-one-spec : {M : Type 1} → statement M
-pass-one-spec =
+pub pass_one_spec : {M : Type 1} → statement M
+pass_one_spec =
     tie.close
     (tie.spec
     invariant-loop

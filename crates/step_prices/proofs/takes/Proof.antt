@@ -4,39 +4,39 @@ use Rattle.step_prices.proofs.Passes.{taken_passed, taken_by, taken_small}
 use Rattle.step_prices.proofs.takes.Statement.{statement}
 use Rattle.step_prices.proofs.takes.Tie as tie
 
-abs-requires : tie.Need-abs-requires
+abs-requires : tie.Need-abs-size-requires
 abs-requires c κs = search rules
 
-read-flags-requires : tie.Need-read-flags-requires
+read-flags-requires : tie.Need-read_flags-f-requires
 read-flags-requires c κs = search rules
 
-lets-in-requires : tie.Need-lets-in-requires
+lets-in-requires : tie.Need-lets_in-requires
 lets-in-requires c κs = search rules
 
 clamped-requires : tie.Need-clamped-requires
 clamped-requires c κs = search rules
 
-abs-requires-2 : tie.Need-abs-requires-2
+abs-requires-2 : tie.Need-abs-requires
 abs-requires-2 c κs = search rules
 
-returns : tie.Need-returns
+returns : tie.Need-returns-then-lets_in
 returns c =
-    let a : tie.After-abs = search in
-    let v : tie.After-read-flags = search in
-    let b : tie.After-lets-in = search in
+    let a : tie.After-abs-size = search in
+    let v : tie.After-read_flags-f = search in
+    let b : tie.After-lets_in = search in
     let q : tie.After-clamped = search in
-    taken_by _ _ _ _ v.read-Flags.ensures b.lets-in.ensures _ _ q.before.if2.taken q.clamped.ensures c.abs2.ensures a.abs.ensures v.before.if1.taken
+    taken_by _ _ _ _ v.read_flags-f.ensures b.lets_in.ensures _ _ q.if-lets_in.true q.clamped.ensures c.abs.ensures a.abs-size.ensures v.if-best-size.true
 
-returns-2 : tie.Need-returns-2
+returns-2 : tie.Need-returns-then-best-size
 returns-2 c =
-    let v : tie.After-read-flags = search in
-    taken_passed _ _ _ _ v.read-Flags.ensures c.before.lets-in.ensures _ _ c.if2.false
+    let v : tie.After-read_flags-f = search in
+    taken_passed _ _ _ _ v.read_flags-f.ensures c.lets_in.ensures _ _ c.if-lets_in.false
 
-returns-3 : tie.Need-returns-3
-returns-3 c = taken_small _ _ _ _ _ _ c.before.abs.ensures c.if1.false
+returns-3 : tie.Need-returns
+returns-3 c = taken_small _ _ _ _ _ _ c.abs-size.ensures c.if-best-size.false
 
-pub takes-spec : {M : Type 1} → statement M
-takes-spec =
+pub takes_spec : {M : Type 1} → statement M
+takes_spec =
     tie.close
     (tie.spec
     abs-requires

@@ -16,80 +16,80 @@ use Rattle.step_ratio.proofs.Passes.{one_more, max_step_23, max_step_is}
 use Rattle.step_ratio.proofs.pass_one.Statement.{statement}
 use Rattle.step_ratio.proofs.pass_one.Tie as tie
 
-abbrev invariant-loop : tie.invariant-loop
+abbrev invariant-loop : tie.invariant-loop-k
 invariant-loop n lowers uppers ops kept basic-vars basic-var-vals values list count up step₀ k₀ step k =
     (k ≤ count)
     × (all k (sound_at (bounded n lowers uppers ops kept) (basic_of basic-vars basic-var-vals) up (sv values [] list count)) ≡ true)
     × (step ≡ run (pass_one_turn (bounded n lowers uppers ops kept) (basic_of basic-vars basic-var-vals) up (sv values [] list count)) k step₀)
 
-abbrev decreases-loop : tie.decreases-loop
+abbrev decreases-loop : tie.decreases-loop-k
 decreases-loop n lowers uppers ops kept basic-vars basic-var-vals values list count up step₀ k₀ step k = count - k
 
-abbrev entry : tie.At-loop invariant-loop decreases-loop → tie.Start invariant-loop decreases-loop
+abbrev entry : tie.At-loop-k invariant-loop decreases-loop → tie.Start invariant-loop decreases-loop
 entry a = search
 
 -- the column, whose marks aren't read
-abbrev column : tie.At-loop invariant-loop decreases-loop → Sv
+abbrev column : tie.At-loop-k invariant-loop decreases-loop → Sv
 column a = sv (entry a).args.values.now [] (entry a).args.list.now (entry a).args.count
 
 -- in a turn the place is a row
-row : (t : tie.In-loop invariant-loop decreases-loop) → get_or (entry t.before).args.list.now t.before.loop.k 0 < length (entry t.before).args.kept.now
-row t = (entry t.before).pre.listing.rows_listed.inside t.before.loop.k t.loop-test.true
+row : (t : tie.In-loop-k invariant-loop decreases-loop) → get_or (entry t.before).args.list.now t.loop-k.k 0 < length (entry t.before).args.kept.now
+row t = (entry t.before).requires.listing.rows_listed.inside t.loop-k.k t.loop-k-test.true
 
-rises-requires : tie.Need-rises-requires invariant-loop decreases-loop
+rises-requires : tie.Need-rises-up-requires invariant-loop decreases-loop
 rises-requires c κs = search rules
 
-loop-holds : tie.Need-loop-init invariant-loop decreases-loop
+loop-holds : tie.Need-loop-k-init invariant-loop decreases-loop
 unfolding run all
 loop-holds c = (omega arith, refl, refl)
 
-mul-r : tie.Need-overflow-mul-r invariant-loop decreases-loop
+mul-r : tie.Need-offset_bounds-list-k invariant-loop decreases-loop
 mul-r c = search rules
 
-element-copy-out-r : tie.Need-element-copy-out-r invariant-loop decreases-loop
+element-copy-out-r : tie.Need-bounds-list-k invariant-loop decreases-loop
 element-copy-out-r c = search rules
 
-mul-shrink : tie.Need-overflow-mul-shrink invariant-loop decreases-loop
-mul-shrink c = let t : tie.In-loop invariant-loop decreases-loop = search in omega (arith, row t, (entry t.before).pre.listing.rows_fit)
+mul-shrink : tie.Need-offset_bounds-values-r invariant-loop decreases-loop
+mul-shrink c = let t : tie.In-loop-k invariant-loop decreases-loop = search in omega (arith, row t, (entry t.before).requires.listing.rows_fit)
 
-element-copy-out-shrink : tie.Need-element-copy-out-shrink invariant-loop decreases-loop
-element-copy-out-shrink c = let t : tie.In-loop invariant-loop decreases-loop = search in omega (arith, row t, (entry t.before).pre.listing.rows_fit)
+element-copy-out-shrink : tie.Need-bounds-values-r invariant-loop decreases-loop
+element-copy-out-shrink c = let t : tie.In-loop-k invariant-loop decreases-loop = search in omega (arith, row t, (entry t.before).requires.listing.rows_fit)
 
-shrink-requires : tie.Need-shrink-requires invariant-loop decreases-loop
-shrink-requires c κs = let t : tie.In-loop invariant-loop decreases-loop = search in (((entry t.before).pre.sides, row t), (entry t.before).pre.rows)
+shrink-requires : tie.Need-shrink-next-requires invariant-loop decreases-loop
+shrink-requires c κs = let t : tie.In-loop-k invariant-loop decreases-loop = search in (((entry t.before).requires.sides, row t), (entry t.before).requires.rows)
 
-enum-known-next : tie.Need-enum-known-next invariant-loop decreases-loop
+enum-known-next : tie.Need-enum_known-next invariant-loop decreases-loop
 enum-known-next c = search rules
 
-enum_told : tie.Need-enum-told invariant-loop decreases-loop
+enum_told : tie.Need-enum_told-1 invariant-loop decreases-loop
 enum_told c = search rules
 
-returns : tie.Need-returns invariant-loop decreases-loop
+returns : tie.Need-returns-in_default invariant-loop decreases-loop
 returns c =
-    let t : tie.In-loop invariant-loop decreases-loop = search in
-    let u : tie.After-rises invariant-loop decreases-loop = search in
-    λ m. max_step_23 _ _ _ _ u.rises.ensures t.before.loop.k _ _ c.before.before.shrink.ensures c.enum_told.given.1 t.loop-test.taken
+    let t : tie.In-loop-k invariant-loop decreases-loop = search in
+    let u : tie.After-rises-up invariant-loop decreases-loop = search in
+    λ m. max_step_23 _ _ _ _ u.rises-up.ensures t.loop-k.k _ _ c.shrink-next.ensures c.in_default.is t.loop-k-test.true
 
-add-k : tie.Need-overflow-add-k invariant-loop decreases-loop
+add-k : tie.Need-overflow_add-k invariant-loop decreases-loop
 add-k c = search rules
 
-loop-less : tie.Need-loop-smaller invariant-loop decreases-loop
+loop-less : tie.Need-loop-k-smaller invariant-loop decreases-loop
 loop-less c = search rules
 
-loop-again : tie.Need-loop-preserved invariant-loop decreases-loop
+loop-again : tie.Need-loop-k-preserved invariant-loop decreases-loop
 loop-again c =
-    let t : tie.In-loop invariant-loop decreases-loop = search in
-    let a : tie.After-shrink invariant-loop decreases-loop = search in
-    let y = one_more _ _ _ (column t.before) t.before.loop.k _ a.shrink.ensures c.before.next.given.1 in
-    (omega arith, all_next _ _ t.before.loop.inv.1 y.0, next _ _ t.before.loop.k t.before.loop.inv.2 y.1)
+    let t : tie.In-loop-k invariant-loop decreases-loop = search in
+    let a : tie.After-shrink-next invariant-loop decreases-loop = search in
+    let y = one_more _ _ _ (column t.before) t.loop-k.k _ a.shrink-next.ensures c.in-Step.is in
+    (omega arith, all_next _ _ t.loop-k.invariant.1 y.0, next _ _ t.loop-k.k t.loop-k.invariant.2 y.1)
 
-returns-2 : tie.Need-returns-2 invariant-loop decreases-loop
+returns-2 : tie.Need-returns invariant-loop decreases-loop
 returns-2 c =
-    let u : tie.After-rises invariant-loop decreases-loop = search in
-    λ m. max_step_is _ _ _ _ u.rises.ensures c.before.loop.k _ c.before.loop.invariant.0 c.loop-test.false c.before.loop.invariant.1 c.before.loop.invariant.2
+    let u : tie.After-rises-up invariant-loop decreases-loop = search in
+    λ m. max_step_is _ _ _ _ u.rises-up.ensures c.loop-k.k _ c.loop-k.invariant.0 c.loop-k-test.false c.loop-k.invariant.1 c.loop-k.invariant.2
 
-pub pass-one-spec : {M : Type 1} → statement M
-pass-one-spec =
+pub pass_one_spec : {M : Type 1} → statement M
+pass_one_spec =
     tie.close
     (tie.spec
     invariant-loop

@@ -5,51 +5,51 @@ use borrow.Author.Rules.{rules}
 use Rattle.step_ratio.proofs.room_ahead.Statement.{statement}
 use Rattle.step_ratio.proofs.room_ahead.Tie as tie
 
-under-eps-requires : tie.Need-under-eps-requires
+under-eps-requires : tie.Need-under_eps-requires
 under-eps-requires c κs = search rules
 
-returns : tie.Need-returns
-returns c = room_small _ _ _ _ _ (sym c.before.under-eps.ensures ∙ c.if1.true)
+returns : tie.Need-returns-then-under_eps
+returns c = room_small _ _ _ _ _ (sym c.under_eps.ensures ∙ c.if-under_eps.true)
 
-towards-max-requires : tie.Need-towards-max-requires
+towards-max-requires : tie.Need-towards_max-max-requires
 towards-max-requires c κs = search rules
 
-mul-side : tie.Need-overflow-mul-side
+mul-side : tie.Need-offset_bounds-basic_vars-r
 mul-side c = search rules
 
-shared-slice-read-side : tie.Need-shared-slice-read-side
+shared-slice-read-side : tie.Need-bounds-basic_vars-r
 shared-slice-read-side c = search rules
 
-side-requires : tie.Need-side-requires
-side-requires c κs = let s : tie.Start = search in (s.pre.0.0, s.pre.1.row _ s.pre.0.1)
+side-requires : tie.Need-side-bound-requires
+side-requires c κs = let s : tie.Start = search in (s.requires.0.0, s.requires.1.row _ s.requires.0.1)
 
-is-infinite-requires : tie.Need-is-infinite-requires
+is-infinite-requires : tie.Need-is_infinite-requires
 is-infinite-requires c κs = search rules
 
-returns-2 : tie.Need-returns-2
+returns-2 : tie.Need-returns-then-is_infinite
 returns-2 c =
-    let t : tie.After-towards-max = search in
-    let s : tie.After-side = search in
-    room_open _ _ _ _ _ _ _ t.towards-max.ensures s.side.ensures (sym t.before.before.under-eps.ensures ∙ t.before.if1.left) (sym c.before.is-infinite.ensures ∙ c.if2.true)
+    let t : tie.After-towards_max-max = search in
+    let s : tie.After-side-bound = search in
+    room_open _ _ _ _ _ _ _ t.towards_max-max.ensures s.side-bound.ensures (sym t.under_eps.ensures ∙ t.if-under_eps.false) (sym c.is_infinite.ensures ∙ c.if-is_infinite.true)
 
-mul-limit : tie.Need-overflow-mul-limit
+mul-limit : tie.Need-offset_bounds-basic_var_vals-r
 mul-limit c = search rules
 
-shared-slice-read-limit : tie.Need-shared-slice-read-limit
+shared-slice-read-limit : tie.Need-bounds-basic_var_vals-r
 shared-slice-read-limit c = search rules
 
 limit-requires : tie.Need-limit-requires
 limit-requires c κs = search rules
 
-returns-3 : tie.Need-returns-3
+returns-3 : tie.Need-returns
 returns-3 c =
-    let t : tie.After-towards-max = search in
-    let s : tie.After-side = search in
-    let i : tie.After-is-infinite = search in
-    room_limit _ _ _ _ _ _ _ t.towards-max.ensures s.side.ensures (sym t.before.before.under-eps.ensures ∙ t.before.if1.left) (sym i.is-infinite.ensures ∙ c.before.before.if2.false) _ c.limit.ensures
+    let t : tie.After-towards_max-max = search in
+    let s : tie.After-side-bound = search in
+    let i : tie.After-is_infinite = search in
+    room_limit _ _ _ _ _ _ _ t.towards_max-max.ensures s.side-bound.ensures (sym t.under_eps.ensures ∙ t.if-under_eps.false) (sym i.is_infinite.ensures ∙ c.if-is_infinite.false) _ c.limit.ensures
 
-pub room-ahead-spec : {M : Type 1} → statement M
-room-ahead-spec =
+pub room_ahead_spec : {M : Type 1} → statement M
+room_ahead_spec =
     tie.close
     (tie.spec
     under-eps-requires

@@ -4,32 +4,32 @@ use borrow.Author.Rules.{rules}
 use Rattle.step_ratio.proofs.takes.Statement.{statement}
 use Rattle.step_ratio.proofs.takes.Tie as tie
 
-abs-requires : tie.Need-abs-requires
+abs-requires : tie.Need-abs-size-requires
 abs-requires c κs = search rules
 
-room-ahead-requires : tie.Need-room-ahead-requires
+room-ahead-requires : tie.Need-room_ahead-left-requires
 room-ahead-requires c κs = search rules
 
-enum-known-left : tie.Need-enum-known-left
+enum-known-left : tie.Need-enum_known-left
 enum-known-left c = search rules
 
-enum_told : tie.Need-enum-told
+enum_told : tie.Need-enum_told-1
 enum_told c = search rules
 
-returns : tie.Need-returns
-returns c = taken_open _ _ _ _ _ _ _ c.before.before.room-ahead.ensures c.enum_told.given.1
+returns : tie.Need-returns-in_default
+returns c = taken_open _ _ _ _ _ _ _ c.room_ahead-left.ensures c.in_default.is
 
-returns-2 : tie.Need-returns-2
+returns-2 : tie.Need-returns-then-best-size
 returns-2 c =
-    let m : tie.After-room-ahead = search in
-    let a : tie.After-abs = search in
-    taken_by _ _ _ _ _ _ _ m.room-ahead.ensures c.before.left.given.1 a.abs.ensures m.before.if1.taken
+    let m : tie.After-room_ahead-left = search in
+    let a : tie.After-abs-size = search in
+    taken_by _ _ _ _ _ _ _ m.room_ahead-left.ensures c.in-Limit.is a.abs-size.ensures m.if-best-size.true
 
-returns-3 : tie.Need-returns-3
-returns-3 c = taken_small _ _ _ _ _ _ _ c.before.abs.ensures c.if1.false
+returns-3 : tie.Need-returns
+returns-3 c = taken_small _ _ _ _ _ _ _ c.abs-size.ensures c.if-best-size.false
 
-pub takes-spec : {M : Type 1} → statement M
-takes-spec =
+pub takes_spec : {M : Type 1} → statement M
+takes_spec =
     tie.close
     (tie.spec
     abs-requires

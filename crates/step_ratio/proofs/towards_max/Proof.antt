@@ -8,5 +8,5 @@ returns : tie.Need-returns
 unfolding towards_max
 returns c = refl
 
-pub towards-max-spec : {M : Type 1} → statement M
-towards-max-spec = tie.close (tie.spec returns)
+pub towards_max_spec : {M : Type 1} → statement M
+towards_max_spec = tie.close (tie.spec returns)

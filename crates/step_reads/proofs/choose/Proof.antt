@@ -8,53 +8,53 @@ use Rattle.step_reads.proofs.Laws.{choosing_part}
 use Rattle.step_reads.proofs.choose.Statement.{statement}
 use Rattle.step_reads.proofs.choose.Tie as tie
 
-sub-choose : tie.Need-overflow-sub-choose
+sub-choose : tie.Need-slice_bounds-choose-count
 sub-choose c = search rules
 
-part-choose-start : tie.Need-slice-bounds-choose-start
+part-choose-start : tie.Need-slice_bounds-choose-start
 part-choose-start c = search rules
 
-part-choose-end : tie.Need-slice-bounds-choose-end
+part-choose-end : tie.Need-slice_bounds-choose-end
 part-choose-end c = search rules
 
-sub-choose-2 : tie.Need-overflow-sub-choose-2
+sub-choose-2 : tie.Need-slice_bounds-choose-count-2
 sub-choose-2 c = search rules
 
-part-choose-start-2 : tie.Need-slice-bounds-choose-start-2
+part-choose-start-2 : tie.Need-slice_bounds-choose-start-2
 part-choose-start-2 c = search rules
 
-part-choose-end-2 : tie.Need-slice-bounds-choose-end-2
+part-choose-end-2 : tie.Need-slice_bounds-choose-end-2
 part-choose-end-2 c = search rules
 
-sub-choose-3 : tie.Need-overflow-sub-choose-3
+sub-choose-3 : tie.Need-slice_bounds-choose-count-3
 sub-choose-3 c = search rules
 
-part-choose-start-3 : tie.Need-slice-bounds-choose-start-3
+part-choose-start-3 : tie.Need-slice_bounds-choose-start-3
 part-choose-start-3 c = search rules
 
-part-choose-end-3 : tie.Need-slice-bounds-choose-end-3
+part-choose-end-3 : tie.Need-slice_bounds-choose-end-3
 part-choose-end-3 c = search rules
 
-sub-choose-4 : tie.Need-overflow-sub-choose-4
+sub-choose-4 : tie.Need-slice_bounds-choose-count-4
 sub-choose-4 c = search rules
 
-part-choose-start-4 : tie.Need-slice-bounds-choose-start-4
+part-choose-start-4 : tie.Need-slice_bounds-choose-start-4
 part-choose-start-4 c = search rules
 
-part-choose-end-4 : tie.Need-slice-bounds-choose-end-4
+part-choose-end-4 : tie.Need-slice_bounds-choose-end-4
 part-choose-end-4 c = search rules
 
-sub-choose-5 : tie.Need-overflow-sub-choose-5
+sub-choose-5 : tie.Need-slice_bounds-choose-count-5
 sub-choose-5 c = search rules
 
-part-choose-start-5 : tie.Need-slice-bounds-choose-start-5
+part-choose-start-5 : tie.Need-slice_bounds-choose-start-5
 part-choose-start-5 c = search rules
 
-part-choose-end-5 : tie.Need-slice-bounds-choose-end-5
+part-choose-end-5 : tie.Need-slice_bounds-choose-end-5
 part-choose-end-5 c = search rules
 
 choose-requires : tie.Need-choose-requires
-choose-requires c κs = let s : tie.Start = search in choosing_part s.pre.1
+choose-requires c κs = let s : tie.Start = search in choosing_part s.requires.1
 
 returns : tie.Need-returns
 returns c = let s : tie.Start = search in let a = s.args in c.choose.ensures ∙ sym (choose_part (bounded a.n a.lowers.now a.uppers.now a.ops.now a.kept.now) (packed a.numbers.now a.doubles.now))

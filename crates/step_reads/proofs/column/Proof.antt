@@ -18,57 +18,57 @@ use Rattle.step_reads.proofs.column.Tie as tie
 var_is : (s : tie.Start) → (packed s.args.numbers.now s.args.doubles.now).nb_vars # s.args.col ≡ s.args.numbers.now # (nb_vars_at + s.args.col)
 var_is s = section_at nb_vars_at max_columns s.args.numbers.now s.args.col 0 s.requires.0.2
 
-add-var : tie.Need-overflow-add-var
+add-var : tie.Need-overflow_add-var
 add-var c = search rules
 
-mul-var : tie.Need-overflow-mul-var
+mul-var : tie.Need-offset_bounds-numbers-col
 mul-var c = search rules
 
-shared-slice-read-var : tie.Need-shared-slice-read-var
+shared-slice-read-var : tie.Need-bounds-numbers-col
 shared-slice-read-var c = search rules
 
-sub-col-coeffs : tie.Need-overflow-sub-col-coeffs
+sub-col-coeffs : tie.Need-slice_bounds-col_coeffs-count
 sub-col-coeffs c = search rules
 
-part-col-coeffs-start : tie.Need-slice-bounds-col-coeffs-start
+part-col-coeffs-start : tie.Need-slice_bounds-col_coeffs-start
 part-col-coeffs-start c = search rules
 
-part-col-coeffs-end : tie.Need-slice-bounds-col-coeffs-end
+part-col-coeffs-end : tie.Need-slice_bounds-col_coeffs-end
 part-col-coeffs-end c = search rules
 
-sub-col-coeffs-2 : tie.Need-overflow-sub-col-coeffs-2
+sub-col-coeffs-2 : tie.Need-slice_bounds-col_coeffs-count-2
 sub-col-coeffs-2 c = search rules
 
-part-col-coeffs-start-2 : tie.Need-slice-bounds-col-coeffs-start-2
+part-col-coeffs-start-2 : tie.Need-slice_bounds-col_coeffs-start-2
 part-col-coeffs-start-2 c = search rules
 
-part-col-coeffs-end-2 : tie.Need-slice-bounds-col-coeffs-end-2
+part-col-coeffs-end-2 : tie.Need-slice_bounds-col_coeffs-end-2
 part-col-coeffs-end-2 c = search rules
 
-sub-col-coeffs-3 : tie.Need-overflow-sub-col-coeffs-3
+sub-col-coeffs-3 : tie.Need-slice_bounds-col_coeffs-count-3
 sub-col-coeffs-3 c = search rules
 
-part-col-coeffs-start-3 : tie.Need-slice-bounds-col-coeffs-start-3
+part-col-coeffs-start-3 : tie.Need-slice_bounds-col_coeffs-start-3
 part-col-coeffs-start-3 c = search rules
 
-part-col-coeffs-end-3 : tie.Need-slice-bounds-col-coeffs-end-3
+part-col-coeffs-end-3 : tie.Need-slice_bounds-col_coeffs-end-3
 part-col-coeffs-end-3 c = search rules
 
-sub-col-coeffs-4 : tie.Need-overflow-sub-col-coeffs-4
+sub-col-coeffs-4 : tie.Need-slice_bounds-col_coeffs-count-4
 sub-col-coeffs-4 c = search rules
 
-part-col-coeffs-start-4 : tie.Need-slice-bounds-col-coeffs-start-4
+part-col-coeffs-start-4 : tie.Need-slice_bounds-col_coeffs-start-4
 part-col-coeffs-start-4 c = search rules
 
-part-col-coeffs-end-4 : tie.Need-slice-bounds-col-coeffs-end-4
+part-col-coeffs-end-4 : tie.Need-slice_bounds-col_coeffs-end-4
 part-col-coeffs-end-4 c = search rules
 
-col-coeffs-requires : tie.Need-col-coeffs-requires
+col-coeffs-requires : tie.Need-col_coeffs-requires
 col-coeffs-requires c κs =
     let s : tie.Start = search in
     let a = s.args in
-    let p = s.pre.1 in (
-      (s.pre.0.1, subst (ColumnLent _ _ _ _) (var_is s) p.0.0),
+    let p = s.requires.1 in (
+      (s.requires.0.1, subst (ColumnLent _ _ _ _) (var_is s) p.0.0),
       (
         subst (λ (v : ℕ). Vector a.m (column_on a.cstarts.now a.crows.now a.ccoeffs.now a.n v))
             (var_is s) p.0.1,
@@ -83,10 +83,10 @@ returns c P q r b =
     let s : tie.Start = search in
     let a = s.args in
     let t = state_in a.numbers.now a.doubles.now a.factor_numbers.now a.factor_coeffs.now a.at in
-    c.col-coeffs.ensures P a.at.factorings q r b ∙ ap (column_coeffs P t) (sym (var_is s))
+    c.col_coeffs.ensures P a.at.factorings q r b ∙ ap (column_coeffs P t) (sym (var_is s))
 
-pub column-spec : {M : Type 1} → statement M
-column-spec =
+pub column_spec : {M : Type 1} → statement M
+column_spec =
     tie.close
     (tie.spec
     add-var

@@ -10,37 +10,37 @@ use Rattle.state.specs.Packed.{state_at, basic_var_vals_at, prices_at, norms_at}
 use Rattle.step_reads.proofs.numbers_finite.Statement.{statement}
 use Rattle.step_reads.proofs.numbers_finite.Tie as tie
 
-sub-numbers-finite : tie.Need-overflow-sub-numbers-finite
+sub-numbers-finite : tie.Need-slice_bounds-numbers_finite-count
 sub-numbers-finite c = search rules
 
-part-numbers-finite-start : tie.Need-slice-bounds-numbers-finite-start
+part-numbers-finite-start : tie.Need-slice_bounds-numbers_finite-start
 part-numbers-finite-start c = search rules
 
-part-numbers-finite-end : tie.Need-slice-bounds-numbers-finite-end
+part-numbers-finite-end : tie.Need-slice_bounds-numbers_finite-end
 part-numbers-finite-end c = search rules
 
-sub-numbers-finite-2 : tie.Need-overflow-sub-numbers-finite-2
+sub-numbers-finite-2 : tie.Need-slice_bounds-numbers_finite-count-2
 sub-numbers-finite-2 c = search rules
 
-part-numbers-finite-start-2 : tie.Need-slice-bounds-numbers-finite-start-2
+part-numbers-finite-start-2 : tie.Need-slice_bounds-numbers_finite-start-2
 part-numbers-finite-start-2 c = search rules
 
-part-numbers-finite-end-2 : tie.Need-slice-bounds-numbers-finite-end-2
+part-numbers-finite-end-2 : tie.Need-slice_bounds-numbers_finite-end-2
 part-numbers-finite-end-2 c = search rules
 
-sub-numbers-finite-3 : tie.Need-overflow-sub-numbers-finite-3
+sub-numbers-finite-3 : tie.Need-slice_bounds-numbers_finite-count-3
 sub-numbers-finite-3 c = search rules
 
-part-numbers-finite-start-3 : tie.Need-slice-bounds-numbers-finite-start-3
+part-numbers-finite-start-3 : tie.Need-slice_bounds-numbers_finite-start-3
 part-numbers-finite-start-3 c = search rules
 
-part-numbers-finite-end-3 : tie.Need-slice-bounds-numbers-finite-end-3
+part-numbers-finite-end-3 : tie.Need-slice_bounds-numbers_finite-end-3
 part-numbers-finite-end-3 c = search rules
 
-numbers-finite-requires : tie.Need-numbers-finite-requires
+numbers-finite-requires : tie.Need-numbers_finite-requires
 numbers-finite-requires c κs = let s : tie.Start = search in let d = s.args.doubles.now in
-    let p = s.pre.0 in (
-      (listing_in basic_var_vals_at max_rows d (omega (arith, p.0)) p.1, s.pre.1),
+    let p = s.requires.0 in (
+      (listing_in basic_var_vals_at max_rows d (omega (arith, p.0)) p.1, s.requires.1),
       (
         listing_in prices_at max_columns d (omega (arith, p.0)) p.2,
         listing_in norms_at max_columns d (omega (arith, p.0)) p.2,
@@ -52,15 +52,15 @@ returns c P N m rm p =
     let s : tie.Start = search in
     let a = s.args in
     let x = a.x in
-    c.numbers-finite.ensures P m rm p
+    c.numbers_finite.ensures P m rm p
     ∙ sym
     (numbers_finite_part P P (state_at N a.doubles.now a.at) a.e
     (sv a.values.now m a.list.now a.count) x.value x.diff
-    (sv a.row-values.now rm a.row_list.now a.row_count) (sv_of a.helper.now p) x.row x.pivot
+    (sv a.row_values.now rm a.row_list.now a.row_count) (sv_of a.helper.now p) x.row x.pivot
     x.leaving)
 
-pub numbers-finite-spec : {M : Type 1} → statement M
-numbers-finite-spec =
+pub numbers_finite_spec : {M : Type 1} → statement M
+numbers_finite_spec =
     tie.close
     (tie.spec
     sub-numbers-finite

@@ -5,54 +5,54 @@ use Rattle.basis_solves.proofs.Laws.{untimed}
 use Rattle.step_reads.proofs.tau.Statement.{statement}
 use Rattle.step_reads.proofs.tau.Tie as tie
 
-sub-tau : tie.Need-overflow-sub-tau
+sub-tau : tie.Need-slice_bounds-tau-count
 sub-tau c = search rules
 
-part-tau-start : tie.Need-slice-bounds-tau-start
+part-tau-start : tie.Need-slice_bounds-tau-start
 part-tau-start c = search rules
 
-part-tau-end : tie.Need-slice-bounds-tau-end
+part-tau-end : tie.Need-slice_bounds-tau-end
 part-tau-end c = search rules
 
-sub-tau-2 : tie.Need-overflow-sub-tau-2
+sub-tau-2 : tie.Need-slice_bounds-tau-count-2
 sub-tau-2 c = search rules
 
-part-tau-start-2 : tie.Need-slice-bounds-tau-start-2
+part-tau-start-2 : tie.Need-slice_bounds-tau-start-2
 part-tau-start-2 c = search rules
 
-part-tau-end-2 : tie.Need-slice-bounds-tau-end-2
+part-tau-end-2 : tie.Need-slice_bounds-tau-end-2
 part-tau-end-2 c = search rules
 
-sub-tau-3 : tie.Need-overflow-sub-tau-3
+sub-tau-3 : tie.Need-slice_bounds-tau-count-3
 sub-tau-3 c = search rules
 
-part-tau-start-3 : tie.Need-slice-bounds-tau-start-3
+part-tau-start-3 : tie.Need-slice_bounds-tau-start-3
 part-tau-start-3 c = search rules
 
-part-tau-end-3 : tie.Need-slice-bounds-tau-end-3
+part-tau-end-3 : tie.Need-slice_bounds-tau-end-3
 part-tau-end-3 c = search rules
 
-sub-tau-4 : tie.Need-overflow-sub-tau-4
+sub-tau-4 : tie.Need-slice_bounds-tau-count-4
 sub-tau-4 c = search rules
 
-part-tau-start-4 : tie.Need-slice-bounds-tau-start-4
+part-tau-start-4 : tie.Need-slice_bounds-tau-start-4
 part-tau-start-4 c = search rules
 
-part-tau-end-4 : tie.Need-slice-bounds-tau-end-4
+part-tau-end-4 : tie.Need-slice_bounds-tau-end-4
 part-tau-end-4 c = search rules
 
 tau-requires : tie.Need-tau-requires
 tau-requires c κs =
     let s : tie.Start = search in
-    let p = s.pre.1 in
-    ((s.pre.0.1, s.pre.0.2, s.pre.0.3), (p.0, p.1, untimed p.2))
+    let p = s.requires.1 in
+    ((s.requires.0.1, s.requires.0.2, s.requires.0.3), (p.0, p.1, untimed p.2))
 
 returns : tie.Need-returns
 unfolding tau_of
 returns c P b e = let s : tie.Start = search in c.tau.ensures P s.args.at.factorings b e
 
-pub tau-spec : {M : Type 1} → statement M
-tau-spec =
+pub tau_spec : {M : Type 1} → statement M
+tau_spec =
     tie.close
     (tie.spec
     sub-tau

@@ -4,26 +4,26 @@ use Rattle.rules.specs.Pivot.{flags_at}
 use Rattle.step_store.proofs.flags_at.Statement.{statement}
 use Rattle.step_store.proofs.flags_at.Tie as tie
 
-var-min-requires : tie.Need-var-min-requires
+var-min-requires : tie.Need-var_min-requires
 var-min-requires c κs =
     let s : tie.Start = search in
-    (record { bounds_long = s.pre.lowers_long; row_inside = s.pre.row_inside }, s.pre.variable)
+    (record { bounds_long = s.requires.lowers_long; row_inside = s.requires.row_inside }, s.requires.variable)
 
-var-max-requires : tie.Need-var-max-requires
+var-max-requires : tie.Need-var_max-requires
 var-max-requires c κs =
     let s : tie.Start = search in
-    (record { bounds_long = s.pre.uppers_long; row_inside = s.pre.row_inside }, s.pre.variable)
+    (record { bounds_long = s.requires.uppers_long; row_inside = s.requires.row_inside }, s.requires.variable)
 
-pack-flags-requires : tie.Need-pack-flags-requires
+pack-flags-requires : tie.Need-pack_flags-requires
 pack-flags-requires c κs = tt
 
 returns : tie.Need-returns
 unfolding flags_at var_min var_max
 returns c =
-    let a : tie.After-var-min = search in
-    let b : tie.After-var-max = search in
-    let d : tie.After-pack-flags = search in
-    rw (← a.var-min.ensures, ← b.var-max.ensures) d.pack-flags.ensures
+    let a : tie.After-var_min = search in
+    let b : tie.After-var_max = search in
+    let d : tie.After-pack_flags = search in
+    rw (← a.var_min.ensures, ← b.var_max.ensures) d.pack_flags.ensures
 
-pub flags-at-spec : {M : Type 1} → statement M
-flags-at-spec = tie.close (tie.spec var-min-requires var-max-requires pack-flags-requires returns)
+pub flags_at_spec : {M : Type 1} → statement M
+flags_at_spec = tie.close (tie.spec var-min-requires var-max-requires pack-flags-requires returns)

@@ -12,40 +12,40 @@ use Rattle.step_store.proofs.Laws.{emptied_is}
 use Rattle.step_store.proofs.store_bare.Statement.{statement}
 use Rattle.step_store.proofs.store_bare.Tie as tie
 
-abbrev entry : tie.After-store-swap → tie.Start
+abbrev entry : tie.After-store_swap-t → tie.Start
 entry d = search
 
-store-swap-requires : tie.Need-store-swap-requires
-store-swap-requires c κs = let s : tie.Start = search in (s.pre.0, (s.pre.1.0.0, s.pre.1.1))
+store-swap-requires : tie.Need-store_swap-t-requires
+store-swap-requires c κs = let s : tie.Start = search in (s.requires.0, (s.requires.1.0.0, s.requires.1.1))
 
-slice-write-numbers : tie.Need-slice-write-numbers
+slice-write-numbers : tie.Need-bounds-numbers-832
 slice-write-numbers c =
-    let d : tie.After-store-swap = search in
-    omega (arith, d.store_swap.kept.0, (entry d).pre.0.sized)
+    let d : tie.After-store_swap-t = search in
+    omega (arith, d.store_swap-t.auto.numbers, (entry d).requires.0.sized)
 
-add-factorings : tie.Need-overflow-add-factorings
-add-factorings c = let s : tie.Start = search in omega (arith, s.pre.1.0.1)
+add-factorings : tie.Need-overflow_add-factorings
+add-factorings c = let s : tie.Start = search in omega (arith, s.requires.1.0.1)
 
-same_length : tie.Need-same-length
+same_length : tie.Need-shape_of-numbers
 same_length c = search rules
 
-same-length-2 : tie.Need-same-length-2
+same-length-2 : tie.Need-shape_of-doubles
 same-length-2 c = search rules
 
 returns : tie.Need-returns
 returns c m rm p =
-    let d : tie.After-store-swap = search in
+    let d : tie.After-store_swap-t = search in
     let s = entry d in
     let a = s.args in
-    let N = d.store_swap.last.0 in
-    let D = d.store_swap.last.1.0 in
+    let N = d.store_swap-t.new.numbers in
+    let D = d.store_swap-t.new.doubles in
     emptied_is (bounded a.n a.lowers.now a.uppers.now a.ops.now a.kept.now)
     (state_at a.numbers.now a.doubles.now a.at) a.e (sv a.values.now m a.list.now a.count)
-    (sv a.row-values.now rm a.row_list.now a.row_count) (sv_of a.helper.now p) a.x
-    (d.store_swap.ensures m rm p)
+    (sv a.row_values.now rm a.row_list.now a.row_count) (sv_of a.helper.now p) a.x
+    (d.store_swap-t.ensures m rm p)
     (in_eta_starts (as_lent N D) (written eta_starts_at (eta_columns + 1) N 0 0 (omega arith))).is
 
-pub store-bare-spec : {M : Type 1} → statement M
-store-bare-spec =
+pub store_bare_spec : {M : Type 1} → statement M
+store_bare_spec =
     tie.close
     (tie.spec store-swap-requires slice-write-numbers add-factorings same_length same-length-2 returns)

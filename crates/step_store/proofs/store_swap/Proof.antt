@@ -11,24 +11,24 @@ use Rattle.step_store.proofs.store_swap.Statement.{statement}
 use Rattle.step_store.proofs.store_swap.Tie as tie
 
 -- where the first half was stored, from where the second was, and the entry
-abbrev first : tie.After-store-basis → tie.After-store-numbers
+abbrev first : tie.After-store_basis → tie.After-store_numbers
 first f = search
 
-abbrev entry : tie.After-store-numbers → tie.Start
+abbrev entry : tie.After-store_numbers → tie.Start
 entry d = search
 
-store-numbers-requires : tie.Need-store-numbers-requires
+store-numbers-requires : tie.Need-store_numbers-requires
 store-numbers-requires c κs = search rules
 
-store-basis-requires : tie.Need-store-basis-requires
+store-basis-requires : tie.Need-store_basis-requires
 store-basis-requires c κs =
     let s : tie.Start = search in
-    let d : tie.After-store-numbers = search in
-    let w = s.pre.0 in
+    let d : tie.After-store_numbers = search in
+    let w = s.requires.0 in
     record {
       sized = record {
         numbers_long = w.sized.numbers_long;
-        doubles_long = d.store-numbers.kept.0 ∙ w.sized.doubles_long;
+        doubles_long = d.store_numbers.auto.doubles ∙ w.sized.doubles_long;
       };
       few = w.few;
       row_inside = w.row_inside;
@@ -38,33 +38,33 @@ store-basis-requires c κs =
       leaves_bounds = w.leaves_bounds;
     }
 
-add-taken : tie.Need-overflow-add-taken
-add-taken c = let s : tie.Start = search in omega (arith, s.pre.1.0)
+add-taken : tie.Need-overflow_add-taken
+add-taken c = let s : tie.Start = search in omega (arith, s.requires.1.0)
 
-new-objective-requires : tie.Need-new-objective-requires
+new-objective-requires : tie.Need-new_objective-requires
 new-objective-requires c κs = search rules
 
-same_length : tie.Need-same-length
+same_length : tie.Need-shape_of-numbers
 same_length c = search rules
 
-same-length-2 : tie.Need-same-length-2
+same-length-2 : tie.Need-shape_of-doubles
 same-length-2 c = search rules
 
 returns : tie.Need-returns
 unfolding new_objective
 returns c m rm p =
-    let f : tie.After-store-basis = search in
+    let f : tie.After-store_basis = search in
     let d = first f in
     let s = entry d in
-    let o : tie.After-new-objective = search in
+    let o : tie.After-new_objective = search in
     let a = s.args in
     swap_is (bounded a.n a.lowers.now a.uppers.now a.ops.now a.kept.now)
     (state_at a.numbers.now a.doubles.now a.at) a.e (sv a.values.now m a.list.now a.count)
-    (sv a.row-values.now rm a.row_list.now a.row_count) (sv_of a.helper.now p) a.x
-    (d.store-numbers.ensures a.numbers.now m rm p) f.store-basis.ensures o.new-objective.ensures
+    (sv a.row_values.now rm a.row_list.now a.row_count) (sv_of a.helper.now p) a.x
+    (d.store_numbers.ensures a.numbers.now m rm p) f.store_basis.ensures o.new_objective.ensures
 
-pub store-swap-spec : {M : Type 1} → statement M
-store-swap-spec =
+pub store_swap_spec : {M : Type 1} → statement M
+store_swap_spec =
     tie.close
     (tie.spec
     store-numbers-requires

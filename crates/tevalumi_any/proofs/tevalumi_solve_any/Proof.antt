@@ -20,38 +20,38 @@ hands_out a v N D F G e f =
     ap (λ (n : TevalumiAnyAnswer). faced n v N D F G) e ∙ ap (λ (h : HandedAny). faced_by h.called h.past) f
 
 -- where the call left off
-abbrev any_at : tie.After-any-answer → tie.After-solve-any
+abbrev any_at : tie.After-any_answer → tie.After-solve_any-a
 any_at c = search
 
-solve-any-requires : tie.Need-solve-any-requires
+solve-any-requires : tie.Need-solve_any-a-requires
 solve-any-requires c κs = search rules
 
-any-answer-requires : tie.Need-any-answer-requires
+any-answer-requires : tie.Need-any_answer-requires
 any-answer-requires c κs = search rules
 
-same_length : tie.Need-same-length
-same_length c = (any_at c).solve-any.auto.1.1.1.1.1.1.1.1.1.1.1.1.1.0
+same_length : tie.Need-shape_of-values
+same_length c = (any_at c).solve_any-a.auto.values
 
-same-length-2 : tie.Need-same-length-2
-same-length-2 c = (any_at c).solve-any.auto.1.1.1.1.1.1.1.1.1.1.1.1.1.1.0
+same-length-2 : tie.Need-shape_of-numbers
+same-length-2 c = (any_at c).solve_any-a.auto.numbers
 
-same-length-3 : tie.Need-same-length-3
-same-length-3 c = (any_at c).solve-any.auto.1.1.1.1.1.1.1.1.1.1.1.1.1.1.1.0
+same-length-3 : tie.Need-shape_of-doubles
+same-length-3 c = (any_at c).solve_any-a.auto.doubles
 
-same-length-4 : tie.Need-same-length-4
-same-length-4 c = (any_at c).solve-any.auto.1.1.1.1.1.1.1.1.1.1.1.1.1.1.1.1.0
+same-length-4 : tie.Need-shape_of-factor_numbers
+same-length-4 c = (any_at c).solve_any-a.auto.factor_numbers
 
-same-length-5 : tie.Need-same-length-5
-same-length-5 c = (any_at c).solve-any.auto.1.1.1.1.1.1.1.1.1.1.1.1.1.1.1.1.1.0
+same-length-5 : tie.Need-shape_of-factor_coeffs
+same-length-5 c = (any_at c).solve_any-a.auto.factor_coeffs
 
 returns : tie.Need-returns
 returns c =
-    let x = (any_at c).solve-any.new.1.1.1.1.1.1.1.1.1.1.1.1.1 in
-    hands_out (any_at c).solve-any.result x.0 x.1.0 x.1.1.0 x.1.1.1.0 x.1.1.1.1.0
-    c.any-answer.ensures (any_at c).solve-any.ensures
+    let x = (any_at c).solve_any-a.new in
+    hands_out (any_at c).solve_any-a.result x.values x.numbers x.doubles x.factor_numbers x.factor_coeffs
+    c.any_answer.ensures (any_at c).solve_any-a.ensures
 
-pub tevalumi-solve-any-spec : {M : Type 1} → statement M
-tevalumi-solve-any-spec =
+pub tevalumi_solve_any_spec : {M : Type 1} → statement M
+tevalumi_solve_any_spec =
     tie.close
     (tie.spec
     solve-any-requires

@@ -5,18 +5,18 @@ use Rattle.file_face.specs.Numbers.{written_numbers}
 use Rattle.tevalumi_files.proofs.tevalumi_write_plan.Statement.{statement}
 use Rattle.tevalumi_files.proofs.tevalumi_write_plan.Tie as tie
 
-write-plan-requires : tie.Need-write-plan-requires
+write-plan-requires : tie.Need-write_plan-w-requires
 write-plan-requires c κs = search rules
 
-write-answer-requires : tie.Need-write-answer-requires
+write-answer-requires : tie.Need-write_answer-requires
 write-answer-requires c κs = search rules
 
-same_length : tie.Need-same-length
+same_length : tie.Need-shape_of-file
 same_length c = search rules
 
 returns : tie.Need-returns
-returns c = record { answers = c.write-answer.ensures ∙ ap written_numbers c.before.before.before.write-plan.ensures.answers; left = c.before.before.before.write-plan.ensures.left }
+returns c = record { answers = c.write_answer.ensures ∙ ap written_numbers c.write_plan-w.ensures.answers; left = c.write_plan-w.ensures.left }
 
-pub tevalumi-write-plan-spec : {M : Type 1} → statement M
-tevalumi-write-plan-spec =
+pub tevalumi_write_plan_spec : {M : Type 1} → statement M
+tevalumi_write_plan_spec =
     tie.close (tie.spec write-plan-requires write-answer-requires same_length returns)

@@ -17,38 +17,38 @@ hands_out : {n : TevalumiNight} (r : NightAnswer) {a : Arrays} {w : List ℤ} {h
 hands_out r {a} {w} e f = ap (λ (n : TevalumiNight). faced n a w) e ∙ ap faced_by f
 
 -- where the night left off
-abbrev night-at : tie.After-night-answer → tie.After-night
+abbrev night-at : tie.After-night_answer → tie.After-night-a
 night-at c = search
 
-night-requires : tie.Need-night-requires
+night-requires : tie.Need-night-a-requires
 night-requires c κs = search rules
 
-night-answer-requires : tie.Need-night-answer-requires
+night-answer-requires : tie.Need-night_answer-requires
 night-answer-requires c κs = search rules
 
-same_length : tie.Need-same-length
-same_length c = (night-at c).night.auto.1.1.1.1.1.1.1.1.1.1.1.1.1.0
+same_length : tie.Need-shape_of-values
+same_length c = (night-at c).night-a.auto.values
 
-same-length-2 : tie.Need-same-length-2
-same-length-2 c = (night-at c).night.auto.1.1.1.1.1.1.1.1.1.1.1.1.1.1.0
+same-length-2 : tie.Need-shape_of-numbers
+same-length-2 c = (night-at c).night-a.auto.numbers
 
-same-length-3 : tie.Need-same-length-3
-same-length-3 c = (night-at c).night.auto.1.1.1.1.1.1.1.1.1.1.1.1.1.1.1.0
+same-length-3 : tie.Need-shape_of-doubles
+same-length-3 c = (night-at c).night-a.auto.doubles
 
-same-length-4 : tie.Need-same-length-4
-same-length-4 c = (night-at c).night.auto.1.1.1.1.1.1.1.1.1.1.1.1.1.1.1.1.0
+same-length-4 : tie.Need-shape_of-factor_numbers
+same-length-4 c = (night-at c).night-a.auto.factor_numbers
 
-same-length-5 : tie.Need-same-length-5
-same-length-5 c = (night-at c).night.auto.1.1.1.1.1.1.1.1.1.1.1.1.1.1.1.1.1.0
+same-length-5 : tie.Need-shape_of-factor_coeffs
+same-length-5 c = (night-at c).night-a.auto.factor_coeffs
 
-same-length-6 : tie.Need-same-length-6
-same-length-6 c = (night-at c).night.auto.1.1.1.1.1.1.1.1.1.1.1.1.1.1.1.1.1.1.0
+same-length-6 : tie.Need-shape_of-whole
+same-length-6 c = (night-at c).night-a.auto.whole
 
 returns : tie.Need-returns
-returns c = hands_out (night-at c).night.result c.night-answer.ensures (night-at c).night.ensures
+returns c = hands_out (night-at c).night-a.result c.night_answer.ensures (night-at c).night-a.ensures
 
-pub tevalumi-night-spec : {M : Type 1} → statement M
-tevalumi-night-spec =
+pub tevalumi_night_spec : {M : Type 1} → statement M
+tevalumi_night_spec =
     tie.close
     (tie.spec
     night-requires

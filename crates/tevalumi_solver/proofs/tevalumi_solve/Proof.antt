@@ -16,38 +16,38 @@ hands_out : {n : TevalumiAnswer} (a : Answer) (v : List Float) (N : List ℕ) (D
 hands_out a v N D F G e f = ap (λ (n : TevalumiAnswer). faced n v N D F G) e ∙ ap faced_by f
 
 -- where the solve left off
-abbrev solve-at : tie.After-solve-answer → tie.After-solve
+abbrev solve-at : tie.After-solve_answer → tie.After-solve-a
 solve-at c = search
 
-solve-requires : tie.Need-solve-requires
+solve-requires : tie.Need-solve-a-requires
 solve-requires c κs = search rules
 
-solve-answer-requires : tie.Need-solve-answer-requires
+solve-answer-requires : tie.Need-solve_answer-requires
 solve-answer-requires c κs = search rules
 
-same_length : tie.Need-same-length
-same_length c = (solve-at c).solve.auto.1.1.1.1.1.1.1.1.1.1.1.1.1.0
+same_length : tie.Need-shape_of-values
+same_length c = (solve-at c).solve-a.auto.values
 
-same-length-2 : tie.Need-same-length-2
-same-length-2 c = (solve-at c).solve.auto.1.1.1.1.1.1.1.1.1.1.1.1.1.1.0
+same-length-2 : tie.Need-shape_of-numbers
+same-length-2 c = (solve-at c).solve-a.auto.numbers
 
-same-length-3 : tie.Need-same-length-3
-same-length-3 c = (solve-at c).solve.auto.1.1.1.1.1.1.1.1.1.1.1.1.1.1.1.0
+same-length-3 : tie.Need-shape_of-doubles
+same-length-3 c = (solve-at c).solve-a.auto.doubles
 
-same-length-4 : tie.Need-same-length-4
-same-length-4 c = (solve-at c).solve.auto.1.1.1.1.1.1.1.1.1.1.1.1.1.1.1.1.0
+same-length-4 : tie.Need-shape_of-factor_numbers
+same-length-4 c = (solve-at c).solve-a.auto.factor_numbers
 
-same-length-5 : tie.Need-same-length-5
-same-length-5 c = (solve-at c).solve.auto.1.1.1.1.1.1.1.1.1.1.1.1.1.1.1.1.1.0
+same-length-5 : tie.Need-shape_of-factor_coeffs
+same-length-5 c = (solve-at c).solve-a.auto.factor_coeffs
 
 returns : tie.Need-returns
 returns c =
-    let x = (solve-at c).solve.new.1.1.1.1.1.1.1.1.1.1.1.1.1 in
-    hands_out (solve-at c).solve.result x.0 x.1.0 x.1.1.0 x.1.1.1.0 x.1.1.1.1.0
-    c.solve-answer.ensures (solve-at c).solve.ensures
+    let x = (solve-at c).solve-a.new in
+    hands_out (solve-at c).solve-a.result x.values x.numbers x.doubles x.factor_numbers x.factor_coeffs
+    c.solve_answer.ensures (solve-at c).solve-a.ensures
 
-pub tevalumi-solve-spec : {M : Type 1} → statement M
-tevalumi-solve-spec =
+pub tevalumi_solve_spec : {M : Type 1} → statement M
+tevalumi_solve_spec =
     tie.close
     (tie.spec
     solve-requires

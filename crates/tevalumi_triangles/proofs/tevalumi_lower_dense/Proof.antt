@@ -3,20 +3,20 @@ use borrow.Author.Rules.{rules}
 use Rattle.tevalumi_triangles.proofs.tevalumi_lower_dense.Statement.{statement}
 use Rattle.tevalumi_triangles.proofs.tevalumi_lower_dense.Tie as tie
 
-tri-solve-dense-requires : tie.Need-tri-solve-dense-requires
+tri-solve-dense-requires : tie.Need-tri_solve_dense-a-requires
 tri-solve-dense-requires c κs = search rules
 
-tri-answer-requires : tie.Need-tri-answer-requires
+tri-answer-requires : tie.Need-tri_answer-requires
 tri-answer-requires c κs = search rules
 
-same_length : tie.Need-same-length
+same_length : tie.Need-shape_of-values
 same_length c = search rules
 
 returns : tie.Need-returns
 returns c =
-    let s : tie.After-tri-solve-dense = search in
-    rw c.tri-answer.ensures s.tri-solve-dense.ensures
+    let s : tie.After-tri_solve_dense-a = search in
+    rw c.tri_answer.ensures s.tri_solve_dense-a.ensures
 
-pub tevalumi-lower-dense-spec : {M : Type 1} → statement M
-tevalumi-lower-dense-spec =
+pub tevalumi_lower_dense_spec : {M : Type 1} → statement M
+tevalumi_lower_dense_spec =
     tie.close (tie.spec tri-solve-dense-requires tri-answer-requires same_length returns)

@@ -3,20 +3,20 @@ use borrow.Author.Rules.{rules}
 use Rattle.tevalumi_triangles.proofs.tevalumi_solve_dense.Statement.{statement}
 use Rattle.tevalumi_triangles.proofs.tevalumi_solve_dense.Tie as tie
 
-solve-dense-requires : tie.Need-solve-dense-requires
+solve-dense-requires : tie.Need-solve_dense-a-requires
 solve-dense-requires c κs = search rules
 
-tri-answer-requires : tie.Need-tri-answer-requires
+tri-answer-requires : tie.Need-tri_answer-requires
 tri-answer-requires c κs = search rules
 
-same_length : tie.Need-same-length
+same_length : tie.Need-shape_of-values
 same_length c = search rules
 
 returns : tie.Need-returns
 returns c =
-    let s : tie.After-solve-dense = search in
-    rw c.tri-answer.ensures s.solve-dense.ensures
+    let s : tie.After-solve_dense-a = search in
+    rw c.tri_answer.ensures s.solve_dense-a.ensures
 
-pub tevalumi-solve-dense-spec : {M : Type 1} → statement M
-tevalumi-solve-dense-spec =
+pub tevalumi_solve_dense_spec : {M : Type 1} → statement M
+tevalumi_solve_dense_spec =
     tie.close (tie.spec solve-dense-requires tri-answer-requires same_length returns)

@@ -5,11 +5,11 @@ use borrow.Author.Rules.{rules}
 use Rattle.whole_face.proofs.not_whole.Statement.{statement}
 use Rattle.whole_face.proofs.not_whole.Tie as tie
 
-whole-answer-requires : tie.Need-whole-answer-requires
+whole-answer-requires : tie.Need-whole_answer-answer-requires
 whole-answer-requires c κs = search rules
 
 returns : tie.Need-returns
-returns c = ap (proposal_face 0 _ _) c.whole-answer.ensures
+returns c = ap (proposal_face 0 _ _) c.whole_answer-answer.ensures
 
-pub not-whole-spec : {M : Type 1} → statement M
-not-whole-spec = tie.close (tie.spec whole-answer-requires returns)
+pub not_whole_spec : {M : Type 1} → statement M
+not_whole_spec = tie.close (tie.spec whole-answer-requires returns)

@@ -5,11 +5,11 @@ use borrow.Author.Rules.{rules}
 use Rattle.whole_face.proofs.told.Statement.{statement}
 use Rattle.whole_face.proofs.told.Tie as tie
 
-whole-face-requires : tie.Need-whole-face-requires
+whole-face-requires : tie.Need-whole_face-answer-requires
 whole-face-requires c κs = search rules
 
 returns : tie.Need-returns
-returns c = ap (proposal_face _ _ 0) c.whole-face.ensures
+returns c = ap (proposal_face _ _ 0) c.whole_face-answer.ensures
 
-pub told-spec : {M : Type 1} → statement M
-told-spec = tie.close (tie.spec whole-face-requires returns)
+pub told_spec : {M : Type 1} → statement M
+told_spec = tie.close (tie.spec whole-face-requires returns)

@@ -8,41 +8,41 @@ use borrow.Author.Rules.{rules}
 use Rattle.whole_face.proofs.whole_answer.Statement.{statement}
 use Rattle.whole_face.proofs.whole_answer.Tie as tie
 
-enum-known-r : tie.Need-enum-known-r
+enum-known-r : tie.Need-enum_known-r
 enum-known-r c = search rules
 
-whole-face-requires : tie.Need-whole-face-requires
+whole-face-requires : tie.Need-whole_face-requires
 whole-face-requires c κs = search rules
 
-enum-known-r-2 : tie.Need-enum-known-r-2
+enum-known-r-2 : tie.Need-enum_known-r-in-Beyond-1
 enum-known-r-2 c = search rules
 
-whole-face-requires-2 : tie.Need-whole-face-requires-2
+whole-face-requires-2 : tie.Need-whole_face-requires-in-Beyond
 whole-face-requires-2 c κs = search rules
 
-enum_told : tie.Need-enum-told
+enum_told : tie.Need-enum_told-1
 enum_told c = search rules
 
-whole-face-requires-3 : tie.Need-whole-face-requires-3
+whole-face-requires-3 : tie.Need-whole_face-requires-in-NotANumber
 whole-face-requires-3 c κs = search rules
 
-returns : tie.Need-returns
+returns : tie.Need-returns-in-Whole
 unfolding whole_numbers
 returns c =
-    let k : tie.After-known-told = search in
-    rw k.before.r.given.1
-    (c.whole-face.ensures ∙ ap (λ w. whole_face 0 w f0) (to_z-of_z w64 k.before.r.given.0.0 (record { sfits = k.known-told.given.0.1 })))
+    let k : tie.In-Whole = search in
+    rw k.in-Whole.is
+    (c.whole_face.ensures ∙ ap (λ w. whole_face 0 w f0) (to_z-of_z w64 k.in-Whole.w (record { sfits = k.in-Whole.known_told-1-own.given.0.1 })))
 
-returns-2 : tie.Need-returns-2
+returns-2 : tie.Need-returns-in-Beyond
 unfolding whole_numbers
-returns-2 c = let k : tie.After-r2 = search in rw k.r2.given.1 c.whole-face2.ensures
+returns-2 c = let k : tie.In-Beyond = search in rw k.in-Beyond.is c.whole_face-in-Beyond.ensures
 
-returns-3 : tie.Need-returns-3
+returns-3 : tie.Need-returns-in-NotANumber
 unfolding whole_numbers
-returns-3 c = let k : tie.After-enum-told = search in rw k.enum_told.given.1 c.whole-face3.ensures
+returns-3 c = let k : tie.In-NotANumber = search in rw k.in-NotANumber.is c.whole_face-in-NotANumber.ensures
 
-pub whole-answer-spec : {M : Type 1} → statement M
-whole-answer-spec =
+pub whole_answer_spec : {M : Type 1} → statement M
+whole_answer_spec =
     tie.close
     (tie.spec
     enum-known-r

@@ -13,64 +13,64 @@ use borrow.Author.Rules.{rules}
 use Rattle.whole_multipliers.proofs.first_multiplier.Statement.{statement}
 use Rattle.whole_multipliers.proofs.first_multiplier.Tie as tie
 
-abbrev invariant-loop : tie.invariant-loop
+abbrev invariant-loop : tie.invariant-loop-i
 invariant-loop columns rows starts ops numbers doubles i₀ i =
     (i ≤ rows)
     × Seek (λ k. not (is_whole (multiplier_at (rows_of columns rows starts ops) (memory_in [] numbers doubles [] []) k))) rows
     (first_multiplier (rows_of columns rows starts ops) (memory_in [] numbers doubles [] [])) i
 
-abbrev decreases-loop : tie.decreases-loop
+abbrev decreases-loop : tie.decreases-loop-i
 decreases-loop columns rows starts ops numbers doubles i₀ i = rows - i
 
 -- this turn's test
-module _ (w : tie.After-is-whole invariant-loop decreases-loop) where
-  abbrev head : tie.In-loop invariant-loop decreases-loop
+module _ (w : tie.After-is_whole invariant-loop decreases-loop) where
+  abbrev head : tie.In-loop-i invariant-loop decreases-loop
   head = search
 
   abbrev start : tie.Start invariant-loop decreases-loop
   start = search
 
-  abbrev asked : tie.After-row-multiplier invariant-loop decreases-loop
+  abbrev asked : tie.After-row_multiplier-r invariant-loop decreases-loop
   asked = search
 
   abbrev mine : Rounded
   mine =
       let a = start.args in
       multiplier_at (rows_of a.columns a.rows a.starts.now a.ops.now)
-      (memory_in [] a.numbers.now a.doubles.now [] []) head.before.loop.i
+      (memory_in [] a.numbers.now a.doubles.now [] []) head.loop-i.i
 
   tested : is_whole mine ≡ w.is_whole.result
-  tested = sym (w.is_whole.ensures ∙ ap is_whole asked.row-multiplier.ensures)
+  tested = sym (w.is_whole.ensures ∙ ap is_whole asked.row_multiplier-r.ensures)
 
-loop-holds : tie.Need-loop-init invariant-loop decreases-loop
+loop-holds : tie.Need-loop-i-init invariant-loop decreases-loop
 unfolding first_multiplier
 loop-holds c = (omega arith, seeks _ _)
 
-row-multiplier-requires : tie.Need-row-multiplier-requires invariant-loop decreases-loop
+row-multiplier-requires : tie.Need-row_multiplier-r-requires invariant-loop decreases-loop
 row-multiplier-requires c κs = search rules
 
-is-whole-requires : tie.Need-is-whole-requires invariant-loop decreases-loop
+is-whole-requires : tie.Need-is_whole-requires invariant-loop decreases-loop
 is-whole-requires c κs = search rules
 
-returns : tie.Need-returns invariant-loop decreases-loop
-returns c = let t : tie.In-loop invariant-loop decreases-loop = search in
-    hit t.before.loop.inv.1 t.loop-test.taken (ap not (tested c.before) ∙ c.if1.true)
+returns : tie.Need-returns-then-not-is_whole invariant-loop decreases-loop
+returns c = let t : tie.In-loop-i invariant-loop decreases-loop = search in
+    hit t.loop-i.invariant.1 t.loop-i-test.true (ap not (tested c.before) ∙ c.if-not-is_whole.true-raw)
 
-add-i : tie.Need-overflow-add-i invariant-loop decreases-loop
+add-i : tie.Need-overflow_add-i invariant-loop decreases-loop
 add-i c = search rules
 
-loop-less : tie.Need-loop-smaller invariant-loop decreases-loop
+loop-less : tie.Need-loop-i-smaller invariant-loop decreases-loop
 loop-less c = omega arith
 
-loop-again : tie.Need-loop-preserved invariant-loop decreases-loop
-loop-again c = let t : tie.In-loop invariant-loop decreases-loop = search in
-    (omega arith, passed t.before.loop.inv.1 t.loop-test.taken (ap not (tested c.before) ∙ c.if1.false))
+loop-again : tie.Need-loop-i-preserved invariant-loop decreases-loop
+loop-again c = let t : tie.In-loop-i invariant-loop decreases-loop = search in
+    (omega arith, passed t.loop-i.invariant.1 t.loop-i-test.true (ap not (tested c.before) ∙ c.if-not-is_whole.false-raw))
 
-returns-2 : tie.Need-returns-2 invariant-loop decreases-loop
-returns-2 c = missed c.before.loop.invariant.1 (omega arith)
+returns-2 : tie.Need-returns invariant-loop decreases-loop
+returns-2 c = missed c.loop-i.invariant.1 (omega arith)
 
-pub first-multiplier-spec : {M : Type 1} → statement M
-first-multiplier-spec =
+pub first_multiplier_spec : {M : Type 1} → statement M
+first_multiplier_spec =
     tie.close
     (tie.spec
     invariant-loop

@@ -6,10 +6,10 @@ use borrow.Author.Rules.{rules}
 use Rattle.whole_multipliers.proofs.row_multiplier.Statement.{statement}
 use Rattle.whole_multipliers.proofs.row_multiplier.Tie as tie
 
-slack-price-requires : tie.Need-slack-price-requires
+slack-price-requires : tie.Need-slack_price-price-requires
 slack-price-requires c κs = search rules
 
-shared-slice-read-multiplier : tie.Need-shared-slice-read-multiplier
+shared-slice-read-multiplier : tie.Need-bounds-ops-i
 shared-slice-read-multiplier c = search rules
 
 multiplier-requires : tie.Need-multiplier-requires
@@ -17,10 +17,10 @@ multiplier-requires c κs = search rules
 
 returns : tie.Need-returns
 unfolding multiplier_at
-returns c = let s : tie.After-slack-price = search in
-    c.multiplier.ensures ∙ ap (multiplier_of _) s.slack-price.ensures
+returns c = let s : tie.After-slack_price-price = search in
+    c.multiplier.ensures ∙ ap (multiplier_of _) s.slack_price-price.ensures
 
-pub row-multiplier-spec : {M : Type 1} → statement M
-row-multiplier-spec =
+pub row_multiplier_spec : {M : Type 1} → statement M
+row_multiplier_spec =
     tie.close
     (tie.spec slack-price-requires shared-slice-read-multiplier multiplier-requires returns)

@@ -13,61 +13,61 @@ use borrow.Author.Rules.{rules}
 use Rattle.whole_multipliers.proofs.write_multipliers.Statement.{statement}
 use Rattle.whole_multipliers.proofs.write_multipliers.Tie as tie
 
-abbrev invariant-loop : tie.invariant-loop
+abbrev invariant-loop : tie.invariant-loop-i
 invariant-loop columns rows starts ops numbers doubles mults₀ i₀ mults i =
     (i ≤ rows) × Filled
     (λ k. number_of (multiplier_at (rows_of columns rows starts ops) (memory_in [] numbers doubles [] []) k)) mults₀ i mults
 
-abbrev decreases-loop : tie.decreases-loop
+abbrev decreases-loop : tie.decreases-loop-i
 decreases-loop columns rows starts ops numbers doubles mults₀ i₀ mults i = rows - i
 
-abbrev start : tie.At-loop invariant-loop decreases-loop → tie.Start invariant-loop decreases-loop
+abbrev start : tie.At-loop-i invariant-loop decreases-loop → tie.Start invariant-loop decreases-loop
 start a = search
 
-long : (a : tie.At-loop invariant-loop decreases-loop) → length a.loop.mults ≡ length (start a).args.mults.now
-long a = filled_length a.loop.invariant.1 (omega (arith, a.loop.invariant, (start a).requires.1))
+long : (a : tie.At-loop-i invariant-loop decreases-loop) → length a.loop-i.mults ≡ length (start a).args.mults.now
+long a = filled_length a.loop-i.invariant.1 (omega (arith, a.loop-i.invariant, (start a).requires.1))
 
-loop-holds : tie.Need-loop-init invariant-loop decreases-loop
+loop-holds : tie.Need-loop-i-init invariant-loop decreases-loop
 loop-holds c = (omega arith, filled_none)
 
-row-multiplier-requires : tie.Need-row-multiplier-requires invariant-loop decreases-loop
+row-multiplier-requires : tie.Need-row_multiplier-r-requires invariant-loop decreases-loop
 row-multiplier-requires c κs = search rules
 
-number-of-requires : tie.Need-number-of-requires invariant-loop decreases-loop
+number-of-requires : tie.Need-number_of-requires invariant-loop decreases-loop
 number-of-requires c κs = search rules
 
-mul-t12 : tie.Need-overflow-mul-t12 invariant-loop decreases-loop
+mul-t12 : tie.Need-offset_bounds-mults-i invariant-loop decreases-loop
 mul-t12 c = search rules
 
-slice-set-from-mults : tie.Need-slice-set-from-mults invariant-loop decreases-loop
-slice-set-from-mults c = let t : tie.In-loop invariant-loop decreases-loop = search in
-    omega (arith, t, long t.before, (start t.before).pre.1)
+slice-set-from-mults : tie.Need-bounds-mults-i invariant-loop decreases-loop
+slice-set-from-mults c = let t : tie.In-loop-i invariant-loop decreases-loop = search in
+    omega (arith, t, long t.before, (start t.before).requires.1)
 
-add-i : tie.Need-overflow-add-i invariant-loop decreases-loop
+add-i : tie.Need-overflow_add-i invariant-loop decreases-loop
 add-i c = search rules
 
-loop-less : tie.Need-loop-smaller invariant-loop decreases-loop
+loop-less : tie.Need-loop-i-smaller invariant-loop decreases-loop
 loop-less c = omega arith
 
-loop-again : tie.Need-loop-preserved invariant-loop decreases-loop
+loop-again : tie.Need-loop-i-preserved invariant-loop decreases-loop
 loop-again c =
-    let t : tie.In-loop invariant-loop decreases-loop = search in
-    let r : tie.After-row-multiplier invariant-loop decreases-loop = search in
-    let n : tie.After-number-of invariant-loop decreases-loop = search in (
+    let t : tie.In-loop-i invariant-loop decreases-loop = search in
+    let r : tie.After-row_multiplier-r invariant-loop decreases-loop = search in
+    let n : tie.After-number_of invariant-loop decreases-loop = search in (
       omega arith,
-      filled_more t.before.loop.inv.1 (omega (arith, t, (start t.before).pre.1))
-          (result n.number_of_lem.result n.number_of_lem.ok ∙ n.number_of_lem.ensures ∙ ap number_of r.row-multiplier.ensures),
+      filled_more t.loop-i.invariant.1 (omega (arith, t, (start t.before).requires.1))
+          (result n.number_of.result n.number_of.type_inv ∙ n.number_of.ensures ∙ ap number_of r.row_multiplier-r.ensures),
     )
 
-same_length : tie.Need-same-length invariant-loop decreases-loop
+same_length : tie.Need-shape_of-mults invariant-loop decreases-loop
 same_length c = long c.before
 
 returns : tie.Need-returns invariant-loop decreases-loop
 unfolding multipliers
-returns c = filled_done _ (omega arith) (omega arith) c.before.loop.invariant.1
+returns c = filled_done _ (omega arith) (omega arith) c.loop-i.invariant.1
 
-pub write-multipliers-spec : {M : Type 1} → statement M
-write-multipliers-spec =
+pub write_multipliers_spec : {M : Type 1} → statement M
+write_multipliers_spec =
     tie.close
     (tie.spec
     invariant-loop

@@ -19,11 +19,11 @@ l s =
     lent_of a.columns a.rows a.starts.now a.ops.now a.values.now a.numbers.now a.doubles.now
     a.amounts.now a.mults.now
 
-abbrev start : tie.Else1 → tie.Start
+abbrev start : tie.Else-not-lent_fine → tie.Start
 start e = search
 
-fine : (e : tie.Else1) → lent_fine (l (start e)) ≡ true
-fine e = sym e.before.lent-fine.ensures ∙ (turned itself).0 e.if1.false
+fine : (e : tie.Else-not-lent_fine) → lent_fine (l (start e)) ≡ true
+fine e = sym e.lent_fine.ensures ∙ (turned itself).0 e.if-not-lent_fine.false-raw
 
 maps : (s : tie.Start)
     → maps_fine (l s).plan (memory (l s))
@@ -33,57 +33,57 @@ maps s =
     same_maps s.args.columns s.args.rows s.args.starts.now s.args.ops.now s.args.values.now
     s.args.numbers.now s.args.doubles.now
 
-lent-fine-requires : tie.Need-lent-fine-requires
+lent-fine-requires : tie.Need-lent_fine-requires
 lent-fine-requires c κs = search rules
 
-returns : tie.Need-returns
+returns : tie.Need-returns-then-not-lent_fine
 returns c = let s : tie.Start = search in
-    short (l s) (sym c.before.lent-fine.ensures ∙ (turned_true itself).0 c.if1.true)
+    short (l s) (sym c.lent_fine.ensures ∙ (turned_true itself).0 c.if-not-lent_fine.true-raw)
 
-add-if2 : tie.Need-overflow-add-if2
+add-if2 : tie.Need-overflow_add-t-12
 add-if2 c = search rules
 
-mul-if2 : tie.Need-overflow-mul-if2
+mul-if2 : tie.Need-offset_bounds-numbers
 mul-if2 c = search rules
 
-shared-slice-read-if2 : tie.Need-shared-slice-read-if2
-shared-slice-read-if2 c = let e : tie.Else1 = search in
+shared-slice-read-if2 : tie.Need-bounds-numbers
+shared-slice-read-if2 c = let e : tie.Else-not-lent_fine = search in
     omega (arith, (enough (l (start e)) (fine e)).long)
 
-returns-2 : tie.Need-returns-2
-returns-2 c = let e : tie.Else1 = search in
-    no_run (l (start e)) (fine e) c.if2.true
+returns-2 : tie.Need-returns-then-numbers-ne0
+returns-2 c = let e : tie.Else-not-lent_fine = search in
+    no_run (l (start e)) (fine e) c.if-numbers-ne0.true
 
-maps-fine-requires : tie.Need-maps-fine-requires
+maps-fine-requires : tie.Need-maps_fine-requires
 maps-fine-requires c κs =
-    let e : tie.Else1 = search in
+    let e : tie.Else-not-lent_fine = search in
     let g = (enough (l (start e)) (fine e)).long in
     (g.columns_fit, g.rows_fit, g.starts_long, g.numbers_long)
 
-returns-3 : tie.Need-returns-3
+returns-3 : tie.Need-returns-then-not-maps_fine
 returns-3 c =
-    let e : tie.Else1 = search in
-    let z : tie.Else2 = search in
-    broken (l (start e)) (fine e) z.if2.left
-    (maps (start e) ∙ sym c.before.maps-fine.ensures ∙ (turned_true itself).0 c.if3.true)
+    let e : tie.Else-not-lent_fine = search in
+    let z : tie.Else-numbers-ne0 = search in
+    broken (l (start e)) (fine e) z.if-numbers-ne0.false
+    (maps (start e) ∙ sym c.maps_fine.ensures ∙ (turned_true itself).0 c.if-not-maps_fine.true-raw)
 
-first-not-whole-requires : tie.Need-first-not-whole-requires
+first-not-whole-requires : tie.Need-first_not_whole-requires
 first-not-whole-requires c κs =
-    let e : tie.Else1 = search in
+    let e : tie.Else-not-lent_fine = search in
     let g = enough (l (start e)) (fine e) in
     (g.long, g.values_long)
 
-returns-4 : tie.Need-returns-4
+returns-4 : tie.Need-returns
 returns-4 c =
-    let e : tie.Else1 = search in
-    let z : tie.Else2 = search in
-    let y : tie.Else3 = search in
-    c.first-not-whole.ensures
-    ∙ judged (l (start e)) (fine e) z.if2.left
-    (maps (start e) ∙ sym y.before.maps-fine.ensures ∙ (turned itself).0 y.if3.left)
+    let e : tie.Else-not-lent_fine = search in
+    let z : tie.Else-numbers-ne0 = search in
+    let y : tie.Else-not-maps_fine = search in
+    c.first_not_whole.ensures
+    ∙ judged (l (start e)) (fine e) z.if-numbers-ne0.false
+    (maps (start e) ∙ sym y.maps_fine.ensures ∙ (turned itself).0 y.if-not-maps_fine.false-raw)
 
-pub answer-spec : {M : Type 1} → statement M
-answer-spec =
+pub answer_spec : {M : Type 1} → statement M
+answer_spec =
     tie.close
     (tie.spec
     lent-fine-requires

@@ -15,55 +15,55 @@ p s = rows_of s.args.columns s.args.rows s.args.starts.now s.args.ops.now
 abbrev m : tie.Start → Memory
 m s = memory_in s.args.values.now s.args.numbers.now s.args.doubles.now [] []
 
-first-amount-requires : tie.Need-first-amount-requires
+first-amount-requires : tie.Need-first_amount-j-requires
 first-amount-requires c κs = search rules
 
-mul-amount : tie.Need-overflow-mul-amount
+mul-amount : tie.Need-offset_bounds-values-j
 mul-amount c = search rules
 
-shared-slice-read-amount : tie.Need-shared-slice-read-amount
+shared-slice-read-amount : tie.Need-bounds-values-j
 shared-slice-read-amount c = search rules
 
 amount-requires : tie.Need-amount-requires
 amount-requires c κs = search rules
 
-returns : tie.Need-returns
+returns : tie.Need-returns-then-j-columns
 returns c =
     let s : tie.Start = search in
-    let f : tie.After-first-amount = search in
-    let t : tie.Then1 = search in
-    amount_is (p s) (m s) f.first-amount.ensures t.if1.taken c.amount.ensures
+    let f : tie.After-first_amount-j = search in
+    let t : tie.Then-j-columns = search in
+    amount_is (p s) (m s) f.first_amount-j.ensures t.if-j-columns.true c.amount.ensures
 
-first-multiplier-requires : tie.Need-first-multiplier-requires
+first-multiplier-requires : tie.Need-first_multiplier-i-requires
 first-multiplier-requires c κs = search rules
 
-row-multiplier-requires : tie.Need-row-multiplier-requires
+row-multiplier-requires : tie.Need-row_multiplier-requires
 row-multiplier-requires c κs = search rules
 
-returns-2 : tie.Need-returns-2
+returns-2 : tie.Need-returns-then-i-rows
 returns-2 c =
     let s : tie.Start = search in
-    let f : tie.After-first-amount = search in
-    let e : tie.Else1 = search in
-    let g : tie.After-first-multiplier = search in
-    let t : tie.Then2 = search in
-    multiplier_is (p s) (m s) f.first-amount.ensures e.if1.left
-    (g.first-multiplier.ensures ∙ sym (same_first (p s) s.args.values.now s.args.numbers.now s.args.doubles.now))
-    t.if2.taken
-    (c.row-multiplier.ensures ∙ sym (same_multiplier (p s) s.args.values.now s.args.numbers.now s.args.doubles.now _))
+    let f : tie.After-first_amount-j = search in
+    let e : tie.Else-j-columns = search in
+    let g : tie.After-first_multiplier-i = search in
+    let t : tie.Then-i-rows = search in
+    multiplier_is (p s) (m s) f.first_amount-j.ensures e.if-j-columns.false
+    (g.first_multiplier-i.ensures ∙ sym (same_first (p s) s.args.values.now s.args.numbers.now s.args.doubles.now))
+    t.if-i-rows.true
+    (c.row_multiplier.ensures ∙ sym (same_multiplier (p s) s.args.values.now s.args.numbers.now s.args.doubles.now _))
 
-returns-3 : tie.Need-returns-3
+returns-3 : tie.Need-returns
 returns-3 c =
     let s : tie.Start = search in
-    let f : tie.After-first-amount = search in
-    let e : tie.Else1 = search in
-    let g : tie.After-first-multiplier = search in
-    all_whole (p s) (m s) f.first-amount.ensures e.if1.left
-    (g.first-multiplier.ensures ∙ sym (same_first (p s) s.args.values.now s.args.numbers.now s.args.doubles.now))
-    c.if2.false
+    let f : tie.After-first_amount-j = search in
+    let e : tie.Else-j-columns = search in
+    let g : tie.After-first_multiplier-i = search in
+    all_whole (p s) (m s) f.first_amount-j.ensures e.if-j-columns.false
+    (g.first_multiplier-i.ensures ∙ sym (same_first (p s) s.args.values.now s.args.numbers.now s.args.doubles.now))
+    c.if-i-rows.false
 
-pub first-not-whole-spec : {M : Type 1} → statement M
-first-not-whole-spec =
+pub first_not_whole_spec : {M : Type 1} → statement M
+first_not_whole_spec =
     tie.close
     (tie.spec
     first-amount-requires

@@ -8,5 +8,5 @@ returns : tie.Need-returns
 unfolding lent_fine
 returns c = refl
 
-pub lent-fine-spec : {M : Type 1} → statement M
-lent-fine-spec = tie.close (tie.spec returns)
+pub lent_fine_spec : {M : Type 1} → statement M
+lent_fine_spec = tie.close (tie.spec returns)

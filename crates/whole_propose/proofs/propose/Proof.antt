@@ -15,59 +15,59 @@ l s =
     lent_of a.columns a.rows a.starts.now a.ops.now a.values.now a.numbers.now a.doubles.now
     a.amounts.now a.mults.now
 
-abbrev start : tie.Then1 → tie.Start
+abbrev start : tie.Then-is_proposed → tie.Start
 start t = search
 
-abbrev told : tie.Then1 → tie.After-answer
+abbrev told : tie.Then-is_proposed → tie.After-answer-a
 told t = search
 
-yes : (t : tie.Then1) → is_proposed (told t).answer.result ≡ true
-yes t = sym t.before.is_proposed.ensures ∙ t.if1.true
+yes : (t : tie.Then-is_proposed) → is_proposed (told t).answer-a.result ≡ true
+yes t = sym t.is_proposed.ensures ∙ t.if-is_proposed.true
 
-long : (t : tie.Then1) → Enough (l (start t))
-long t = enough (l (start t)) (proposed_fine (l (start t)) (sym (ap is_proposed (told t).answer.ensures) ∙ yes t))
+long : (t : tie.Then-is_proposed) → Enough (l (start t))
+long t = enough (l (start t)) (proposed_fine (l (start t)) (sym (ap is_proposed (told t).answer-a.ensures) ∙ yes t))
 
-answer-requires : tie.Need-answer-requires
+answer-requires : tie.Need-answer-a-requires
 answer-requires c κs = search rules
 
-is-proposed-requires : tie.Need-is-proposed-requires
+is-proposed-requires : tie.Need-is_proposed-requires
 is-proposed-requires c κs = search rules
 
-write-amounts-requires : tie.Need-write-amounts-requires
-write-amounts-requires c κs = let t : tie.Then1 = search in ((long t).values_long, (long t).amounts_long)
+write-amounts-requires : tie.Need-write_amounts-requires
+write-amounts-requires c κs = let t : tie.Then-is_proposed = search in ((long t).values_long, (long t).amounts_long)
 
-write-multipliers-requires : tie.Need-write-multipliers-requires
-write-multipliers-requires c κs = let t : tie.Then1 = search in ((long t).long, (long t).mults_long)
+write-multipliers-requires : tie.Need-write_multipliers-requires
+write-multipliers-requires c κs = let t : tie.Then-is_proposed = search in ((long t).long, (long t).mults_long)
 
-same_length : tie.Need-same-length
+same_length : tie.Need-shape_of-amounts-then-is_proposed
 same_length c = search rules
 
-same-length-2 : tie.Need-same-length-2
+same-length-2 : tie.Need-shape_of-mults-then-is_proposed
 same-length-2 c = search rules
 
-returns : tie.Need-returns
+returns : tie.Need-returns-then-is_proposed
 returns c =
-    let t : tie.Then1 = search in
+    let t : tie.Then-is_proposed = search in
     let s = start t in
-    let x : tie.After-write-amounts = search in
-    let y : tie.After-write-multipliers = search in
-    writes (l s) (told t).answer.ensures (yes t) x.write-amounts.ensures
-    (y.write-multipliers.ensures ∙ ap (λ z. over z s.args.mults.now) (sym (same_all (l s).plan s.args.values.now s.args.numbers.now s.args.doubles.now)))
+    let x : tie.After-write_amounts = search in
+    let y : tie.After-write_multipliers = search in
+    writes (l s) (told t).answer-a.ensures (yes t) x.write_amounts.ensures
+    (y.write_multipliers.ensures ∙ ap (λ z. over z s.args.mults.now) (sym (same_all (l s).plan s.args.values.now s.args.numbers.now s.args.doubles.now)))
 
-same-length-3 : tie.Need-same-length-3
+same-length-3 : tie.Need-shape_of-amounts-else-is_proposed
 same-length-3 c = search rules
 
-same-length-4 : tie.Need-same-length-4
+same-length-4 : tie.Need-shape_of-mults-else-is_proposed
 same-length-4 c = search rules
 
-returns-2 : tie.Need-returns-2
+returns-2 : tie.Need-returns-else-is_proposed
 returns-2 c =
     let s : tie.Start = search in
-    let a : tie.After-answer = search in
-    stays (l s) a.answer.ensures (sym c.before.is_proposed.ensures ∙ c.if1.false)
+    let a : tie.After-answer-a = search in
+    stays (l s) a.answer-a.ensures (sym c.is_proposed.ensures ∙ c.if-is_proposed.false)
 
-pub propose-spec : {M : Type 1} → statement M
-propose-spec =
+pub propose_spec : {M : Type 1} → statement M
+propose_spec =
     tie.close
     (tie.spec
     answer-requires

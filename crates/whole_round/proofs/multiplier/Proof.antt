@@ -7,22 +7,22 @@ use Rattle.whole_round.proofs.Product.{scaled_is}
 use Rattle.whole_round.proofs.multiplier.Statement.{statement}
 use Rattle.whole_round.proofs.multiplier.Tie as tie
 
-cast-round-even : tie.Need-overflow-cast-round-even
+cast-round-even : tie.Need-overflow_cast-round_even
 cast-round-even c = search rules
 
-round-even-requires : tie.Need-round-even-requires
+round-even-requires : tie.Need-round_even-r-requires
 round-even-requires c κs = search rules
 
-right-sign-requires : tie.Need-right-sign-requires
+right-sign-requires : tie.Need-right_sign-requires
 right-sign-requires c κs = search rules
 
 returns : tie.Need-returns
 unfolding of_bits neg multiplier_of
 returns c =
-    let e : tie.After-round-even = search in
+    let e : tie.After-round_even-r = search in
     let s : tie.Start = search in
-    c.right-sign.ensures
-    ∙ ap (right_sign s.args.op) (e.round-even.ensures ∙ scaled_is s.args.price (passes _ s.good.1.0.1))
+    c.right_sign.ensures
+    ∙ ap (right_sign s.args.op) (e.round_even-r.ensures ∙ scaled_is s.args.price (passes _ s.well_formed.1.0.1))
 
-pub multiplier-spec : {M : Type 1} → statement M
-multiplier-spec = tie.close (tie.spec cast-round-even round-even-requires right-sign-requires returns)
+pub multiplier_spec : {M : Type 1} → statement M
+multiplier_spec = tie.close (tie.spec cast-round-even round-even-requires right-sign-requires returns)

@@ -8,60 +8,60 @@ use Rattle.whole_round.proofs.Answers.{Found}
 use Rattle.whole_round.proofs.round_even.Statement.{statement}
 use Rattle.whole_round.proofs.round_even.Tie as tie
 
-at : (c : tie.After-nearest) → Found c.before.before.before.before.args.x c.nearest.result
+at : (c : tie.After-nearest-n) → Found c.args.x c.nearest-n.result
 unfolding of_bits
 at c =
     record
-    { inside = rw c.before.before.abs.ensures at c.before.if2.true; near = rw c.before.before.abs.ensures at c.nearest.ensures }
+    { inside = rw c.abs-a.ensures at c.if-a.true; near = rw c.abs-a.ensures at c.nearest-n.ensures }
 
-within : (c : tie.Else3)
-    → lt_z c.before.before.before.before.before.args.limit (pos c.before.nearest.result) ≡ false
+within : (c : tie.Else-limit-n)
+    → lt_z c.args.limit (pos c.nearest-n.result) ≡ false
 within c =
     sym
-    (answers.test _ _ c.before.before.before.before.before.ranges.limit c.before.nearest.ensures.small)
-    ∙ c.if3.false
+    (answers.test _ _ c.ranges.limit c.nearest-n.ensures.small)
+    ∙ c.if-limit-n.false
 
-returns : tie.Need-returns
-returns c = answers.not_a_number _ _ c.if1.true
+returns : tie.Need-returns-then-x
+returns c = answers.not_a_number _ _ c.if-x.true
 
-abs-requires : tie.Need-abs-requires
+abs-requires : tie.Need-abs-a-requires
 abs-requires c κs = search rules
 
-nearest-requires : tie.Need-nearest-requires
+nearest-requires : tie.Need-nearest-n-requires
 unfolding of_bits
 nearest-requires c κs =
-    rw c.before.abs.ensures
-    (answers.size_size _, subst T (sym (rw c.before.abs.ensures at c.if2.true)) tt)
+    rw c.abs-a.ensures
+    (answers.size_size _, subst T (sym (rw c.abs-a.ensures at c.if-a.true)) tt)
 
-cast-n : tie.Need-overflow-cast-n
+cast-n : tie.Need-overflow_cast-n
 cast-n c = search rules
 
-returns-2 : tie.Need-returns-2
+returns-2 : tie.Need-returns-then-limit-n
 returns-2 c =
     answers.beyond _ (at c.before)
-    (sym (answers.test _ _ c.before.before.before.before.before.ranges.limit c.before.nearest.ensures.small) ∙ c.if3.true)
+    (sym (answers.test _ _ c.ranges.limit c.nearest-n.ensures.small) ∙ c.if-limit-n.true)
 
-sub-t8 : tie.Need-overflow-sub-t8
-sub-t8 c = answers.minus_fits _ c.before.before.nearest.ensures.small
+sub-t8 : tie.Need-overflow_sub-result
+sub-t8 c = answers.minus_fits _ c.nearest-n.ensures.small
 
-returns-3 : tie.Need-returns-3
+returns-3 : tie.Need-returns-then-x-2
 unfolding of_bits
 returns-3 c =
-    rw (answers.minus _ c.before.before.nearest.ensures.small)
-    (answers.negative _ (at c.before.before) (within c.before) c.if4.true)
+    rw (answers.minus _ c.nearest-n.ensures.small)
+    (answers.negative _ (at c.before.before) (within c.before) c.if-x-2.true)
 
-returns-4 : tie.Need-returns-4
+returns-4 : tie.Need-returns-then-a
 unfolding of_bits
 returns-4 c =
-    rw (to_z_pos w64 _ c.before.before.nearest.ensures.small)
-    (answers.positive _ (at c.before.before) (within c.before) c.if4.false)
+    rw (to_z_pos w64 _ c.nearest-n.ensures.small)
+    (answers.positive _ (at c.before.before) (within c.before) c.if-x-2.false)
 
-returns-5 : tie.Need-returns-5
+returns-5 : tie.Need-returns
 unfolding of_bits
 returns-5 c =
-    answers.large _ _ c.before.before.before.ranges.limit.sfits c.before.before.if1.false
-    (rw c.before.abs.ensures at c.if2.false)
+    answers.large _ _ c.ranges.limit.sfits c.if-x.false
+    (rw c.abs-a.ensures at c.if-a.false)
 
-pub round-even-spec : {M : Type 1} → statement M
-round-even-spec =
+pub round_even_spec : {M : Type 1} → statement M
+round_even_spec =
     tie.close (tie.spec returns abs-requires nearest-requires cast-n returns-2 sub-t8 returns-3 returns-4 returns-5)

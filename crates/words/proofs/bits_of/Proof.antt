@@ -14,14 +14,14 @@ the_nan nan h = refl
 the_nan (inf s) h = cc
 the_nan (fin s m e) h = cc
 
-returns : tie.Need-returns
-returns c = the_nan c.before.args.x (sym (differs c.before.args.x) ∙ c.if1.true)
+returns : tie.Need-returns-then-x
+returns c = the_nan c.before.args.x (sym (differs c.before.args.x) ∙ c.if-x.true)
 
-float-to-bits-result : tie.Need-float-to-bits-result
-float-to-bits-result c = subst (λ (b : Bool). T (not b)) (sym c.if1.false ∙ differs c.before.args.x) tt
+float-to-bits-result : tie.Need-float_to_bits-result
+float-to-bits-result c = subst (λ (b : Bool). T (not b)) (sym c.if-x.false ∙ differs c.before.args.x) tt
 
-returns-2 : tie.Need-returns-2
+returns-2 : tie.Need-returns
 returns-2 c = search rules
 
-pub bits-of-spec : {M : Type 1} → statement M
-bits-of-spec = tie.close (tie.spec returns float-to-bits-result returns-2)
+pub bits_of_spec : {M : Type 1} → statement M
+bits_of_spec = tie.close (tie.spec returns float-to-bits-result returns-2)

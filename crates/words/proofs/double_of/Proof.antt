@@ -29,15 +29,15 @@ at_infinity b h = let r : b % 0x0010_0000_0000_0000 ≡ 0 = omega (arith, h) in 
 up_to_infinity : (b : ℕ) → b % 0x8000_0000_0000_0000 ≤ 0x7ff0_0000_0000_0000 → nan_bits binary64 b ≡ false
 up_to_infinity b h = ⊎_elim (at_infinity b) (below b) (eq-or-lt_of_le h)
 
-returns : tie.Need-returns
+returns : tie.Need-returns-then-bits-gt-INFINITY
 unfolding div of_bits
-returns c = past_infinity c.before.args.bits c.if1.true
+returns c = past_infinity c.before.args.bits c.if-bits-gt-INFINITY.true
 
-float-from-bits-result : tie.Need-float-from-bits-result
-float-from-bits-result c = subst (λ (b : Bool). T (not b)) (sym (up_to_infinity c.before.args.bits (omega (arith, c.if1.false)))) tt
+float-from-bits-result : tie.Need-float_from_bits-result
+float-from-bits-result c = subst (λ (b : Bool). T (not b)) (sym (up_to_infinity c.before.args.bits (omega (arith, c.if-bits-gt-INFINITY.false)))) tt
 
-returns-2 : tie.Need-returns-2
+returns-2 : tie.Need-returns
 returns-2 c = search rules
 
-pub double-of-spec : {M : Type 1} → statement M
-double-of-spec = tie.close (tie.spec returns float-from-bits-result returns-2)
+pub double_of_spec : {M : Type 1} → statement M
+double_of_spec = tie.close (tie.spec returns float-from-bits-result returns-2)

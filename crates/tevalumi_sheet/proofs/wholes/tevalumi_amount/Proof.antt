@@ -5,15 +5,15 @@ use Rattle.whole_face.specs.Numbers.{whole_numbers}
 use Rattle.tevalumi_sheet.proofs.wholes.tevalumi_amount.Statement.{statement}
 use Rattle.tevalumi_sheet.proofs.wholes.tevalumi_amount.Tie as tie
 
-amount-requires : tie.Need-amount-requires
+amount-requires : tie.Need-amount-r-requires
 amount-requires c κs = search rules
 
-whole-answer-requires : tie.Need-whole-answer-requires
+whole-answer-requires : tie.Need-whole_answer-requires
 whole-answer-requires c κs = search rules
 
 returns : tie.Need-returns
-returns c = let r : tie.After-amount = search in
-    c.whole-answer.ensures ∙ ap whole_numbers r.amount.ensures
+returns c = let r : tie.After-amount-r = search in
+    c.whole_answer.ensures ∙ ap whole_numbers r.amount-r.ensures
 
-pub tevalumi-amount-spec : {M : Type 1} → statement M
-tevalumi-amount-spec = tie.close (tie.spec amount-requires whole-answer-requires returns)
+pub tevalumi_amount_spec : {M : Type 1} → statement M
+tevalumi_amount_spec = tie.close (tie.spec amount-requires whole-answer-requires returns)

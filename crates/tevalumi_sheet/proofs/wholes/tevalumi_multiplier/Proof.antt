@@ -5,15 +5,15 @@ use Rattle.whole_face.specs.Numbers.{whole_numbers}
 use Rattle.tevalumi_sheet.proofs.wholes.tevalumi_multiplier.Statement.{statement}
 use Rattle.tevalumi_sheet.proofs.wholes.tevalumi_multiplier.Tie as tie
 
-multiplier-requires : tie.Need-multiplier-requires
+multiplier-requires : tie.Need-multiplier-r-requires
 multiplier-requires c κs = search rules
 
-whole-answer-requires : tie.Need-whole-answer-requires
+whole-answer-requires : tie.Need-whole_answer-requires
 whole-answer-requires c κs = search rules
 
 returns : tie.Need-returns
-returns c = let r : tie.After-multiplier = search in
-    c.whole-answer.ensures ∙ ap whole_numbers r.multiplier.ensures
+returns c = let r : tie.After-multiplier-r = search in
+    c.whole_answer.ensures ∙ ap whole_numbers r.multiplier-r.ensures
 
-pub tevalumi-multiplier-spec : {M : Type 1} → statement M
-tevalumi-multiplier-spec = tie.close (tie.spec multiplier-requires whole-answer-requires returns)
+pub tevalumi_multiplier_spec : {M : Type 1} → statement M
+tevalumi_multiplier_spec = tie.close (tie.spec multiplier-requires whole-answer-requires returns)

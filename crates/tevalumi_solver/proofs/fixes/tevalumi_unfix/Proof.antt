@@ -5,38 +5,38 @@ use Rattle.tevalumi_solver.proofs.fixes.tevalumi_unfix.Statement.{statement}
 use Rattle.tevalumi_solver.proofs.fixes.tevalumi_unfix.Tie as tie
 
 -- where the call left off
-abbrev unfix-at : tie.After-fix-answer → tie.After-unfix
+abbrev unfix-at : tie.After-fix_answer → tie.After-unfix-a
 unfix-at c = search
 
-unfix-requires : tie.Need-unfix-requires
+unfix-requires : tie.Need-unfix-a-requires
 unfix-requires c κs = search rules
 
-fix-answer-requires : tie.Need-fix-answer-requires
+fix-answer-requires : tie.Need-fix_answer-requires
 fix-answer-requires c κs = search rules
 
-same_length : tie.Need-same-length
-same_length c = (unfix-at c).unfix.auto.1.1.1.1.1.1.1.1.1.1.1.1.1.0
+same_length : tie.Need-shape_of-values
+same_length c = (unfix-at c).unfix-a.auto.values
 
-same-length-2 : tie.Need-same-length-2
-same-length-2 c = (unfix-at c).unfix.auto.1.1.1.1.1.1.1.1.1.1.1.1.1.1.0
+same-length-2 : tie.Need-shape_of-numbers
+same-length-2 c = (unfix-at c).unfix-a.auto.numbers
 
-same-length-3 : tie.Need-same-length-3
-same-length-3 c = (unfix-at c).unfix.auto.1.1.1.1.1.1.1.1.1.1.1.1.1.1.1.0
+same-length-3 : tie.Need-shape_of-doubles
+same-length-3 c = (unfix-at c).unfix-a.auto.doubles
 
-same-length-4 : tie.Need-same-length-4
-same-length-4 c = (unfix-at c).unfix.auto.1.1.1.1.1.1.1.1.1.1.1.1.1.1.1.1.0
+same-length-4 : tie.Need-shape_of-factor_numbers
+same-length-4 c = (unfix-at c).unfix-a.auto.factor_numbers
 
-same-length-5 : tie.Need-same-length-5
-same-length-5 c = (unfix-at c).unfix.auto.1.1.1.1.1.1.1.1.1.1.1.1.1.1.1.1.1.0
+same-length-5 : tie.Need-shape_of-factor_coeffs
+same-length-5 c = (unfix-at c).unfix-a.auto.factor_coeffs
 
 returns : tie.Need-returns
 returns c =
-    let x = (unfix-at c).unfix.new.1.1.1.1.1.1.1.1.1.1.1.1.1 in
-    hands_out (unfix-at c).unfix.result x.0 x.1.0 x.1.1.0 x.1.1.1.0 x.1.1.1.1.0
-    c.fix-answer.ensures (unfix-at c).unfix.ensures
+    let x = (unfix-at c).unfix-a.new in
+    hands_out (unfix-at c).unfix-a.result x.values x.numbers x.doubles x.factor_numbers x.factor_coeffs
+    c.fix_answer.ensures (unfix-at c).unfix-a.ensures
 
-pub tevalumi-unfix-spec : {M : Type 1} → statement M
-tevalumi-unfix-spec =
+pub tevalumi_unfix_spec : {M : Type 1} → statement M
+tevalumi_unfix_spec =
     tie.close
     (tie.spec
     unfix-requires
