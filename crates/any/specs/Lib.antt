@@ -1,2 +1,0 @@
--- An answer from any start, and every lent cell.
-pub mod Handed

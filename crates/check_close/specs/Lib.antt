@@ -1,2 +1,0 @@
--- What the end of a solve is lent.
-pub mod Lent

@@ -1,3 +1,0 @@
--- Laws of a call's own part.
-pub mod Leaves
-pub mod Laws

@@ -1,2 +1,0 @@
--- What is lent of a problem to a call's run.
-pub mod Lent

@@ -1,2 +1,0 @@
--- Laws of the two calls.
-pub mod Laws

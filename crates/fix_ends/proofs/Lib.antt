@@ -1,2 +1,0 @@
--- Laws of the two ends of a call.
-pub mod Laws

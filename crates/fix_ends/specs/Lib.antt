@@ -1,2 +1,0 @@
--- What a call takes up, and what it hands out.
-pub mod Ends

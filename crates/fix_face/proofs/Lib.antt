@@ -1,2 +1,0 @@
--- What an exported call hands out.
-pub mod Laws

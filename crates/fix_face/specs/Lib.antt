@@ -1,2 +1,0 @@
--- The numbers of the answers of fix and unfix.
-pub mod Numbers

@@ -1,2 +1,0 @@
--- Laws of a call's gate.
-pub mod Laws

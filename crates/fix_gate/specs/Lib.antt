@@ -1,2 +1,0 @@
--- What a call refuses.
-pub mod Gate

@@ -1,2 +1,0 @@
--- Laws of a call's parts.
-pub mod Laws

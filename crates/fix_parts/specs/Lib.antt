@@ -1,1 +1,0 @@
--- None: the laws of a call's parts are in proofs/.

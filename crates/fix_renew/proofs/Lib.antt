@@ -1,2 +1,0 @@
--- Why writing two transposes is enough. No contract cites this.
-pub mod Laws

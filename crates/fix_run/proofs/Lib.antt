@@ -1,2 +1,0 @@
--- Laws of a call's run.
-pub mod Parts

@@ -1,2 +1,0 @@
--- The conversion's laws.
-pub mod Laws

@@ -1,3 +1,0 @@
--- What the conversion asks and leaves.
-pub mod Laid
-pub mod Converted

@@ -1,2 +1,0 @@
--- The numbers of the night's answers.
-pub mod Numbers

@@ -1,3 +1,0 @@
--- Laws of the second stage, and of what is handed out.
-pub mod Sections
-pub mod Laws

@@ -1,2 +1,0 @@
--- Laws of the whole call.
-pub mod Calls

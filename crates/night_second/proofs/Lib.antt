@@ -1,2 +1,0 @@
--- Laws of the steps between the stages.
-pub mod Laws

@@ -1,2 +1,0 @@
--- What the tests between the stages read.
-pub mod Costed

@@ -1,2 +1,0 @@
--- The audit's laws.
-pub mod Laws

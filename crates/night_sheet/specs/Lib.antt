@@ -1,2 +1,0 @@
--- What a stage's audit leaves.
-pub mod Audited

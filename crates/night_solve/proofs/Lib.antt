@@ -1,2 +1,0 @@
--- The law of the plan that is lent.
-pub mod Laws

@@ -1,2 +1,0 @@
--- The stage's laws.
-pub mod Laws

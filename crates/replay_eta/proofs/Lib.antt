@@ -1,2 +1,0 @@
--- Laws for the proofs.
-pub mod Laws

@@ -1,2 +1,0 @@
--- Laws of the call.
-pub mod Laws

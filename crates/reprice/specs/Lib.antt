@@ -1,1 +1,0 @@
--- None: the call is reprice_rules:Calls.

@@ -1,2 +1,0 @@
--- The multipliers out of a factor that isn't stored.
-pub mod Mults

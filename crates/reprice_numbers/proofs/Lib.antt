@@ -1,2 +1,0 @@
--- What the sums ask, and that they are the definitions'.
-pub mod Laws

@@ -1,2 +1,0 @@
--- What a pricing asks, and the ways it ends.
-pub mod Laws

@@ -1,2 +1,0 @@
--- Laws of the run.
-pub mod Laws

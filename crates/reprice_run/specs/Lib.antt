@@ -1,2 +1,0 @@
--- How a repricing goes on, and what it asks.
-pub mod Lent

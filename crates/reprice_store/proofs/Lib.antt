@@ -1,2 +1,0 @@
--- Laws of the own part, for its proofs.
-pub mod Laws

@@ -1,2 +1,0 @@
--- What the own part of a repricing asks.
-pub mod Lent

@@ -1,3 +1,0 @@
--- Laws of the run, for its proofs and for those that run.
-pub mod Laws
-pub mod Primal

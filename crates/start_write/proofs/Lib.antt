@@ -1,2 +1,0 @@
--- Laws of the first state as it is written.
-pub mod Written

@@ -1,2 +1,0 @@
--- What is decided of a step.
-pub mod Found

@@ -1,2 +1,0 @@
--- What is decided of a dual step.
-pub mod Found

@@ -1,2 +1,0 @@
--- What the leaves ask, from what is asked of the whole workspace.
-pub mod Laws

@@ -1,2 +1,0 @@
--- Laws of a refactoring, for its proof.
-pub mod Laws

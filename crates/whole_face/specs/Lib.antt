@@ -1,2 +1,0 @@
--- The numbers of the answers on whole numbers.
-pub mod Numbers

@@ -1,2 +1,0 @@
--- Laws for the functions' proofs, and what a row's multiplier is.
-pub mod Laws

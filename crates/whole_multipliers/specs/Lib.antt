@@ -1,2 +1,0 @@
--- The multiplier of each row of a plan.
-pub mod Rows
