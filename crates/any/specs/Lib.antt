@@ -1,0 +1,2 @@
+-- An answer from any start, and every lent cell.
+pub mod Handed

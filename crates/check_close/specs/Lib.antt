@@ -1,0 +1,2 @@
+-- What the end of a solve is lent.
+pub mod Lent

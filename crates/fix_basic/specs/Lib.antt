@@ -1,0 +1,2 @@
+-- What is lent of a problem to a call's run.
+pub mod Lent

@@ -1,0 +1,2 @@
+-- Laws of the two calls.
+pub mod Laws

@@ -1,0 +1,2 @@
+-- Laws of the two ends of a call.
+pub mod Laws

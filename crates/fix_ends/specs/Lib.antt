@@ -1,0 +1,2 @@
+-- What a call takes up, and what it hands out.
+pub mod Ends

@@ -1,0 +1,2 @@
+-- What an exported call hands out.
+pub mod Laws

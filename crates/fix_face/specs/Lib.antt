@@ -1,0 +1,2 @@
+-- The numbers of the answers of fix and unfix.
+pub mod Numbers

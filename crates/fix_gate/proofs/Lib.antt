@@ -1,0 +1,2 @@
+-- Laws of a call's gate.
+pub mod Laws

@@ -1,0 +1,2 @@
+-- What a call refuses.
+pub mod Gate

@@ -1,0 +1,2 @@
+-- Laws of a fix of a non_basic column.
+pub mod Laws

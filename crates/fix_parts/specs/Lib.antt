@@ -1,0 +1,1 @@
+-- None: the laws of a call's parts are in proofs/.

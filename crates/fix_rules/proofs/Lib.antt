@@ -1,0 +1,14 @@
+pub mod Unkept
+pub mod Kept
+pub mod Calls
+pub mod Marks
+pub mod Runs
+pub mod Shifted
+pub mod Honest
+pub mod Never41
+pub mod Refusals
+pub mod Goes
+pub mod Held
+pub mod Own
+pub mod Meaning
+pub mod Sequence

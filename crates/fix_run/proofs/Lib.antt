@@ -1,0 +1,2 @@
+-- Laws of a call's run.
+pub mod Parts

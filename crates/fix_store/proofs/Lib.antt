@@ -1,0 +1,2 @@
+-- Laws of the stores of a fix.
+pub mod Laws

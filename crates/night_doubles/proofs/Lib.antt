@@ -1,0 +1,2 @@
+-- The conversion's laws.
+pub mod Laws

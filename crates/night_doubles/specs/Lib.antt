@@ -1,0 +1,3 @@
+-- What the conversion asks and leaves.
+pub mod Laid
+pub mod Converted

@@ -1,0 +1,2 @@
+-- The numbers of the night's answers.
+pub mod Numbers

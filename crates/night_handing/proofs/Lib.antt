@@ -1,0 +1,3 @@
+-- Laws of the second stage, and of what is handed out.
+pub mod Sections
+pub mod Laws

@@ -1,0 +1,2 @@
+-- Laws of the whole call.
+pub mod Calls

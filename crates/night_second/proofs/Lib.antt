@@ -1,0 +1,2 @@
+-- Laws of the steps between the stages.
+pub mod Laws

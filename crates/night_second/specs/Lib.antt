@@ -1,0 +1,2 @@
+-- What the tests between the stages read.
+pub mod Costed

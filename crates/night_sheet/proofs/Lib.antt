@@ -1,0 +1,2 @@
+-- The audit's laws.
+pub mod Laws

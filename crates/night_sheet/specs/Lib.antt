@@ -1,0 +1,2 @@
+-- What a stage's audit leaves.
+pub mod Audited

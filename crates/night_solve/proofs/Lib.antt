@@ -1,0 +1,2 @@
+-- The law of the plan that is lent.
+pub mod Laws

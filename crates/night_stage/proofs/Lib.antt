@@ -1,0 +1,2 @@
+-- The stage's laws.
+pub mod Laws

@@ -1,0 +1,1 @@
+-- None: the call is reprice_rules:Calls.

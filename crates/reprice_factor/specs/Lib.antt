@@ -1,0 +1,2 @@
+-- The multipliers out of a factor that isn't stored.
+pub mod Mults

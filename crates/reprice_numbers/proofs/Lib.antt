@@ -1,0 +1,2 @@
+-- What the sums ask, and that they are the definitions'.
+pub mod Laws

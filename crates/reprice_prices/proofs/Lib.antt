@@ -1,0 +1,2 @@
+-- What a pricing asks, and the ways it ends.
+pub mod Laws

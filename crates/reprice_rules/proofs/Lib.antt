@@ -1,0 +1,9 @@
+pub mod Costless
+pub mod Lent
+pub mod Refusals
+pub mod Own
+pub mod Sound
+pub mod Ran
+pub mod Words
+pub mod Any
+pub mod Never41

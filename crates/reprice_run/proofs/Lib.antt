@@ -1,0 +1,2 @@
+-- Laws of the run.
+pub mod Laws

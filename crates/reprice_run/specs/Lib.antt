@@ -1,0 +1,2 @@
+-- How a repricing goes on, and what it asks.
+pub mod Lent

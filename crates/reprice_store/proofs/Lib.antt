@@ -1,0 +1,2 @@
+-- Laws of the own part, for its proofs.
+pub mod Laws

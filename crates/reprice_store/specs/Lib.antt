@@ -1,0 +1,2 @@
+-- What the own part of a repricing asks.
+pub mod Lent

@@ -1,0 +1,3 @@
+-- Laws of the public call, and what it means.
+pub mod Laws
+pub mod Meaning

@@ -1,0 +1,2 @@
+-- Laws of the first state as it is written.
+pub mod Written

@@ -1,0 +1,2 @@
+-- What is decided of a step.
+pub mod Found

@@ -1,0 +1,2 @@
+-- What is decided of a dual step.
+pub mod Found

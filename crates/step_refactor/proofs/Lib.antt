@@ -1,0 +1,2 @@
+-- Laws of a refactoring, for its proof.
+pub mod Laws

@@ -1,0 +1,118 @@
+// Columns held still and let go, for C and Rust (02, Ask 9).
+ghost use Rattle.std.specs.Prelude.{◌≡◌};
+ghost use Rattle.rules.specs.Parts.{plan_of};
+ghost use Rattle.state.specs.Memory.{memory_in, past_of};
+ghost use Rattle.face.specs.Face.{faced};
+ghost use Rattle.fix_rules.specs.Calls.{fix_plan, unfix_plan};
+ghost use Rattle.fix_ends.specs.Ends.{handed_call};
+ghost use Rattle.fix_face.specs.Numbers.{faced_by_call};
+
+#[unsafe(no_mangle)]
+pub extern "C" fn tevalumi_fix(
+    columns: usize,
+    rows: usize,
+    entries: usize,
+    budget: usize,
+    tolerance: f64,
+    costs: &[f64],
+    lowers: &[f64],
+    uppers: &[f64],
+    starts: &[usize],
+    cols: &[usize],
+    coeffs: &[f64],
+    ops: &[u8],
+    rhs: &[f64],
+    values: &mut [f64],
+    numbers: &mut [usize],
+    doubles: &mut [f64],
+    factor_numbers: &mut [usize],
+    factor_coeffs: &mut [f64],
+    column: usize,
+    value: f64,
+) -> face::TevalumiAnswer
+    ensures { faced result values.new numbers.new doubles.new
+        factor_numbers.new factor_coeffs.new ≡ faced_by_call
+        (handed_call (fix_plan (plan_of columns rows entries budget tolerance costs.now
+        lowers.now uppers.now starts.now cols.now coeffs.now
+        ops.now rhs.now) column value (memory_in values.old numbers.old
+        doubles.old factor_numbers.old factor_coeffs.old))
+        (past_of numbers.old doubles.old)) }
+{
+    let a = fix::fix(
+        columns,
+        rows,
+        entries,
+        budget,
+        tolerance,
+        costs,
+        lowers,
+        uppers,
+        starts,
+        cols,
+        coeffs,
+        ops,
+        rhs,
+        values,
+        numbers,
+        doubles,
+        factor_numbers,
+        factor_coeffs,
+        column,
+        value,
+    );
+    fix_face::fix_answer(a)
+}
+
+#[unsafe(no_mangle)]
+pub extern "C" fn tevalumi_unfix(
+    columns: usize,
+    rows: usize,
+    entries: usize,
+    budget: usize,
+    tolerance: f64,
+    costs: &[f64],
+    lowers: &[f64],
+    uppers: &[f64],
+    starts: &[usize],
+    cols: &[usize],
+    coeffs: &[f64],
+    ops: &[u8],
+    rhs: &[f64],
+    values: &mut [f64],
+    numbers: &mut [usize],
+    doubles: &mut [f64],
+    factor_numbers: &mut [usize],
+    factor_coeffs: &mut [f64],
+    column: usize,
+) -> face::TevalumiAnswer
+    ensures { faced result values.new numbers.new doubles.new
+        factor_numbers.new factor_coeffs.new ≡ faced_by_call
+        (handed_call (unfix_plan (plan_of columns rows entries budget tolerance costs.now
+        lowers.now uppers.now starts.now cols.now coeffs.now
+        ops.now rhs.now) column (memory_in values.old numbers.old
+        doubles.old factor_numbers.old factor_coeffs.old))
+        (past_of numbers.old doubles.old)) }
+{
+    let a = unfix::unfix(
+        columns,
+        rows,
+        entries,
+        budget,
+        tolerance,
+        costs,
+        lowers,
+        uppers,
+        starts,
+        cols,
+        coeffs,
+        ops,
+        rhs,
+        values,
+        numbers,
+        doubles,
+        factor_numbers,
+        factor_coeffs,
+        column,
+    );
+    fix_face::fix_answer(a)
+}

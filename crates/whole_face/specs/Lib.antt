@@ -1,0 +1,2 @@
+-- The numbers of the answers on whole numbers.
+pub mod Numbers

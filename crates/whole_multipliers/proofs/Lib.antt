@@ -1,0 +1,2 @@
+-- Laws for the functions' proofs, and what a row's multiplier is.
+pub mod Laws

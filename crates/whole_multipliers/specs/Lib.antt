@@ -1,0 +1,2 @@
+-- The multiplier of each row of a plan.
+pub mod Rows

@@ -1,0 +1,216 @@
+// What a program that replays a list reads and writes. Its input is words of eight bytes, the lowest byte first; what
+// it writes is text. Standard input and output have no contract that says which bytes: these say what a word means, and
+// that a count fits its array.
+#![tactic(auto)]
+
+ghost use Rattle.std.specs.Prelude.{◌≡◌, ◌%◌, ◌≤◌};
+ghost use Rattle.std.specs.Float.{binary64};
+ghost use Rattle.std.specs.Float.Ieee.{of_bits, to_bits};
+ghost use Rattle.words.specs.Counts.{Counts};
+
+use std::io;
+use std::io::{Read, Write};
+
+const SIGN: u64 = 0x8000_0000_0000_0000;
+
+const INFINITY: u64 = 0x7ff0_0000_0000_0000;
+
+const NAN: u64 = 0x7ff8_0000_0000_0000;
+
+fn wide(x: u8) -> u64 {
+    x as u64
+}
+
+// The next bytes, and zeros past the input's end. A read that fails is the end of the input.
+fn next_bytes<R: Read>(input: &mut R) -> [u8; 8] {
+    let mut b = [0u8; 8];
+    let mut k = 0;
+    while k < 8 {
+        let n = match input.read(&mut b[k..]) {
+            Ok(n) => n,
+            Err(_) => 0,
+        };
+        if n == 0 {
+            break;
+        }
+        k += n;
+    }
+    b
+}
+
+// The next word, 0 where the input has ended.
+pub fn next<R: Read>(input: &mut R) -> u64 {
+    let b = next_bytes(input);
+    word_of(b)
+}
+
+fn word_of(b: [u8; 8]) -> u64 {
+    wide(b[0])
+        | (wide(b[1]) << 8)
+        | (wide(b[2]) << 16)
+        | (wide(b[3]) << 24)
+        | (wide(b[4]) << 32)
+        | (wide(b[5]) << 40)
+        | (wide(b[6]) << 48)
+        | (wide(b[7]) << 56)
+}
+
+pub fn next_place<R: Read>(input: &mut R) -> usize {
+    next(input) as usize
+}
+
+// The lowest byte of a word.
+pub fn byte_of(word: u64) -> u8
+    ensures { result ≡ word % 256 }
+{
+    (word % 256) as u8
+}
+
+pub fn next_byte<R: Read>(input: &mut R) -> u8 {
+    byte_of(next(input))
+}
+
+// The double with these bits; all NaN are one.
+pub fn double_of(bits: u64) -> f64
+    ensures { result ≡ of_bits binary64 bits }
+{
+    if INFINITY < bits % SIGN {
+        return 0.0 / 0.0;
+    }
+    f64::from_bits(bits)
+}
+
+pub fn bits_of(x: f64) -> u64
+    ensures { result ≡ to_bits binary64 x }
+{
+    if x != x {
+        return NAN;
+    }
+    f64::to_bits(x)
+}
+
+pub fn next_double<R: Read>(input: &mut R) -> f64 {
+    double_of(next(input))
+}
+
+// A count that comes from the input, held to what there is room for.
+pub fn least(n: usize, room: usize) -> usize
+    ensures { result ≤ room }
+{
+    if room < n {
+        return room;
+    }
+    n
+}
+
+// The first n cells, or all.
+pub fn fill_places<R: Read>(input: &mut R, out: &mut [usize], n: usize) {
+    for cell in out.iter_mut().take(n) {
+        *cell = next_place(input);
+    }
+}
+
+pub fn fill_doubles<R: Read>(input: &mut R, out: &mut [f64], n: usize) {
+    for cell in out.iter_mut().take(n) {
+        *cell = next_double(input);
+    }
+}
+
+pub fn fill_bytes<R: Read>(input: &mut R, out: &mut [u8], n: usize) {
+    for cell in out.iter_mut().take(n) {
+        *cell = next_byte(input);
+    }
+}
+
+// A length, then so many cells: how many of the array are lent.
+pub fn read_places<R: Read>(input: &mut R, out: &mut [usize]) -> usize
+    ensures { Counts result out.new }
+{
+    let n = least(next_place(input), out.len());
+    fill_places(input, out, n);
+    n
+}
+
+pub fn read_doubles<R: Read>(input: &mut R, out: &mut [f64]) -> usize
+    ensures { Counts result out.new }
+{
+    let n = least(next_place(input), out.len());
+    fill_doubles(input, out, n);
+    n
+}
+
+pub fn read_bytes<R: Read>(input: &mut R, out: &mut [u8]) -> usize
+    ensures { Counts result out.new }
+{
+    let n = least(next_place(input), out.len());
+    fill_bytes(input, out, n);
+    n
+}
+
+pub fn text<W: Write>(out: &mut W, bytes: &[u8]) -> io::Result<()> {
+    out.write_all(bytes)
+}
+
+pub fn end_line<W: Write>(out: &mut W) -> io::Result<()> {
+    text(out, b"\n")
+}
+
+// How many hexadecimal digits a number takes.
+fn digits_of(n: u64) -> usize {
+    let mut k = 1;
+    let mut rest = n / 16;
+    while rest > 0 {
+        rest /= 16;
+        k += 1;
+    }
+    k
+}
+
+// With zeros in front, up to width digits, or sixteen.
+pub fn hex<W: Write>(out: &mut W, n: u64, width: usize) -> io::Result<()> {
+    for _ in digits_of(n)..least(width, 16) {
+        text(out, b"0")?;
+    }
+    write!(out, "{n:x}")
+}
+
+pub fn decimal<W: Write>(out: &mut W, n: u64) -> io::Result<()> {
+    write!(out, "{n}")
+}
+
+// A space first, here and below.
+pub fn place<W: Write>(out: &mut W, n: usize) -> io::Result<()> {
+    text(out, b" ")?;
+    decimal(out, n as u64)
+}
+
+pub fn double<W: Write>(out: &mut W, x: f64) -> io::Result<()> {
+    text(out, b" ")?;
+    hex(out, bits_of(x), 16)
+}
+
+// The first n cells, or all.
+pub fn places<W: Write>(out: &mut W, list: &[usize], n: usize) -> io::Result<()> {
+    for x in list.iter().take(n) {
+        place(out, *x)?;
+    }
+    Ok(())
+}
+
+pub fn doubles<W: Write>(out: &mut W, list: &[f64], n: usize) -> io::Result<()> {
+    for x in list.iter().take(n) {
+        double(out, *x)?;
+    }
+    Ok(())
+}
+
+fn number(x: u8) -> usize {
+    x as usize
+}
+
+pub fn bytes<W: Write>(out: &mut W, list: &[u8], n: usize) -> io::Result<()> {
+    for x in list.iter().take(n) {
+        place(out, number(*x))?;
+    }
+    Ok(())
+}
