@@ -13,7 +13,7 @@ ghost use Rattle.rules.specs.Parts.{etas_of};
 ghost use Rattle.basis_etas.specs.Store.{Readable};
 
 use std::io;
-use std::io::{BufReader, BufWriter, Read, Write};
+use std::io::{Read, Write};
 
 // Whether every cell is a place of the vector.
 fn all_places(at: &[usize]) -> bool
@@ -171,11 +171,11 @@ fn store<R: Read, W: Write>(input: &mut R, out: &mut W) -> io::Result<()> {
 }
 
 fn main(rt: HostRuntime) -> io::Result<()> {
-    let mut input = BufReader::new(rt.alloc(), rt.reader())?;
-    let mut out = BufWriter::new(rt.alloc(), io::writer(&rt))?;
+    let mut input = rt.reader();
+    let mut out = io::writer(&rt);
     let count = words::next(&mut input);
     for _ in 0..count {
         store(&mut input, &mut out)?;
     }
-    out.flush()
+    Ok(())
 }

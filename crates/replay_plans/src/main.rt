@@ -11,7 +11,7 @@ ghost use Rattle.state.specs.Memory.{numbers_end, doubles_end};
 
 use rules::Answer;
 use std::io;
-use std::io::{BufReader, BufWriter, Read, Write};
+use std::io::{Read, Write};
 
 // Room past the limits: a plan may say that it is too large.
 const COLUMNS: usize = doubles::MAX_COLUMNS + 16;
@@ -444,11 +444,11 @@ fn plan<R: Read, W: Write>(input: &mut R, out: &mut W) -> io::Result<()> {
 }
 
 fn main(rt: HostRuntime) -> io::Result<()> {
-    let mut input = BufReader::new(rt.alloc(), rt.reader())?;
-    let mut out = BufWriter::new(rt.alloc(), io::writer(&rt))?;
+    let mut input = rt.reader();
+    let mut out = io::writer(&rt);
     let count = words::next(&mut input);
     for _ in 0..count {
         plan(&mut input, &mut out)?;
     }
-    out.flush()
+    Ok(())
 }

@@ -9,7 +9,7 @@
 ghost use Rattle.words.specs.Counts.{Counts};
 
 use std::io;
-use std::io::{BufReader, BufWriter, Read, Write};
+use std::io::{Read, Write};
 use words_sheet::{COEFS, COLUMNS, ROWS, show_kept, show_plan};
 
 const SIGN: u64 = 0x8000_0000_0000_0000;
@@ -366,11 +366,11 @@ fn sheet<R: Read, W: Write>(input: &mut R, out: &mut W) -> io::Result<()> {
 }
 
 fn main(rt: HostRuntime) -> io::Result<()> {
-    let mut input = BufReader::new(rt.alloc(), rt.reader())?;
-    let mut out = BufWriter::new(rt.alloc(), io::writer(&rt))?;
+    let mut input = rt.reader();
+    let mut out = io::writer(&rt);
     let count = words::next(&mut input);
     for _ in 0..count {
         sheet(&mut input, &mut out)?;
     }
-    out.flush()
+    Ok(())
 }

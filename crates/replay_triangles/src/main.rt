@@ -6,7 +6,7 @@
 #![tactic(auto)]
 
 use std::io;
-use std::io::{BufReader, BufWriter, Read, Write};
+use std::io::{Read, Write};
 
 // Room past the limits: a triangle may say that it is too large.
 const PLACES: usize = doubles::MAX_ROWS + 16;
@@ -130,11 +130,11 @@ fn triangle<R: Read, W: Write>(input: &mut R, out: &mut W) -> io::Result<()> {
 }
 
 fn main(rt: HostRuntime) -> io::Result<()> {
-    let mut input = BufReader::new(rt.alloc(), rt.reader())?;
-    let mut out = BufWriter::new(rt.alloc(), io::writer(&rt))?;
+    let mut input = rt.reader();
+    let mut out = io::writer(&rt);
     let count = words::next(&mut input);
     for _ in 0..count {
         triangle(&mut input, &mut out)?;
     }
-    out.flush()
+    Ok(())
 }
