@@ -8,7 +8,7 @@ use native.Mathlib.Omega.{arith}
 use lib.Dec.{ltb}
 use lib.ListN.{length}
 use lib.Ieee.{Float}
-use borrow.Author.Tests.{ltb-true, ltb-false}
+use borrow.Author.Tests.{ltb-true}
 use Rattle.doubles.specs.Num.{f1}
 use Rattle.doubles.specs.Limits.{places}
 use Rattle.doubles.specs.Loop.{each}

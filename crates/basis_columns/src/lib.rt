@@ -18,11 +18,8 @@ fn count_row(cols: &[usize], counts: &mut [usize; doubles::MAX_COLUMNS])
     requires { Counting cols.now counts.old }
     ensures { counts.new ≡ counted_in cols.now counts.old }
 {
-    let mut k = 0;
-    while k < cols.len() {
-        let c = cols[k];
-        counts[c] = counts[c] + 1;
-        k += 1;
+    for &c in cols {
+        counts[c] += 1;
     }
 }
 
@@ -39,12 +36,10 @@ fn sum_up(
         × (next.new ≡ over (table n (sum counts.now)) next.old) }
 {
     let mut at = 0;
-    let mut j = 0;
-    while j < n {
+    for j in 0..n {
         starts[j] = at;
         next[j] = at;
         at += counts[j];
-        j += 1;
     }
     starts[n] = at;
 }
@@ -62,14 +57,11 @@ fn place_row(
     ensures { cells next.new crows.new ccoeffs.new ≡ placed_in r cols.now
         coeffs.now (cells next.old crows.old ccoeffs.old) }
 {
-    let mut k = 0;
-    while k < cols.len() {
-        let c = cols[k];
+    for (k, &c) in cols.iter().enumerate() {
         let at = next[c];
         next[c] = at + 1;
         crows[at] = r;
         ccoeffs[at] = coeffs[k];
-        k += 1;
     }
 }
 
@@ -84,11 +76,8 @@ fn count_all(
     ensures { counts.new ≡ counted (rowed max_columns starts.now cols.now []
         kept.now) counts.old }
 {
-    let mut r = 0;
-    while r < kept.len() {
-        let i = kept[r];
+    for &i in kept {
         count_row(plan::row_cols(starts, cols, i), counts);
-        r += 1;
     }
 }
 
@@ -108,9 +97,7 @@ fn place_all(
         (rowed 0 starts.now cols.now coeffs.now kept.now)
         (cells next.old crows.old ccoeffs.old) }
 {
-    let mut r = 0;
-    while r < kept.len() {
-        let i = kept[r];
+    for (r, &i) in kept.iter().enumerate() {
         let row = plan::row_cols(starts, cols, i);
         place_row(
             r,
@@ -120,7 +107,6 @@ fn place_all(
             crows,
             ccoeffs,
         );
-        r += 1;
     }
 }
 

@@ -113,9 +113,7 @@ pub fn solve_etas_transp(
         (sv values.old marks.old list.old count) }
 {
     let mut c = count;
-    let mut k = n;
-    while 0 < k {
-        k -= 1;
+    for k in (0..n).rev() {
         c = eta_turn_transp(values, marks, list, c, leaving, starts, rows, coeffs, k);
     }
     c

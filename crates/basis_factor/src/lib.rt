@@ -153,8 +153,7 @@ fn factor_all(
         col_coeffs.now n basis.now) }
 {
     let mut counts = Counts { lower: 0, upper: 0 };
-    let mut i = 0;
-    while i < m {
+    for i in 0..m {
         let r = turn(
             m, i, col_starts, col_rows, col_coeffs, n, basis, order, number, lstarts, ustarts,
             diag, lrows, lvals, urows, uvals, counts,
@@ -168,7 +167,6 @@ fn factor_all(
             }
             Factored::Added(p) => {
                 counts = p.counts;
-                i += 1;
             }
         }
     }
@@ -184,11 +182,8 @@ fn renumber(
     requires { Renumberable n lrows.old }
     ensures { lrows.new ≡ renumbered number.now n lrows.old }
 {
-    let mut k = 0;
-    while k < n {
-        let r = lrows[k];
-        lrows[k] = number[r];
-        k += 1;
+    for row in lrows[..n].iter_mut() {
+        *row = number[*row];
     }
 }
 
@@ -248,10 +243,6 @@ pub fn new_basis(
     requires { (length basic_vars.now ≡ max_rows) × (length basis.old ≡ max_rows) × (row < max_rows) }
     ensures { basis.new ≡ set basic_vars.now row enters }
 {
-    let mut k = 0;
-    while k < doubles::MAX_ROWS {
-        basis[k] = basic_vars[k];
-        k += 1;
-    }
+    basis.copy_from_slice(basic_vars);
     basis[row] = enters;
 }

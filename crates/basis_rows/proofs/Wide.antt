@@ -34,17 +34,14 @@ table_take n l d h =
     let g : i < n = omega (arith, length_tab n 0 (λ j. get_or l j d)) in
     get_d_table n (λ j. get_or l j d) d i g ∙ sym (get_or-take n l i d g))
 
-over_front : {A : Type 0} (n : ℕ) (l b : List A) (d : A) → n ≤ length l
+pub over_front : {A : Type 0} (n : ℕ) (l b : List A) (d : A) → n ≤ length l
     → over (table n (λ j. get_or l j d)) b ≡ front n l b
 over_front n l b d h = rw (length_tab n 0 (λ j. get_or l j d), table_take n l d h)
 
 -- ---- the cell of a number of var_states
 
-pub cell_below : (w : ℕ) → w < vars → cell_in w ≡ w
+cell_below : (w : ℕ) → w < vars → cell_in w ≡ w
 cell_below w g = ap (λ (b : Bool). elim b [ true ↦ w | false ↦ places ]) (lt-ltb w vars g)
-
-pub cell_past : (w : ℕ) → vars ≤ w → cell_in w ≡ places
-cell_past w g = ap (λ (b : Bool). elim b [ true ↦ w | false ↦ places ]) (le-ltb w vars g)
 
 pub cell_within : (w : ℕ) → cell_in w < vars
 cell_within w = go (ltb w vars) refl

@@ -91,11 +91,8 @@ fn add_entries(
         (length list.new ≡ vars) }
 {
     let mut c = count;
-    let mut k = 0;
-    while k < cols.len() {
-        let v = cols[k];
+    for (k, &v) in cols.iter().enumerate() {
         c = add_entry(values, marks, list, c, n, var_states, v, coeffs[k] * y);
-        k += 1;
     }
     c
 }
@@ -157,13 +154,10 @@ fn combine_wide(
         (length list.new ≡ vars) }
 {
     let mut c = 0;
-    let mut k = 0;
-    while k < from_count {
-        let r = from_list[k];
+    for &r in &from_list[..from_count] {
         c = add_row(
             values, marks, list, c, n, var_states, starts, cols, coeffs, kept, r, from[r],
         );
-        k += 1;
     }
     c
 }
@@ -180,12 +174,8 @@ fn copy_front(
     ensures { (values.new ≡ over (table n (λ j. from.now ! j)) values.old) ×
         (marks.new ≡ over (table n (λ j. get_or from_marks.now j false)) marks.old) }
 {
-    let mut j = 0;
-    while j < n {
-        values[j] = from[j];
-        marks[j] = from_marks[j];
-        j += 1;
-    }
+    values[..n].copy_from_slice(&from[..n]);
+    marks[..n].copy_from_slice(&from_marks[..n]);
 }
 
 // And the list.
@@ -193,11 +183,7 @@ fn copy_list(count: usize, from: &[usize; doubles::VARS], list: &mut [usize; dou
     requires { (count ≤ places) × (length list.old ≡ places) }
     ensures { list.new ≡ over (table count (λ j. from.now # j)) list.old }
 {
-    let mut j = 0;
-    while j < count {
-        list[j] = from[j];
-        j += 1;
-    }
+    list[..count].copy_from_slice(&from[..count]);
 }
 
 // The rows that a vector lists, each times its value there, in listed order, onto a fresh vector.

@@ -169,11 +169,7 @@ fn write_kept(kept: &[usize], to: &mut [usize])
     requires { length kept.now ≤ length to.old }
     ensures { to.new ≡ over kept.now to.old }
 {
-    let mut r = 0;
-    while r < kept.len() {
-        to[r] = kept[r];
-        r += 1;
-    }
+    to[..kept.len()].copy_from_slice(kept);
 }
 
 fn bit_of(b: bool) -> usize

@@ -45,11 +45,8 @@ pub fn values_into(
         (valued_of var_states.now basic_var_vals.now nb_var_vals.now))
         xs.old }
 {
-    let count = n + kept.len();
-    let mut v = 0;
-    while v < count {
+    for v in 0..n + kept.len() {
         xs[v] = get_value(n, var_states, basic_var_vals, nb_var_vals, v);
-        v += 1;
     }
 }
 
@@ -189,8 +186,7 @@ pub fn worst(
         at: places,
         excess: 0.0,
     };
-    let mut k = 0;
-    while k < places {
+    for k in 0..places {
         w = worse(
             k,
             excess_at(
@@ -198,7 +194,6 @@ pub fn worst(
             ),
             w,
         );
-        k += 1;
     }
     w
 }
@@ -244,9 +239,5 @@ pub fn write_values(values: &mut [f64], xs: &[f64; doubles::VARS], count: usize)
     requires { (count ≤ vars) × (count ≤ length values.old) }
     ensures { values.new ≡ over (table count (λ v. xs.now ! v)) values.old }
 {
-    let mut v = 0;
-    while v < count {
-        values[v] = xs[v];
-        v += 1;
-    }
+    values[..count].copy_from_slice(&xs[..count]);
 }

@@ -1,5 +1,5 @@
 // The answers on a file as the numbers that the face hands out.
-#![tactic(auto)]
+#![tactic(auto, unfolding(crate::specs::Numbers::written_numbers, crate::specs::Numbers::read_numbers))]
 
 ghost use Rattle.std.specs.Prelude.{◌≡◌};
 ghost use Rattle.file_face.specs.Numbers.{written_numbers, read_numbers};
@@ -14,18 +14,17 @@ pub struct TevalumiWritten {
     pub bytes: usize,
 }
 
-pub fn write_answer(w: Writing) -> TevalumiWritten
-    ensures { result ≡ written_numbers w }
-{
-    match w {
-        Writing::Written(bytes) => TevalumiWritten {
-            status: 0,
-            bytes: bytes,
-        },
-        Writing::Refused(number) => TevalumiWritten {
-            status: number,
-            bytes: 0,
-        },
+impl From<Writing> for TevalumiWritten {
+    fn from(w: Writing) -> TevalumiWritten
+        ensures { result ≡ written_numbers w }
+    {
+        match w {
+            Writing::Written(bytes) => TevalumiWritten { status: 0, bytes },
+            Writing::Refused(number) => TevalumiWritten {
+                status: number,
+                bytes: 0,
+            },
+        }
     }
 }
 
@@ -39,21 +38,23 @@ pub struct TevalumiRead {
     pub columns: usize,
 }
 
-pub fn read_answer(a: Reading) -> TevalumiRead
-    ensures { result ≡ read_numbers a }
-{
-    match a {
-        Reading::Held { rows, columns } => TevalumiRead {
-            status: 0,
-            block: 0,
-            rows: rows,
-            columns: columns,
-        },
-        Reading::Refused { number, block } => TevalumiRead {
-            status: number,
-            block: block,
-            rows: 0,
-            columns: 0,
-        },
+impl From<Reading> for TevalumiRead {
+    fn from(a: Reading) -> TevalumiRead
+        ensures { result ≡ read_numbers a }
+    {
+        match a {
+            Reading::Held { rows, columns } => TevalumiRead {
+                status: 0,
+                block: 0,
+                rows,
+                columns,
+            },
+            Reading::Refused { number, block } => TevalumiRead {
+                status: number,
+                block,
+                rows: 0,
+                columns: 0,
+            },
+        }
     }
 }

@@ -77,12 +77,10 @@ pub fn all_clean(b: &[u8], count: usize) -> bool
     requires { (length b.now ≡ size_of_block) × (count ≤ 22) }
     ensures { result ≡ all_clean (entries_from count (drop 4 b.now)) }
 {
-    let mut k: usize = 0;
-    while k < count {
+    for k in 0..count {
         if !is_clean(entry_from(b, 4 + 22 * k)) {
             return false;
         }
-        k += 1;
     }
     true
 }

@@ -109,13 +109,12 @@ pub fn feed_bytes(
         (kept_of r.old d.old c.old b.old counts.old))
         waiting.old cells.old)) cells.old }
 {
-    let mut i: usize = 0;
-    while i < piece.len() {
+    for &x in piece {
         if cells[2] != 0 {
             return cells[2];
         }
         feed_byte(
-            piece[i],
+            x,
             rows,
             columns,
             coefs,
@@ -136,7 +135,6 @@ pub fn feed_bytes(
             waiting,
             cells,
         );
-        i += 1;
     }
     cells[2]
 }

@@ -129,8 +129,7 @@ fn feed_entries(
         ops.now amounts.old mults.old)
         (kept_of r.old d.old c.old b.old counts.old)) }
 {
-    let mut k: usize = 0;
-    while k < count {
+    for k in 0..count {
         let n = entry_from(waiting, 4 + 22 * k);
         let refusal = feed_entry(
             n,
@@ -155,7 +154,6 @@ fn feed_entries(
         if refusal != 0 {
             return refusal;
         }
-        k += 1;
     }
     0
 }

@@ -24,9 +24,8 @@ pub fn test(journal: &[u8]) -> Tested
     ensures { result ≡ tested journal.now }
 {
     let blocks = whole_blocks(journal);
-    let mut place: usize = 0;
     let mut n: usize = 0;
-    while place < blocks {
+    for place in 0..blocks {
         let start = 512 * place;
         let end = start + 512;
         let only = n < 22 * place;
@@ -44,7 +43,6 @@ pub fn test(journal: &[u8]) -> Tested
             };
         }
         n += size_of(journal[start + 3]);
-        place += 1;
     }
     Tested {
         refusal: 33,

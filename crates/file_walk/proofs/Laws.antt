@@ -1,15 +1,14 @@
 -- The loop over the slots is the walk. Assumes nothing.
 use mathlib.Core.Path.{◌≡◌, refl, sym, ap, ◌∙◌}
-use mathlib.Core.Bool.{Bool, true, false}
 use mathlib.Core.List.{List, [], ◌∷◌, ◌++◌}
 use Prim.Native.Nat.{ℕ, zero, suc, ◌+◌, ◌-◌, ◌*◌, ◌/◌, ◌<◌, ◌≤◌, min}
 use native.Mathlib.Nat.{add-zero, mul-le-mul}
 use native.Mathlib.Omega.{arith}
-use lib.ListN.{length, take, drop, length-drop, length-take, length-append, drop_of_length-le}
+use lib.ListN.{length, take, drop, length-drop, length-take, drop_of_length-le}
 use lib.Seq.{drop-drop}
 use Rattle.doubles.specs.Limits.{max_rows, max_columns}
 use Rattle.doubles.specs.Loop.{each}
-use Rattle.file_rules.specs.Block.{size_of_block, room, Slot, slot, cells, block_refusal, stray_refusal, Walked, refused, stream, join, walk}
+use Rattle.file_rules.specs.Block.{size_of_block, Slot, slot, block_refusal, stray_refusal, Walked, refused, stream, join, walk}
 use Rattle.file_rules.specs.PlanFile.{plan_kind, pieces, array, shape}
 use Rattle.file_rules.proofs.Shape.{pieces_length, shape_length}
 use Rattle.file_walk.specs.Stop.{stop_at, cut, onward, turn_by, turn, behind_by, behind, stood_at}

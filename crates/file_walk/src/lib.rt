@@ -72,6 +72,7 @@ fn pass_array(file: &[u8], s: Stop, kind: u8, bytes: usize) -> Stop
 {
     let mut left = bytes;
     let mut at = s;
+    // A while: it moves by as many bytes as a block holds.
     while 0 < left {
         let count = least(504, left);
         at = pass_block(file, at, kind, count);

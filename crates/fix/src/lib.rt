@@ -61,7 +61,7 @@ pub fn fix(
         column,
         value,
     );
-    if let fix_gate::Refusal::By(answer) = refusal {
+    if let Some(answer) = refusal {
         return answer;
     }
     let mut kept = [0usize; doubles::MAX_ROWS];

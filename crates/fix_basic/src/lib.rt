@@ -16,7 +16,6 @@ ghost use Rattle.fix_rules.specs.Fix as Fix;
 ghost use Rattle.fix_basic.specs.Lent.{called_of, StandsIn};
 
 use run::Ran;
-use step_refactor::Went;
 
 // "a dual step of Ask 8 from its part 3 on, with row r as the leaving row and the value as the leaving value".
 fn leave(
@@ -38,7 +37,7 @@ fn leave(
     ccoeffs: &[f64],
     row: usize,
     value: f64,
-) -> Went
+) -> Result<state::Tally, rules::Stop>
     requires ready { Ready n lowers.now uppers.now starts.now cols.now coeffs.now ops.now kept.now
         numbers.old doubles.old factor_numbers.old factor_coeffs.old at }
     requires by_columns { ByColumns (rowed n starts.now cols.now coeffs.now kept.now) cstarts.now crows.now
@@ -142,10 +141,10 @@ pub fn fix_basic(
         value,
     );
     match went {
-        Went::Stops(why) => {
+        Err(why) => {
             return Ran { why, at };
         }
-        Went::On(left) => {
+        Ok(left) => {
             let col = numbers[state::VAR_STATES + j];
             fix_store::mark(numbers, col);
             return run_dual::both(

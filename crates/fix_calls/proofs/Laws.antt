@@ -29,14 +29,14 @@ use Rattle.fix_rules.specs.declared.FixAnswer.{FixAnswer}
 use Rattle.fix_rules.specs.declared.FixAnswer.TheVariants.{BadValue, NotFixed}
 use Rattle.fix_rules.proofs.Never41.{fixed_honest, unfixed_honest}
 use Rattle.fix_gate.specs.Gate.{fix_refusal, unfix_refusal}
-use Rattle.fix_gate.specs.declared.Refusal.TheVariants.{By, Nothing}
+use Rattle.std.specs.Prelude.{Some, None}
 use Rattle.fix_gate.proofs.Laws.{Known, known, goes_by, fix_by, unfix_by, all_passed}
 use Rattle.fix_ends.specs.Ends.{handed_call, called_by}
 use Rattle.fix_parts.proofs.Laws.{uncounted, uncounted_fits, fits_all, numbers_long, doubles_long, honest, fits, lent_sized, lent_sound}
 
 -- ---- a refusal
 module _ (p : Plan) (v : List Float) (N : List ℕ) (D : List Float) (F : List ℕ) (G : List Float) (j : ℕ) (a : FixAnswer) where
-  pub fix_refuses : (value : Float) → By a ≡ fix_refusal p (memory_in v N D F G) j value
+  pub fix_refuses : (value : Float) → Some a ≡ fix_refusal p (memory_in v N D F G) j value
       → called_by a v N D F G ≡ handed_call (fix_plan p j value (memory_in v N D F G)) (past_of N D)
   fix_refuses value e =
       let m = memory_in v N D F G in
@@ -44,7 +44,7 @@ module _ (p : Plan) (v : List Float) (N : List ℕ) (D : List Float) (F : List �
       ap (λ (c : Called). handed_call c (past_of N D))
       (ap (goes_by p m (close_call P m (fixed P (kept_state P m) j value))) e ∙ sym (fix_by p m j value))
 
-  pub unfix_refuses : By a ≡ unfix_refusal p (memory_in v N D F G) j
+  pub unfix_refuses : Some a ≡ unfix_refusal p (memory_in v N D F G) j
       → called_by a v N D F G ≡ handed_call (unfix_plan p j (memory_in v N D F G)) (past_of N D)
   unfix_refuses e =
       let m = memory_in v N D F G in
@@ -57,13 +57,13 @@ module _ (p : Plan) (v : List Float) (N : List ℕ) (D : List Float) (F : List �
   abbrev m : Memory
   m = memory_in v N D F G
 
-  pub fix_known : (value : Float) → Nothing ≡ fix_refusal p m j value → Known p v N D F G j × (passes43 p j value ≡ true)
+  pub fix_known : (value : Float) → None ≡ fix_refusal p m j value → Known p v N D F G j × (passes43 p j value ≡ true)
   unfolding fix_refusal
   fix_known value e =
       let a = all_passed _ (passes43 p j value) BadValue e in
       (known p v N D F G j a.0, a.1)
 
-  pub unfix_known : Nothing ≡ unfix_refusal p m j → Known p v N D F G j × (passes44 p m j ≡ true)
+  pub unfix_known : None ≡ unfix_refusal p m j → Known p v N D F G j × (passes44 p m j ≡ true)
   unfolding unfix_refusal
   unfix_known e =
       let a = all_passed _ (passes44 p m j) NotFixed e in
@@ -132,13 +132,13 @@ module _ (p : Plan) (v : List Float) (N : List ℕ) (D : List Float) (F : List �
       uncounted_fits P (unfixed P (kept_state P mem) j).state
       (unfixed_honest P (fits_all p v N D F G k.memory) (kept_state P mem) (honest p v N D F G k.memory) j).sound.fits
 
-  pub fix_goes : (value : Float) → Nothing ≡ fix_refusal p mem j value → let P = problem_of p in
+  pub fix_goes : (value : Float) → None ≡ fix_refusal p mem j value → let P = problem_of p in
       close_call P mem (fixed P (kept_state P mem) j value) ≡ fix_plan p j value mem
   fix_goes value e =
       let P = problem_of p in
       ap (goes_by p mem (close_call P mem (fixed P (kept_state P mem) j value))) e ∙ sym (fix_by p mem j value)
 
-  pub unfix_goes : Nothing ≡ unfix_refusal p mem j → let P = problem_of p in
+  pub unfix_goes : None ≡ unfix_refusal p mem j → let P = problem_of p in
       close_call P mem (unfixed P (kept_state P mem) j) ≡ unfix_plan p j mem
   unfix_goes e =
       let P = problem_of p in

@@ -28,8 +28,7 @@ use Rattle.state.specs.Memory.{memory_in, numbers_end, doubles_end}
 use Rattle.state.proofs.Sections.{section_at}
 use Rattle.plan.specs.Refused.{refusal_of}
 use Rattle.plan.specs.Refused as Plan
-use Rattle.plan.specs.declared.Refusal.{Refusal as Plan-as-Refusal}
-use Rattle.plan.specs.declared.Refusal.TheVariants.{By as Plan-as-By, Nothing as Plan-as-Nothing}
+use Rattle.std.specs.Prelude.{Option, Some, None}
 use Rattle.start_gate.specs.Gate.{refusal_by}
 use Rattle.start_gate.proofs.Gate.{Accepted, accepted}
 use Rattle.start_gate.proofs.Long.{Long, arrays_long}
@@ -41,20 +40,18 @@ use Rattle.fix_rules.specs.declared.FixAnswer.{FixAnswer}
 use Rattle.fix_rules.specs.declared.FixAnswer.TheVariants.{Told, NotKept, BadColumn, BadValue, NotFixed}
 use Rattle.fix_gate.specs.Gate as Gate
 use Rattle.fix_gate.specs.Gate.{passing, kept_refusal, call_refusal, fix_refusal, unfix_refusal}
-use Rattle.fix_gate.specs.declared.Refusal.{Refusal}
-use Rattle.fix_gate.specs.declared.Refusal.TheVariants.{By, Nothing}
 
 -- ---- 1 to 5 of any call, by the answer of the gate of a solve
 module _ {A : Type 0} (p : Plan) (m : Memory) (says : Answer → A) (r : A) where
-  abbrev pub says_by : Plan-as-Refusal → A
-  says_by (Plan-as-By a) = says a
-  says_by Plan-as-Nothing = r
+  abbrev pub says_by : Option Answer → A
+  says_by (Some a) = says a
+  says_by None = r
 
-  rung : (b : Bool) (a : Answer) (x : A) (y : Plan-as-Refusal) → x ≡ says_by y → or_else b (says a) x ≡ says_by (Plan.passing b a y)
+  rung : (b : Bool) (a : Answer) (x : A) (y : Option Answer) → x ≡ says_by y → or_else b (says a) x ≡ says_by (Plan.passing b a y)
   rung true a x y e = e
   rung false a x y e = refl
 
-  ladder : (b : Bool) (x : A) (y : Plan-as-Refusal) → x ≡ says_by y
+  ladder : (b : Bool) (x : A) (y : Option Answer) → x ≡ says_by y
       → or_else (b && starts_rise p) (says BadSize) x ≡ says_by (Plan.passing b BadSize (Plan.passing (starts_rise p) BadSize y))
   ladder true x y e = rung (starts_rise p) BadSize x y e
   ladder false x y e = refl
@@ -66,28 +63,28 @@ module _ {A : Type 0} (p : Plan) (m : Memory) (says : Answer → A) (r : A) wher
       (rung (passes2 p) BadNumber _ _
       (rung (eqb (first_bad_row p) p.rows) (BadEntry (first_bad_row p) (first_bad_in p (first_bad_row p))) _ _
       (rung (eqb (first_crossed p) p.columns) (CrossedBounds (first_crossed p)) _ _
-      (rung (eqb (first_false p) p.rows) (FalseEmptyRow (first_false p)) r Plan-as-Nothing refl))))
+      (rung (eqb (first_false p) p.rows) (FalseEmptyRow (first_false p)) r None refl))))
 
 -- ---- the last rung of a gate, behind the gate before it
-module _ (x : Refusal) where
-  pub stays_refused : (y : Refusal) (a : FixAnswer) → x ≡ By a → By a ≡ Gate.or_else x y
-  stays_refused y a e = sym (ap (λ (x : Refusal). Gate.or_else x y) e)
+module _ (x : Option FixAnswer) where
+  pub stays_refused : (y : Option FixAnswer) (a : FixAnswer) → x ≡ Some a → Some a ≡ Gate.or_else x y
+  stays_refused y a e = sym (ap (λ (x : Option FixAnswer). Gate.or_else x y) e)
 
-  module _ (e : x ≡ Nothing) where
-    pub last_refuses : (b : Bool) (a : FixAnswer) → b ≡ false → By a ≡ Gate.or_else x (passing b a Nothing)
-    last_refuses b a f = sym (ap (λ (x : Refusal). Gate.or_else x (passing b a Nothing)) e ∙ ap (λ (b : Bool). passing b a Nothing) f)
+  module _ (e : x ≡ None) where
+    pub last_refuses : (b : Bool) (a : FixAnswer) → b ≡ false → Some a ≡ Gate.or_else x (passing b a None)
+    last_refuses b a f = sym (ap (λ (x : Option FixAnswer). Gate.or_else x (passing b a None)) e ∙ ap (λ (b : Bool). passing b a None) f)
 
-    pub last_passes : (b : Bool) (a : FixAnswer) → b ≡ true → Nothing ≡ Gate.or_else x (passing b a Nothing)
-    last_passes b a f = sym (ap (λ (x : Refusal). Gate.or_else x (passing b a Nothing)) e ∙ ap (λ (b : Bool). passing b a Nothing) f)
+    pub last_passes : (b : Bool) (a : FixAnswer) → b ≡ true → None ≡ Gate.or_else x (passing b a None)
+    last_passes b a f = sym (ap (λ (x : Option FixAnswer). Gate.or_else x (passing b a None)) e ∙ ap (λ (b : Bool). passing b a None) f)
 
   -- the other way: nothing was refused
-  pub all_passed : (b : Bool) (a : FixAnswer) → Nothing ≡ Gate.or_else x (passing b a Nothing) → (Nothing ≡ x) × (b ≡ true)
+  pub all_passed : (b : Bool) (a : FixAnswer) → None ≡ Gate.or_else x (passing b a None) → (None ≡ x) × (b ≡ true)
   all_passed b a e = go x b e
     where
-      go : (x : Refusal) (b : Bool) → Nothing ≡ Gate.or_else x (passing b a Nothing) → (Nothing ≡ x) × (b ≡ true)
-      go (By c) b e = absurd (let z : ◌≡◌ {A = ℕ} 0 1 = cc in omega arith)
-      go Nothing true e = (refl, refl)
-      go Nothing false e = absurd (let z : ◌≡◌ {A = ℕ} 0 1 = cc in omega arith)
+      go : (x : Option FixAnswer) (b : Bool) → None ≡ Gate.or_else x (passing b a None) → (None ≡ x) × (b ≡ true)
+      go (Some c) b e = absurd (let z : ◌≡◌ {A = ℕ} 0 1 = cc in omega arith)
+      go None true e = (refl, refl)
+      go None false e = absurd (let z : ◌≡◌ {A = ℕ} 0 1 = cc in omega arith)
 
 -- ---- `kept_refusal`
 module _ (p : Plan) (v : List Float) (N : List ℕ) (D : List Float) (F : List ℕ) (G : List Float) where
@@ -99,29 +96,29 @@ module _ (p : Plan) (v : List Float) (N : List ℕ) (D : List Float) (F : List �
   unfolding passes41 maps_fine kept_rows
   kept_part = refl
 
-  abbrev rest : Refusal
-  rest = passing (passes41 p m) NotKept Nothing
+  abbrev rest : Option FixAnswer
+  rest = passing (passes41 p m) NotKept None
 
-  abbrev from : Plan-as-Refusal → Refusal
-  from r = elim r [ Plan-as-By a ↦ By (Told a) | Plan-as-Nothing ↦ rest ]
+  abbrev from : Option Answer → Option FixAnswer
+  from r = elim r [ Some a ↦ Some (Told a) | None ↦ rest ]
 
-  pub says_told : (a : Answer) → Plan-as-By a ≡ refusal_by p m → By (Told a) ≡ kept_refusal p m
+  pub says_told : (a : Answer) → Some a ≡ refusal_by p m → Some (Told a) ≡ kept_refusal p m
   unfolding kept_refusal
   says_told a e = ap from e
 
-  module _ (ok : Plan-as-Nothing ≡ refusal_by p m) where
+  module _ (ok : None ≡ refusal_by p m) where
     is_rest : rest ≡ kept_refusal p m
     unfolding kept_refusal
     is_rest = ap from ok
 
-    pub says_not_kept : passes41 p m ≡ false → By NotKept ≡ kept_refusal p m
-    says_not_kept e = sym (ap (λ (b : Bool). passing b NotKept Nothing) e) ∙ is_rest
+    pub says_not_kept : passes41 p m ≡ false → Some NotKept ≡ kept_refusal p m
+    says_not_kept e = sym (ap (λ (b : Bool). passing b NotKept None) e) ∙ is_rest
 
-    pub says_kept : passes41 p m ≡ true → Nothing ≡ kept_refusal p m
-    says_kept e = sym (ap (λ (b : Bool). passing b NotKept Nothing) e) ∙ is_rest
+    pub says_kept : passes41 p m ≡ true → None ≡ kept_refusal p m
+    says_kept e = sym (ap (λ (b : Bool). passing b NotKept None) e) ∙ is_rest
 
   -- what holds once 1 to 5 have passed
-  module _ (ok : Plan-as-Nothing ≡ refusal_by p m) where
+  module _ (ok : None ≡ refusal_by p m) where
     passed : Accepted p m
     passed = accepted p m ok
 
@@ -139,7 +136,7 @@ module _ (p : Plan) (v : List Float) (N : List ℕ) (D : List Float) (F : List �
 
   -- once 41 has too, and 42
   pub record Kept : Type 0 where
-    pub refused_none : Plan-as-Nothing ≡ refusal_by p m
+    pub refused_none : None ≡ refusal_by p m
     pub kept : passes41 p m ≡ true
 
   pub record Known (j : ℕ) : Type 0 where
@@ -149,17 +146,17 @@ module _ (p : Plan) (v : List Float) (N : List ℕ) (D : List Float) (F : List �
   clash : {A : Type 0} → ◌≡◌ {A = ℕ} 0 1 → A
   clash e = absurd (omega arith)
 
-  pub was_kept : Nothing ≡ kept_refusal p m → Kept
+  pub was_kept : None ≡ kept_refusal p m → Kept
   unfolding kept_refusal
   was_kept e = go (refusal_by p m) refl (passes41 p m) refl e
     where
-      go : (r : Plan-as-Refusal) → refusal_by p m ≡ r → (b : Bool) → passes41 p m ≡ b
-          → Nothing ≡ elim r [ Plan-as-By a ↦ By (Told a) | Plan-as-Nothing ↦ passing b NotKept Nothing ] → Kept
-      go (Plan-as-By a) er b eb e = clash cc
-      go Plan-as-Nothing er true eb e = record { refused_none = sym er; kept = eb }
-      go Plan-as-Nothing er false eb e = clash cc
+      go : (r : Option Answer) → refusal_by p m ≡ r → (b : Bool) → passes41 p m ≡ b
+          → ◌≡◌ {A = Option FixAnswer} None (elim r [ Some a ↦ Some (Told a) | None ↦ passing b NotKept None ]) → Kept
+      go (Some a) er b eb e = clash cc
+      go None er true eb e = record { refused_none = sym er; kept = eb }
+      go None er false eb e = clash cc
 
-  pub known : (j : ℕ) → Nothing ≡ call_refusal p m j → Known j
+  pub known : (j : ℕ) → None ≡ call_refusal p m j → Known j
   unfolding call_refusal
   known j e =
       let a = all_passed (kept_refusal p m) (passes42 p j) BadColumn e in
@@ -226,30 +223,30 @@ fixed_part p v N D F G j = refl
 -- ---- the whole calls by the answer
 module _ (p : Plan) (m : Memory) where
   -- the rest of a call after the gate
-  abbrev pub goes_by : Called → Refusal → Called
-  goes_by c (By a) = called a m
-  goes_by c Nothing = c
+  abbrev pub goes_by : Called → Option FixAnswer → Called
+  goes_by c (Some a) = called a m
+  goes_by c None = c
 
-  tested : (b : Bool) (a : FixAnswer) (c : Called) → or_else b (called a m) c ≡ goes_by c (passing b a Nothing)
+  tested : (b : Bool) (a : FixAnswer) (c : Called) → or_else b (called a m) c ≡ goes_by c (passing b a None)
   tested true a c = refl
   tested false a c = refl
 
   -- one rung more
-  joined : (x : Refusal) (b : Bool) (a : FixAnswer) (c : Called)
-      → goes_by (or_else b (called a m) c) x ≡ goes_by c (Gate.or_else x (passing b a Nothing))
-  joined (By d) b a c = refl
-  joined Nothing b a c = tested b a c
+  joined : (x : Option FixAnswer) (b : Bool) (a : FixAnswer) (c : Called)
+      → goes_by (or_else b (called a m) c) x ≡ goes_by c (Gate.or_else x (passing b a None))
+  joined (Some d) b a c = refl
+  joined None b a c = tested b a c
 
   pub kept_by : (c : Called)
       → or_refused p m (λ a. called (Told a) m) (or_else (passes41 p m) (called NotKept m) c) ≡ goes_by c (kept_refusal p m)
   unfolding kept_refusal
   kept_by c = refused_by_holds p m (λ a. called (Told a) m) _ ∙ go (refusal_by p m)
     where
-      go : (r : Plan-as-Refusal)
+      go : (r : Option Answer)
           → says_by p m (λ a. called (Told a) m) (or_else (passes41 p m) (called NotKept m) c) r
-          ≡ goes_by c (elim r [ Plan-as-By a ↦ By (Told a) | Plan-as-Nothing ↦ passing (passes41 p m) NotKept Nothing ])
-      go (Plan-as-By a) = refl
-      go Plan-as-Nothing = tested (passes41 p m) NotKept c
+          ≡ goes_by c (elim r [ Some a ↦ Some (Told a) | None ↦ passing (passes41 p m) NotKept None ])
+      go (Some a) = refl
+      go None = tested (passes41 p m) NotKept c
 
   module _ (j : ℕ) where
     call_by : (c : Called) → or_refused_call p m j c ≡ goes_by c (call_refusal p m j)

@@ -11,12 +11,6 @@ ghost use Rattle.fix_rules.specs.Fix.{is_fixed};
 ghost use Rattle.fix_rules.specs.Calls.{passes43};
 ghost use Rattle.fix_gate.specs.Gate.{kept_refusal, call_refusal, fix_refusal, unfix_refusal};
 
-#[derive(Clone, Copy)]
-pub enum Refusal {
-    By(fix_rules::FixAnswer),
-    Nothing,
-}
-
 // 1 to 5 and 41, of every call over a memory that was kept. Any sizes and any arrays.
 pub fn kept_refusal(
     columns: usize,
@@ -37,7 +31,7 @@ pub fn kept_refusal(
     doubles: &[f64],
     factor_numbers: &[usize],
     factor_coeffs: &[f64],
-) -> Refusal
+) -> Option<fix_rules::FixAnswer>
     ensures { result ≡ kept_refusal
         (plan_of columns rows entries budget tolerance costs.now lowers.now
         uppers.now starts.now cols.now coeffs.now ops.now
@@ -64,8 +58,8 @@ pub fn kept_refusal(
         factor_numbers,
         factor_coeffs,
     );
-    if let plan::Refusal::By(answer) = refusal {
-        return Refusal::By(fix_rules::FixAnswer::Told(answer));
+    if let Some(answer) = refusal {
+        return Some(fix_rules::FixAnswer::Told(answer));
     }
     if !fix_kept::passes_41(
         columns,
@@ -76,9 +70,9 @@ pub fn kept_refusal(
         factor_numbers,
         factor_coeffs,
     ) {
-        return Refusal::By(fix_rules::FixAnswer::NotKept);
+        return Some(fix_rules::FixAnswer::NotKept);
     }
-    Refusal::Nothing
+    None
 }
 
 // And 42, of a call that names a column.
@@ -102,7 +96,7 @@ fn call_refusal(
     factor_numbers: &[usize],
     factor_coeffs: &[f64],
     column: usize,
-) -> Refusal
+) -> Option<fix_rules::FixAnswer>
     ensures { result ≡ call_refusal
         (plan_of columns rows entries budget tolerance costs.now lowers.now
         uppers.now starts.now cols.now coeffs.now ops.now
@@ -129,13 +123,13 @@ fn call_refusal(
         factor_numbers,
         factor_coeffs,
     );
-    if let Refusal::By(answer) = refusal {
-        return Refusal::By(answer);
+    if let Some(answer) = refusal {
+        return Some(answer);
     }
     if column >= columns {
-        return Refusal::By(fix_rules::FixAnswer::BadColumn);
+        return Some(fix_rules::FixAnswer::BadColumn);
     }
-    Refusal::Nothing
+    None
 }
 
 // 43: "the value isn't finite, or is below the column's lower bound, or above its upper one".
@@ -192,7 +186,7 @@ pub fn fix_refusal(
     factor_coeffs: &[f64],
     column: usize,
     value: f64,
-) -> Refusal
+) -> Option<fix_rules::FixAnswer>
     ensures { result ≡ fix_refusal
         (plan_of columns rows entries budget tolerance costs.now lowers.now
         uppers.now starts.now cols.now coeffs.now ops.now
@@ -220,13 +214,13 @@ pub fn fix_refusal(
         factor_coeffs,
         column,
     );
-    if let Refusal::By(answer) = refusal {
-        return Refusal::By(answer);
+    if let Some(answer) = refusal {
+        return Some(answer);
     }
     if !value_inside(lowers, uppers, column, value) {
-        return Refusal::By(fix_rules::FixAnswer::BadValue);
+        return Some(fix_rules::FixAnswer::BadValue);
     }
-    Refusal::Nothing
+    None
 }
 
 pub fn unfix_refusal(
@@ -249,7 +243,7 @@ pub fn unfix_refusal(
     factor_numbers: &[usize],
     factor_coeffs: &[f64],
     column: usize,
-) -> Refusal
+) -> Option<fix_rules::FixAnswer>
     ensures { result ≡ unfix_refusal
         (plan_of columns rows entries budget tolerance costs.now lowers.now
         uppers.now starts.now cols.now coeffs.now ops.now
@@ -277,11 +271,11 @@ pub fn unfix_refusal(
         factor_coeffs,
         column,
     );
-    if let Refusal::By(answer) = refusal {
-        return Refusal::By(answer);
+    if let Some(answer) = refusal {
+        return Some(answer);
     }
     if !is_fixed(columns, numbers, column) {
-        return Refusal::By(fix_rules::FixAnswer::NotFixed);
+        return Some(fix_rules::FixAnswer::NotFixed);
     }
-    Refusal::Nothing
+    None
 }

@@ -27,14 +27,7 @@ fn flags_fine(n: usize, flags: &[usize]) -> bool
     requires { n ≤ length flags.now }
     ensures { result ≡ flags_fine n flags.now }
 {
-    let mut c = 0;
-    while c < n {
-        if !known_flags(flags[c]) {
-            return false;
-        }
-        c += 1;
-    }
-    true
+    flags[..n].iter().all(|&x| known_flags(x))
 }
 
 // Whether the eta store of m rows, with so many columns and entries, keeps to its limits.

@@ -39,14 +39,7 @@ fn diagonal_fine(m: usize, diag: &[f64]) -> bool
     requires { m ≤ length diag.now }
     ensures { result ≡ diagonal_fine m diag.now }
 {
-    let mut i = 0;
-    while i < m {
-        if doubles::under_eps(diag[i]) {
-            return false;
-        }
-        i += 1;
-    }
-    true
+    diag[..m].iter().all(|&x| !doubles::under_eps(x))
 }
 
 // The four parts, where they stand in the two arrays.

@@ -14,8 +14,6 @@ ghost use Rattle.fix_rules.specs.Fix.{shift_finite_by};
 ghost use Rattle.fix_move.specs.Lent.{Moves};
 ghost use Rattle.fix_move.specs.Shift.{shift_left};
 
-use step_refactor::Went;
-
 // docs/RULES-02.md: "each listed row's basic value loses diff * its entry, in listed order; the objective gains diff *
 // price. They are finite, else 23".
 fn shift_finite(
@@ -60,7 +58,7 @@ pub fn shift(
     ccoeffs: &[f64],
     col: usize,
     value: f64,
-) -> Went
+) -> Result<state::Tally, rules::Stop>
     requires { Moves n kept.now cstarts.now crows.now ccoeffs.now numbers.old doubles.old
         factor_numbers.now factor_coeffs.now at × (col < n) }
     ensures { (starts cols : List ℕ) (coeffs : List Float) → ByColumns
@@ -90,10 +88,10 @@ pub fn shift(
         col,
     );
     if !sparse::listed_finite(&values, &list, count) {
-        return Went::Stops(rules::Stop::NotFinite);
+        return Err(rules::Stop::NotFinite);
     }
     if !shift_finite(doubles, at, &values, &list, count, col, value) {
-        return Went::Stops(rules::Stop::NotFinite);
+        return Err(rules::Stop::NotFinite);
     }
-    Went::On(fix_store::store_shift(numbers, doubles, at, &values, &list, count, col, value))
+    Ok(fix_store::store_shift(numbers, doubles, at, &values, &list, count, col, value))
 }

@@ -2,10 +2,10 @@
 -- whole. Assumes nothing.
 use mathlib.Core.Path.{◌≡◌, refl, sym, ap, ◌∙◌}
 use mathlib.Core.Bool.{true, false}
-use mathlib.Core.List.{List, ◌++◌, append_assoc, append-nil}
+use mathlib.Core.List.{List, ◌++◌, append_assoc}
 use Prim.Native.Nat.{ℕ, ◌+◌, ◌-◌, ◌≤◌}
 use native.Mathlib.Omega.{arith}
-use lib.ListN.{length, take, drop, length-append, length-drop, take-append-drop, drop_of_length-le}
+use lib.ListN.{length, take, drop, length-append, length-drop, take-append-drop}
 use lib.Seq.{length-take-le, drop_at, drop-drop}
 use lib.Ieee.{Float}
 use Rattle.doubles.specs.Limits.{max_rows, max_tri_entries}
@@ -27,12 +27,6 @@ use Rattle.fix_rules.specs.Kept.{factor_in, factor_fine, kept_by}
 use Rattle.fix_rules.proofs.Kept.{lower_told, upper_told, exact}
 
 module _ {A : Type 0} where
-  -- a list written over one as long
-  pub copied : (xs l : List A) {ys : List A} → ys ≡ written 0 xs l → length xs ≡ length l → ys ≡ xs
-  copied xs l e h =
-      let past : length l ≤ 0 + length xs = omega (arith, h) in
-      e ∙ ap (λ (t : List A). xs ++ t) (drop_of_length-le l past) ∙ append-nil xs
-
   -- a part written where it stands
   itself : (a b : ℕ) (l : List A) → a ≤ b → b ≤ length l → l ≡ written a (part a b l) l
   itself a b l h g =

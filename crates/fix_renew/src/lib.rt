@@ -23,9 +23,9 @@ fn copy_matrix(
     ensures { matrix starts.new rows.new vals.new
         ≡ matrix s.now r.now v.now }
 {
-    lu_packed::put_numbers(s, 0, starts);
-    lu_packed::put_numbers(r, 0, rows);
-    lu_packed::put_coeffs(v, 0, vals);
+    starts.copy_from_slice(s);
+    rows.copy_from_slice(r);
+    vals.copy_from_slice(v);
 }
 
 // The transposes of L and U over whatever stands at their places.

@@ -12,11 +12,8 @@ use Rattle.rules.specs.Kinds.{Kind, dual, primal}
 use Rattle.rules.specs.Conditions.{Ends, StopsWith, DualStopsBy}
 use Rattle.rules.specs.Steps.{Steps, none, one_dual, turns, one_more}
 use Rattle.rules.specs.declared.Entering.{Entering}
-use Rattle.rules.specs.declared.Choice.{Choice}
-use Rattle.rules.specs.declared.Choice.TheVariants.{Enters, Nothing}
+use Rattle.std.specs.Prelude.{Option, Some, None}
 use Rattle.rules.specs.declared.LeavingVar.{LeavingVar}
-use Rattle.rules.specs.declared.RowChoice.{RowChoice}
-use Rattle.rules.specs.declared.RowChoice.TheVariants.{Leaves, Nothing as Row-as-Nothing}
 use Rattle.rules.specs.declared.Stop.{Stop}
 use Rattle.rules.specs.declared.Stop.TheVariants.{Finished, Spent, Unbounded, NotFinite, Singular, Infeasible}
 use Rattle.rules.proofs.Stops.{step_stops}
@@ -36,7 +33,7 @@ module _ (P : Problem) (s₀ : State) (b : Kind) where
   here {c = c} {k = k} r l h = record { kind = c; count = k; by_steps = r; within = l; ends = h }
 
   -- ---- primal steps
-  halted : (k : ℕ) (s : State) (e : Entering) → Steps P s₀ b primal k s → choose P s.ws ≡ Enters e
+  halted : (k : ℕ) (s : State) (e : Entering) → Steps P s₀ b primal k s → choose P s.ws ≡ Some e
       → s.steps < budget → (w : Stop)
       → step P s e ≡ stopped w → Goes (ended w s)
   unfolding Ends StopsWith
@@ -55,23 +52,23 @@ module _ (P : Problem) (s₀ : State) (b : Kind) where
   unfolding until next at_budget Ends
   primal_goes zero k s r h = go (choose P s.ws) refl
     where
-      go : (x : Choice) → choose P s.ws ≡ x → Goes (until (next P) (at_budget P) 0 s)
-      go Nothing q = rw (q, at_budget) (here r (omega arith) q)
-      go (Enters e) q = rw (q, at_budget) (here r (omega arith) (e, q, omega arith))
+      go : (x : Option Entering) → choose P s.ws ≡ x → Goes (until (next P) (at_budget P) 0 s)
+      go None q = rw (q, at_budget) (here r (omega arith) q)
+      go (Some e) q = rw (q, at_budget) (here r (omega arith) (e, q, omega arith))
   primal_goes (suc n) k s r h = go (primal_goes n) (choose P s.ws) refl
     where
-      turn : Primal n → (e : Entering) → choose P s.ws ≡ Enters e → (o : Outcome) → step P s e ≡ o
+      turn : Primal n → (e : Entering) → choose P s.ws ≡ Some e → (o : Outcome) → step P s e ≡ o
           → Goes (until (next P) (at_budget P) (suc n) s)
       turn rest e q (moved i t) z =
           rw (q, z, until, next) (rest (suc k) t (one_more e i r q z) (omega (arith, step_counts P s e i t z)))
       turn rest e q (stopped w) z = rw (q, z, until, next) (halted k s e r q (omega arith) w z)
 
-      go : Primal n → (x : Choice) → choose P s.ws ≡ x → Goes (until (next P) (at_budget P) (suc n) s)
-      go rest Nothing q = rw (q, until, next) (here r (omega arith) q)
-      go rest (Enters e) q = turn rest e q (step P s e) refl
+      go : Primal n → (x : Option Entering) → choose P s.ws ≡ x → Goes (until (next P) (at_budget P) (suc n) s)
+      go rest None q = rw (q, until, next) (here r (omega arith) q)
+      go rest (Some e) q = turn rest e q (step P s e) refl
 
   -- ---- dual steps, and the primal ones behind them
-  dual_halted : (k : ℕ) (s : State) (l : LeavingVar) → Steps P s₀ b dual k s → choose_row P s.ws ≡ Leaves l
+  dual_halted : (k : ℕ) (s : State) (l : LeavingVar) → Steps P s₀ b dual k s → choose_row P s.ws ≡ Some l
       → s.steps < budget → (w : Stop)
       → dual_step P s l ≡ stopped w → Goes (then_primal P budget (ended w s))
   unfolding Ends DualStopsBy
@@ -84,7 +81,7 @@ module _ (P : Problem) (s₀ : State) (b : Kind) where
       here r (omega arith) (l, q, h, (dual_stops_exactly P s l (Infeasible i)).0 z)
 
   -- no row leaves: they turn
-  turned : (k : ℕ) (s : State) → Steps P s₀ b dual k s → choose_row P s.ws ≡ Row-as-Nothing → s.steps ≤ budget
+  turned : (k : ℕ) (s : State) → Steps P s₀ b dual k s → choose_row P s.ws ≡ None → s.steps ≤ budget
       → Goes (then_primal P budget (ended Finished s))
   unfolding run_of
   turned k s r q l = primal_goes (budget - s.steps) k s (turns r q) (omega arith)
@@ -99,20 +96,20 @@ module _ (P : Problem) (s₀ : State) (b : Kind) where
   unfolding until dual_next dual_at_budget Ends
   dual_goes zero k s r h = go (choose_row P s.ws) refl
     where
-      go : (x : RowChoice) → choose_row P s.ws ≡ x → Goes (both 0 s)
-      go Row-as-Nothing q = rw (q, dual_at_budget) (turned k s r q (omega arith))
-      go (Leaves l) q = rw (q, dual_at_budget) (here r (omega arith) (l, q, omega arith))
+      go : (x : Option LeavingVar) → choose_row P s.ws ≡ x → Goes (both 0 s)
+      go None q = rw (q, dual_at_budget) (turned k s r q (omega arith))
+      go (Some l) q = rw (q, dual_at_budget) (here r (omega arith) (l, q, omega arith))
   dual_goes (suc n) k s r h = go (dual_goes n) (choose_row P s.ws) refl
     where
-      turn : Dual n → (l : LeavingVar) → choose_row P s.ws ≡ Leaves l → (o : Outcome) → dual_step P s l ≡ o
+      turn : Dual n → (l : LeavingVar) → choose_row P s.ws ≡ Some l → (o : Outcome) → dual_step P s l ≡ o
           → Goes (both (suc n) s)
       turn rest l q (moved i t) z =
           rw (q, z, until, dual_next) (rest (suc k) t (one_dual l i r q z) (omega (arith, dual_counts P s l i t z)))
       turn rest l q (stopped w) z = rw (q, z, until, dual_next) (dual_halted k s l r q (omega arith) w z)
 
-      go : Dual n → (x : RowChoice) → choose_row P s.ws ≡ x → Goes (both (suc n) s)
-      go rest Row-as-Nothing q = rw (q, until, dual_next) (turned k s r q (omega arith))
-      go rest (Leaves l) q = turn rest l q (dual_step P s l) refl
+      go : Dual n → (x : Option LeavingVar) → choose_row P s.ws ≡ x → Goes (both (suc n) s)
+      go rest None q = rw (q, until, dual_next) (turned k s r q (omega arith))
+      go rest (Some l) q = turn rest l q (dual_step P s l) refl
 
 -- "primal steps until no column enters", with the budget from 0
 pub run_goes : (P : Problem) (s : State) → s.steps ≡ 0 → GoesOn P s primal (run_of P P.plan.budget s)

@@ -25,7 +25,7 @@ use Rattle.rules.specs.Invariant.{ProblemFits, Fits}
 use Rattle.rules.specs.Steps.{Steps, none, one_dual, turns, one_more}
 use Rattle.rules.specs.declared.NonBasicVarState.{NonBasicVarState}
 use Rattle.rules.specs.declared.Entering.{Entering}
-use Rattle.rules.specs.declared.Choice.TheVariants.{Enters}
+use Rattle.std.specs.Prelude.{Some}
 use Rattle.rules.specs.declared.LeavingVar.{LeavingVar}
 use Rattle.rules.specs.declared.DualRatio.TheVariants.{Exchange as Dual-as-Exchange}
 use Rattle.rules.specs.declared.PivotInfo.{PivotInfo}
@@ -65,7 +65,7 @@ module _ (P : Problem) (w : Workspace) (c : ℕ) (mark : w.flags # c ≡ 7) wher
   held_there = ap flags_of mark ∙ seven
 
   -- by no primal step
-  pub never_enters : (e : Entering) → choose P w ≡ Enters e → ¬ (e.col ≡ c)
+  pub never_enters : (e : Entering) → choose P w ≡ Some e → ¬ (e.col ≡ c)
   never_enters e q same =
       let a = (enters_exactly P w e).0 q in
       let price : Float = w.prices ! e.col in
@@ -204,7 +204,7 @@ module _ (P : Problem) (s : State) (f : Fits P s) (e : Entering) (column : Sv) (
 
 -- ---- a step of either kind: what is at another place than the entering one stays, and no mark comes
 module _ (P : Problem) (p : ProblemFits P) (s : State) (f : Fits P s) where
-  module _ (e : Entering) (q : choose P s.ws ≡ Enters e) (t : State) where
+  module _ (e : Entering) (q : choose P s.ws ≡ Some e) (t : State) where
     abbrev below : e.col < n_of P
     below = enters_below P s.ws e q
 
@@ -224,13 +224,13 @@ module _ (P : Problem) (p : ProblemFits P) (s : State) (f : Fits P s) where
         let x = exchange_stored P s e (step_column P s e) value diff row coeff leaving t m.after in
         (exchange_held P s f e.col row leaving below hr t x, exchange_free P s f e.col row leaving below hr t x)
 
-  step_held : (e : Entering) → choose P s.ws ≡ Enters e → (i : PivotInfo) (t : State) → step P s e ≡ moved i t
+  step_held : (e : Entering) → choose P s.ws ≡ Some e → (i : PivotInfo) (t : State) → step P s e ≡ moved i t
       → (j c : ℕ) (x : Float)
       → Held P s.ws j c x → Held P t.ws j c x
   step_held e q i t z j c x h =
       (by_kind e q t i ((moves_exactly P s e i t).0 z)).0 j c x (never_enters P s.ws c h.mark e q) h
 
-  step_free : (e : Entering) → choose P s.ws ≡ Enters e → (i : PivotInfo) (t : State) → step P s e ≡ moved i t
+  step_free : (e : Entering) → choose P s.ws ≡ Some e → (i : PivotInfo) (t : State) → step P s e ≡ moved i t
       → (j : ℕ)
       → j < n_of P + m_of P → Free P s.ws j → Free P t.ws j
   step_free e q i t z = (by_kind e q t i ((moves_exactly P s e i t).0 z)).1

@@ -34,7 +34,7 @@ use Rattle.rules.specs.Step.{step, dual_step_by, moved}
 use Rattle.rules.specs.Invariant.{ProblemFits, Fits, Sound}
 use Rattle.rules.specs.declared.NonBasicVarState.{NonBasicVarState}
 use Rattle.rules.specs.declared.Entering.{Entering}
-use Rattle.rules.specs.declared.Choice.TheVariants.{Enters}
+use Rattle.std.specs.Prelude.{Some}
 use Rattle.rules.specs.declared.LeavingVar.{LeavingVar}
 use Rattle.rules.specs.declared.PivotInfo.{PivotInfo}
 use Rattle.rules.proofs.Lists.{set_either, over_at}
@@ -176,7 +176,7 @@ module _ (P : Problem) (p : ProblemFits P) (s : State) (h : Honest P s) where
             x.stores;
       }
 
-  pub step_honest : (e : Entering) → choose P s.ws ≡ Enters e → (i : PivotInfo) (t : State) → step P s e ≡ moved i t
+  pub step_honest : (e : Entering) → choose P s.ws ≡ Some e → (i : PivotInfo) (t : State) → step P s e ≡ moved i t
       → Honest P t
   unfolding flipped
   step_honest e enters i t q =

@@ -8,11 +8,8 @@ use Rattle.rules.specs.DualRow.{choose_row}
 use Rattle.rules.specs.Step.{Outcome, moved, stopped, step, dual_step, Ended, ended, next, at_budget, run_of}
 use Rattle.rules.specs.Step.{dual_next, dual_at_budget, dual_run_of, then_primal, both_runs}
 use Rattle.rules.specs.declared.Entering.{Entering}
-use Rattle.rules.specs.declared.Choice.{Choice}
-use Rattle.rules.specs.declared.Choice.TheVariants.{Enters, Nothing}
+use Rattle.std.specs.Prelude.{Option, Some, None}
 use Rattle.rules.specs.declared.LeavingVar.{LeavingVar}
-use Rattle.rules.specs.declared.RowChoice.{RowChoice}
-use Rattle.rules.specs.declared.RowChoice.TheVariants.{Leaves, Nothing as Row-as-Nothing}
 use Rattle.rules.specs.declared.PivotInfo.{PivotInfo}
 use Rattle.rules.specs.declared.Stop.{Stop}
 use Rattle.rules.specs.declared.Stop.TheVariants.{Finished, Spent, Unbounded, NotFinite, Singular, Infeasible}
@@ -36,7 +33,7 @@ module _ {S R : Type 0} (turn : S → Next S R) (last : S → R) (Q : S → Type
 
 -- ---- the runs
 module _ (P : Problem) (Q : State → Type 0)
-    (by_step : (s : State) → Q s → (e : Entering) → choose P s.ws ≡ Enters e → (i : PivotInfo) (t : State)
+    (by_step : (s : State) → Q s → (e : Entering) → choose P s.ws ≡ Some e → (i : PivotInfo) (t : State)
     → step P s e ≡ moved i t → Q t) where
   abbrev Ends : Ended → Type 0
   Ends e = Q e.state
@@ -45,49 +42,49 @@ module _ (P : Problem) (Q : State → Type 0)
   unfolding next
   primal_turn s q = go (choose P s.ws) refl
     where
-      turn : (e : Entering) → choose P s.ws ≡ Enters e → (o : Outcome) → step P s e ≡ o
+      turn : (e : Entering) → choose P s.ws ≡ Some e → (o : Outcome) → step P s e ≡ o
           → Turned (next P) (at_budget P) Q Ends (elim o [ moved i t ↦ more t | stopped w ↦ done (ended w s) ])
       turn e c (moved i t) h = by_step s q e c i t h
       turn e c (stopped w) h = q
 
-      go : (c : Choice) → choose P s.ws ≡ c → Turned (next P) (at_budget P) Q Ends (next P s)
-      go Nothing c = rw (c, next) q
-      go (Enters e) c = rw (c, next) (turn e c (step P s e) refl)
+      go : (c : Option Entering) → choose P s.ws ≡ c → Turned (next P) (at_budget P) Q Ends (next P s)
+      go None c = rw (c, next) q
+      go (Some e) c = rw (c, next) (turn e c (step P s e) refl)
 
   primal_last : (s : State) → Q s → Ends (at_budget P s)
   unfolding at_budget
   primal_last s q = go (choose P s.ws)
     where
-      go : (c : Choice) → Ends (elim c [ Nothing ↦ ended Finished s | Enters e ↦ ended Spent s ])
-      go Nothing = q
-      go (Enters e) = q
+      go : (c : Option Entering) → Ends (elim c [ None ↦ ended Finished s | Some e ↦ ended Spent s ])
+      go None = q
+      go (Some e) = q
 
   pub run_keeps : (k : ℕ) (s : State) → Q s → Q (run_of P k s).state
   unfolding run_of
   run_keeps k s q = until_keeps (next P) (at_budget P) Q Ends primal_turn primal_last k s q
 
-  module _ (by-dual : (s : State) → Q s → (l : LeavingVar) → choose_row P s.ws ≡ Leaves l
+  module _ (by-dual : (s : State) → Q s → (l : LeavingVar) → choose_row P s.ws ≡ Some l
       → (i : PivotInfo) (t : State) → dual_step P s l ≡ moved i t → Q t) where
     dual_turn : (s : State) → Q s → Turned (dual_next P) (dual_at_budget P) Q Ends (dual_next P s)
     unfolding dual_next
     dual_turn s q = go (choose_row P s.ws) refl
       where
-        turn : (l : LeavingVar) → choose_row P s.ws ≡ Leaves l → (o : Outcome) → dual_step P s l ≡ o
+        turn : (l : LeavingVar) → choose_row P s.ws ≡ Some l → (o : Outcome) → dual_step P s l ≡ o
             → Turned (dual_next P) (dual_at_budget P) Q Ends (elim o [ moved i t ↦ more t | stopped w ↦ done (ended w s) ])
         turn l c (moved i t) h = by-dual s q l c i t h
         turn l c (stopped w) h = q
 
-        go : (c : RowChoice) → choose_row P s.ws ≡ c → Turned (dual_next P) (dual_at_budget P) Q Ends (dual_next P s)
-        go Row-as-Nothing c = rw (c, dual_next) q
-        go (Leaves l) c = rw (c, dual_next) (turn l c (dual_step P s l) refl)
+        go : (c : Option LeavingVar) → choose_row P s.ws ≡ c → Turned (dual_next P) (dual_at_budget P) Q Ends (dual_next P s)
+        go None c = rw (c, dual_next) q
+        go (Some l) c = rw (c, dual_next) (turn l c (dual_step P s l) refl)
 
     dual_last : (s : State) → Q s → Ends (dual_at_budget P s)
     unfolding dual_at_budget
     dual_last s q = go (choose_row P s.ws)
       where
-        go : (c : RowChoice) → Ends (elim c [ Row-as-Nothing ↦ ended Finished s | Leaves l ↦ ended Spent s ])
-        go Row-as-Nothing = q
-        go (Leaves l) = q
+        go : (c : Option LeavingVar) → Ends (elim c [ None ↦ ended Finished s | Some l ↦ ended Spent s ])
+        go None = q
+        go (Some l) = q
 
     then_keeps : (k : ℕ) (w : Stop) (t : State) → Q t → Ends (then_primal P k (ended w t))
     then_keeps k Finished t q = run_keeps (k - t.steps) t q

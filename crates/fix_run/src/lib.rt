@@ -14,7 +14,6 @@ ghost use Rattle.fix_rules.specs.Fix as Fix;
 ghost use Rattle.fix_basic.specs.Lent.{called_of};
 
 use run::Ran;
-use step_refactor::Went;
 
 // docs/RULES-02.md: "Non-basic, at place c": the move, then dual steps and primal ones.
 fn fix_non_basic(
@@ -64,10 +63,10 @@ fn fix_non_basic(
         value,
     );
     match went {
-        Went::Stops(why) => {
+        Err(why) => {
             return Ran { why, at };
         }
-        Went::On(shifted) => {
+        Ok(shifted) => {
             return run_dual::both(
                 numbers,
                 doubles,

@@ -29,11 +29,8 @@ fn put_plain(
         to_list.old count) }
 {
     let mut c = count;
-    let mut k = 0;
-    while k < n {
-        let i = list[k];
+    for &i in &list[..n] {
         c = sparse::put_at(to_values, to_marks, to_list, c, i, values[i]);
-        k += 1;
     }
     c
 }
@@ -55,11 +52,8 @@ fn put_mapped(
         (sv to_values.old to_marks.old to_list.old count) }
 {
     let mut c = count;
-    let mut k = 0;
-    while k < n {
-        let i = list[k];
+    for &i in &list[..n] {
         c = sparse::put_at(to_values, to_marks, to_list, c, at[i], values[i]);
-        k += 1;
     }
     c
 }

@@ -43,12 +43,10 @@ pub fn starts_ok(size: usize, entries: usize, starts: &[usize]) -> bool
     if starts[size] != entries {
         return false;
     }
-    let mut j = 0;
-    while j < size {
+    for j in 0..size {
         if starts[j + 1] < starts[j] {
             return false;
         }
-        j += 1;
     }
     true
 }
@@ -70,14 +68,10 @@ fn column_ok(lower: bool, size: usize, starts: &[usize], rows: &[usize], col: us
     requires { (col < size) × Readable (shape lower size starts.now rows.now) }
     ensures { result ≡ ok_column (shape lower size starts.now rows.now) col }
 {
-    let first = starts[col];
-    let many = starts[col + 1] - first;
-    let mut k = 0;
-    while k < many {
-        if !row_ok(lower, size, col, rows[first + k]) {
+    for &row in &rows[starts[col]..starts[col + 1]] {
+        if !row_ok(lower, size, col, row) {
             return false;
         }
-        k += 1;
     }
     true
 }
@@ -86,12 +80,10 @@ pub fn rows_ok(lower: bool, size: usize, starts: &[usize], rows: &[usize]) -> bo
     requires { Readable (shape lower size starts.now rows.now) }
     ensures { result ≡ ok_rows (shape lower size starts.now rows.now) }
 {
-    let mut col = 0;
-    while col < size {
+    for col in 0..size {
         if !column_ok(lower, size, starts, rows, col) {
             return false;
         }
-        col += 1;
     }
     true
 }
@@ -104,12 +96,10 @@ fn diag_ok(size: usize, has_diag: bool, diag: &[f64]) -> bool
     if !has_diag {
         return true;
     }
-    let mut j = 0;
-    while j < size {
-        if diag[j] == 0.0 {
+    for &d in &diag[..size] {
+        if d == 0.0 {
             return false;
         }
-        j += 1;
     }
     true
 }
@@ -155,12 +145,10 @@ pub fn all_finite(xs: &[f64], n: usize) -> bool
     requires { n ≤ length xs.now }
     ensures { result ≡ all n (finite_at xs.now) }
 {
-    let mut i = 0;
-    while i < n {
-        if !doubles::is_finite(xs[i]) {
+    for &x in &xs[..n] {
+        if !doubles::is_finite(x) {
             return false;
         }
-        i += 1;
     }
     true
 }
@@ -193,12 +181,10 @@ pub fn listed_ok(size: usize, list: &[usize], listed: usize, values: &[f64]) -> 
     requires { (size ≤ length values.now) × (listed ≤ length list.now) }
     ensures { result ≡ ok_held size list.now listed values.now }
 {
-    let mut k = 0;
-    while k < listed {
-        if !held_ok(size, values, list[k]) {
+    for &place in &list[..listed] {
+        if !held_ok(size, values, place) {
             return false;
         }
-        k += 1;
     }
     true
 }
@@ -209,9 +195,7 @@ pub fn list_ok(size: usize, list: &[usize], listed: usize) -> bool
     ensures { result ≡ ok_list size list.now listed }
 {
     let mut marks = [false; doubles::MAX_ROWS];
-    let mut k = 0;
-    while k < listed {
-        let i = list[k];
+    for &i in &list[..listed] {
         if size <= i {
             return false;
         }
@@ -219,7 +203,6 @@ pub fn list_ok(size: usize, list: &[usize], listed: usize) -> bool
             return false;
         }
         marks[i] = true;
-        k += 1;
     }
     true
 }

@@ -19,13 +19,10 @@ fn listed_finite(
     requires { Rows max_rows count list.now }
     ensures { result ≡ listed_finite values.now list.now count }
 {
-    let mut k = 0;
-    while k < count {
-        let i = list[k];
+    for &i in &list[..count] {
         if !doubles::is_finite(values[i]) {
             return false;
         }
-        k += 1;
     }
     true
 }
@@ -56,11 +53,8 @@ fn choose(
     ensures { result ≡ chosen number.now i values.now list.now count }
 {
     let mut b = Best { row: 0, most: 0.0 };
-    let mut k = 0;
-    while k < count {
-        let r = list[k];
+    for &r in &list[..count] {
         b = better(number, i, r, values[r], b);
-        k += 1;
     }
     b
 }
@@ -133,13 +127,10 @@ fn gather(
 {
     let pivot = values[row];
     let mut c = from;
-    let mut k = 0;
-    while k < count {
-        let r = list[k];
+    for &r in &list[..count] {
         c = gather_one(
             number, i, row, pivot, r, values[r], lrows, lvals, urows, uvals, c,
         );
-        k += 1;
     }
     c
 }

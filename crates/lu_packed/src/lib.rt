@@ -86,22 +86,11 @@ pub fn solve_transp(
 }
 
 // An array over the cells of `to` from `at` on.
-pub fn put_numbers(from: &[usize], at: usize, to: &mut [usize])
+pub fn put<T: Copy>(from: &[T], at: usize, to: &mut [T])
     requires { at + length from.now ≤ length to.old }
     ensures { to.new ≡ written at from.now to.old }
 {
-    for k in 0..from.len() {
-        to[at + k] = from[k];
-    }
-}
-
-pub fn put_coeffs(from: &[f64], at: usize, to: &mut [f64])
-    requires { at + length from.now ≤ length to.old }
-    ensures { to.new ≡ written at from.now to.old }
-{
-    for k in 0..from.len() {
-        to[at + k] = from[k];
-    }
+    to[at..at + from.len()].copy_from_slice(from);
 }
 
 // A matrix's three arrays at their places.
@@ -122,9 +111,9 @@ fn put_matrix(
     ensures starts_len { (length starts.now ≡ max_rows + 1) × (length rows.now ≡ max_tri_entries) ×
         (length vals.now ≡ max_tri_entries) }
 {
-    put_numbers(starts, starts_at, numbers);
-    put_numbers(rows, rows_at, numbers);
-    put_coeffs(vals, vals_at, coeffs);
+    put(starts, starts_at, numbers);
+    put(rows, rows_at, numbers);
+    put(vals, vals_at, coeffs);
 }
 
 // A matrix's transpose at its places.
@@ -177,8 +166,8 @@ pub fn store(
         lstarts.now ustarts.now diag.now lrows.now lvals.now
         urows.now uvals.now) coeffs.old }
 {
-    put_numbers(order, lu_factor_rules::ORDER, numbers);
-    put_numbers(number, lu_factor_rules::NUMBER, numbers);
+    put(order, lu_factor_rules::ORDER, numbers);
+    put(number, lu_factor_rules::NUMBER, numbers);
     put_matrix(
         lstarts,
         lrows,
@@ -221,5 +210,5 @@ pub fn store(
         numbers,
         coeffs,
     );
-    put_coeffs(diag, lu_factor_rules::DIAG, coeffs);
+    put(diag, lu_factor_rules::DIAG, coeffs);
 }

@@ -23,11 +23,8 @@ fn grow(
         (pat marks.old list.old count) }
 {
     let mut c = count;
-    let mut k = 0;
-    while k < n {
-        let r = done[k];
+    for &r in &done[..n] {
         c = sparse::touch(marks, list, c, r);
-        k += 1;
     }
     c
 }
@@ -85,9 +82,7 @@ fn reduce(
         (state v done.now n) (sv values.old marks.old list.old count) }
 {
     let mut c = count;
-    let mut k = n;
-    while 0 < k {
-        k -= 1;
+    for k in (0..n).rev() {
         let row = done[k];
         c = reduce_row(
             m, number, i, starts, rows, vals, row, values, marks, list, c,

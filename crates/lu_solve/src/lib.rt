@@ -43,14 +43,10 @@ fn process_col(
 {
     let x = own(values, has_diag, diag, col);
     values[col] = x;
-    let first = starts[col];
-    let many = starts[col + 1] - first;
-    let mut k = 0;
-    while k < many {
-        let r = rows[first + k];
-        let off = x * vals[first + k];
+    for k in starts[col]..starts[col + 1] {
+        let r = rows[k];
+        let off = x * vals[k];
         values[r] = values[r] - off;
-        k += 1;
     }
 }
 
@@ -90,10 +86,8 @@ fn dense_lower(
         (tri true size starts.now rows.now vals.now has_diag diag.now))
         size values.old }
 {
-    let mut col = 0;
-    while col < size {
+    for col in 0..size {
         process_col(true, size, starts, rows, vals, has_diag, diag, col, values);
-        col += 1;
     }
 }
 
@@ -111,9 +105,7 @@ fn dense_upper(
         (tri false size starts.now rows.now vals.now has_diag diag.now))
         size values.old }
 {
-    let mut col = size;
-    while 0 < col {
-        col -= 1;
+    for col in (0..size).rev() {
         process_col(false, size, starts, rows, vals, has_diag, diag, col, values);
     }
 }
@@ -124,11 +116,8 @@ fn mark_listed(list: &[usize], listed: usize, marks: &mut [bool; doubles::MAX_RO
     requires marks_value { marks.old ≡ replicate max_rows false }
     ensures { marks.new ≡ given list.now listed }
 {
-    let mut k = 0;
-    while k < listed {
-        let i = list[k];
+    for &i in &list[..listed] {
         marks[i] = true;
-        k += 1;
     }
 }
 
@@ -146,10 +135,8 @@ fn zero_rest(marks: &[bool; doubles::MAX_ROWS], size: usize, values: &mut [f64])
     requires { (size ≤ max_rows) × (size ≤ length values.old) }
     ensures { values.new ≡ zeroed marks.now size values.old }
 {
-    let mut i = 0;
-    while i < size {
-        values[i] = held(marks[i], values[i]);
-        i += 1;
+    for (i, x) in values[..size].iter_mut().enumerate() {
+        *x = held(marks[i], *x);
     }
 }
 
@@ -172,9 +159,7 @@ fn process_all(
         (tri lower size starts.now rows.now vals.now has_diag diag.now)
         done.now count values.old }
 {
-    let mut k = count;
-    while 0 < k {
-        k -= 1;
+    for k in (0..count).rev() {
         let col = done[k];
         process_col(lower, size, starts, rows, vals, has_diag, diag, col, values);
     }
@@ -207,10 +192,8 @@ fn grow(
         ≡ grown done.now count (pat marks.old list.old listed) }
 {
     let mut n = listed;
-    let mut k = 0;
-    while k < count {
-        n = touch(marks, list, n, done[k]);
-        k += 1;
+    for &i in &done[..count] {
+        n = touch(marks, list, n, i);
     }
     n
 }

@@ -16,7 +16,7 @@ use Rattle.doubles.specs.Loop.{run}
 use Rattle.doubles.specs.Lists.{◌#◌}
 use Rattle.doubles.proofs.Bools.{same?, last?}
 use Rattle.doubles.proofs.Loops.{keeps}
-use Rattle.lu_factor_rules.specs.Transpose.{count_turn, counted, sum_turn, summed, empty}
+use Rattle.lu_factor_rules.specs.Transpose.{count_turn, counted, sum_turn, empty}
 use Rattle.lu_transpose.specs.Means.{one, in_row, before_row}
 use Rattle.lu_transpose.specs.Read.{Summable}
 

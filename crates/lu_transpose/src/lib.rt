@@ -14,11 +14,8 @@ fn count_rows(rows: &[usize], n: usize, counts: &mut [usize; doubles::MAX_ROWS +
     requires { Countable n rows.now × (counts.old ≡ empty.starts) }
     ensures { counts.new ≡ counted rows.now n counts.old }
 {
-    let mut k = 0;
-    while k < n {
-        let r = rows[k];
-        counts[r] = counts[r] + 1;
-        k += 1;
+    for &r in &rows[..n] {
+        counts[r] += 1;
     }
 }
 
@@ -27,10 +24,8 @@ fn sum_up(m: usize, counts: &mut [usize; doubles::MAX_ROWS + 1])
     requires { Summable m counts.old }
     ensures { counts.new ≡ summed m counts.old }
 {
-    let mut r = 0;
-    while r < m {
-        counts[r + 1] = counts[r + 1] + counts[r];
-        r += 1;
+    for r in 0..m {
+        counts[r + 1] += counts[r];
     }
 }
 
@@ -69,12 +64,9 @@ fn place_column(
         ≡ placed_column (matrix starts.now rows.now vals.now) c
         (matrix tstarts.old trows.old tvals.old) }
 {
-    let first = starts[c];
-    let many = starts[c + 1] - first;
-    let mut k = 0;
-    while k < many {
-        place_one(c, rows[first + k], vals[first + k], tstarts, trows, tvals);
-        k += 1;
+    let (a, e) = (starts[c], starts[c + 1]);
+    for (&r, &x) in rows[a..e].iter().zip(&vals[a..e]) {
+        place_one(c, r, x, tstarts, trows, tvals);
     }
 }
 
@@ -94,10 +86,8 @@ fn place(
         ≡ placed m (matrix starts.now rows.now vals.now)
         (matrix tstarts.old trows.old tvals.old) }
 {
-    let mut c = 0;
-    while c < m {
+    for c in 0..m {
         place_column(starts, rows, vals, c, tstarts, trows, tvals);
-        c += 1;
     }
 }
 

@@ -51,10 +51,8 @@ pub fn visit(
     let number = at[place];
     let kids = many(bound, starts, number);
     let mut n = count;
-    let mut k = 0;
-    while k < kids {
+    for k in 0..kids {
         let child = rows[starts[number] + k];
-        k += 1;
         if marks[child] {
             continue;
         }
@@ -112,11 +110,8 @@ pub fn reach_in(
         list.now listed (state marks.old done.old 0) }
 {
     let mut n = 0;
-    let mut i = 0;
-    while i < listed {
-        let place = list[i];
+    for &place in &list[..listed] {
         n = enter(lower, size, at, bound, starts, rows, place, marks, done, n);
-        i += 1;
     }
     n
 }
@@ -126,10 +121,8 @@ fn own_numbers(size: usize, at: &mut [usize; doubles::MAX_ROWS])
     requires { size ≤ max_rows }
     ensures { at.new ≡ own_numbers size at.old }
 {
-    let mut p = 0;
-    while p < size {
+    for p in 0..size {
         at[p] = p;
-        p += 1;
     }
 }
 

@@ -1,5 +1,5 @@
 -- 01, "Night cases": the plans N1 to N4 as lent arrays, memory for them, and the kinds of the steps that the rules take. Assumes nothing.
-use Rattle.std.specs.Prelude.{true, false, List, [], ◌∷◌, ℕ, zero, suc, ◌+◌, pos, length, replicate, Float}
+use Rattle.std.specs.Prelude.{true, false, List, [], ◌∷◌, ℕ, zero, suc, ◌+◌, pos, length, replicate, Float, Some, None}
 use Rattle.std.specs.Float.{binary64}
 use Rattle.std.specs.Float.Ieee.{neg, of_bits, of_int}
 use Rattle.doubles.specs.Num.{f0, +inf}
@@ -10,8 +10,6 @@ use Rattle.rules.specs.Start.{start_state, dual_feasible}
 use Rattle.rules.specs.Choose.{choose}
 use Rattle.rules.specs.DualRow.{choose_row}
 use Rattle.rules.specs.Step.{step, dual_step, moved, stopped}
-use Rattle.rules.specs.declared.Choice.TheVariants.{Enters, Nothing}
-use Rattle.rules.specs.declared.RowChoice.TheVariants.{Leaves, Nothing as Row-as-Nothing}
 use Rattle.rules.specs.declared.PivotInfo.{PivotInfo}
 use Rattle.rules.specs.declared.PivotInfo.TheVariants.{Flip, Exchange}
 
@@ -101,16 +99,16 @@ unfoldable pub kinds_from : Problem → ℕ → State → List Kind
 kinds_from P zero s = []
 kinds_from P (suc k) s =
     elim (choose P s.ws) [
-      | Nothing ↦ []
-      | Enters e ↦ elim (step P s e) [ moved i t ↦ kind_of i ∷ kinds_from P k t | stopped w ↦ [] ]
+      | None ↦ []
+      | Some e ↦ elim (step P s e) [ moved i t ↦ kind_of i ∷ kinds_from P k t | stopped w ↦ [] ]
     ]
 
 unfoldable pub dual_kinds_from : Problem → ℕ → State → List Kind
 dual_kinds_from P zero s = []
 dual_kinds_from P (suc k) s =
     elim (choose_row P s.ws) [
-      | Row-as-Nothing ↦ kinds_from P (suc k) s
-      | Leaves l ↦ elim (dual_step P s l) [ moved i t ↦ exchanges_dually ∷ dual_kinds_from P k t | stopped w ↦ [] ]
+      | None ↦ kinds_from P (suc k) s
+      | Some l ↦ elim (dual_step P s l) [ moved i t ↦ exchanges_dually ∷ dual_kinds_from P k t | stopped w ↦ [] ]
     ]
 
 unfoldable pub kinds_of : Plan → ℕ → List Kind

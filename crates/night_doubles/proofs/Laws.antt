@@ -1,5 +1,5 @@
 -- Counts of the coefficients that aren't 0, and one more entry behind the others. Assumes nothing.
-use Rattle.std.proofs.Common.{◌≡◌, ℕ, zero, suc, ◌+◌, ◌-◌, ◌*◌, ◌<◌, ◌≤◌, Bool, true, false, not, List, [], ◌∷◌, ◌++◌, length, get_or, drop, set, replicate, ℤ, sym, refl, ap, ◌∙◌, suc-mul, add-one, arith, length-append, drop-cons, eq-eqb, ne_eqb}
+use Rattle.std.proofs.Common.{◌≡◌, ℕ, zero, suc, ◌+◌, ◌-◌, ◌*◌, ◌<◌, ◌≤◌, Bool, true, false, List, [], ◌∷◌, ◌++◌, length, get_or, drop, set, replicate, ℤ, sym, refl, ap, ◌∙◌, suc-mul, add-one, arith, length-append, drop-cons, eq-eqb, ne_eqb}
 use lib.ListN.{length-replicate}
 use lib.Seq.{set_at, append_snoc}
 use lib.Ieee.{Float}
@@ -18,22 +18,6 @@ use Rattle.night_rules.specs.Doubles.{as_double, bound_or, count_cell, entry_cel
 use Rattle.night_rules.specs.Doubles.{start_at, entries_to, entry_count, doubles_plan}
 use Rattle.night_doubles.specs.Laid.{cells_of, Blank, Laid, RowLaid}
 use Rattle.night_doubles.specs.Converted.{Converts, Zeroed, Long, converted}
-
--- ---- a turned test
-module _ {a b : Bool} (e : a ≡ b) where
-  pub was_true : not a ≡ true → b ≡ false
-  was_true h = go b (ap not (sym e) ∙ h)
-    where
-      go : (c : Bool) → not c ≡ true → c ≡ false
-      go true q = sym q
-      go false q = refl
-
-  pub was_false : not a ≡ false → b ≡ true
-  was_false h = go b (ap not (sym e) ∙ h)
-    where
-      go : (c : Bool) → not c ≡ false → c ≡ true
-      go true q = refl
-      go false q = sym q
 
 -- ---- bounds
 module _ (absent : Float) (mark : ℕ) (z : ℤ) where

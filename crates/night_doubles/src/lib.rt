@@ -18,12 +18,10 @@ fn row_entries(row: &[i64]) -> usize
     ensures { result ≡ nonzeros (λ j. row.now ‼ j) (length row.now) }
 {
     let mut k = 0;
-    let mut j = 0;
-    while j < row.len() {
-        if !sheet_terms::is_zero(row[j]) {
+    for &z in row {
+        if !sheet_terms::is_zero(z) {
             k += 1;
         }
-        j += 1;
     }
     k
 }
@@ -34,12 +32,10 @@ pub fn entries(rows: usize, columns: usize, coefs: &[i64]) -> usize
     ensures { result ≡ entry_count (cells_of rows columns coefs.now) }
 {
     let mut k = 0;
-    let mut i = 0;
-    while i < rows {
+    for i in 0..rows {
         let base = i * columns;
         let end = base + columns;
         k += row_entries(&coefs[base..end]);
-        i += 1;
     }
     k
 }
@@ -56,15 +52,12 @@ fn lay_row(
         (length row.now) result cols.new coeffs.new }
 {
     let mut k = at;
-    let mut j = 0;
-    while j < row.len() {
-        let z = row[j];
+    for (j, &z) in row.iter().enumerate() {
         if !sheet_terms::is_zero(z) {
             cols[k] = j;
             coeffs[k] = std::num::nearest_i64_to_f64(z);
             k += 1;
         }
-        j += 1;
     }
     k
 }
@@ -87,13 +80,11 @@ fn lay_rows(
         (entry_count (cells_of rows columns coefs.now)) cols.new coeffs.new }
 {
     let mut at = 0;
-    let mut i = 0;
-    while i < rows {
+    for i in 0..rows {
         starts[i] = at;
         let base = i * columns;
         let end = base + columns;
         at = lay_row(&coefs[base..end], at, cols, coeffs);
-        i += 1;
     }
     starts[rows] = at;
 }
@@ -103,10 +94,8 @@ fn numbers(n: usize, xs: &[i64], out: &mut [f64])
     requires { (n ≤ length xs.now) × (n ≤ length out.old) }
     ensures { out.new ≡ over (table n (λ j. as_double (xs.now ‼ j))) out.old }
 {
-    let mut j = 0;
-    while j < n {
+    for j in 0..n {
         out[j] = std::num::nearest_i64_to_f64(xs[j]);
-        j += 1;
     }
 }
 
@@ -125,10 +114,8 @@ fn bounds(n: usize, absent: f64, marks: &[u8], xs: &[i64], out: &mut [f64])
     ensures { out.new ≡ over (table n (λ j. bound_or absent (marks.now # j)
         (xs.now ‼ j))) out.old }
 {
-    let mut j = 0;
-    while j < n {
+    for j in 0..n {
         out[j] = bound_or(absent, marks[j], xs[j]);
-        j += 1;
     }
 }
 

@@ -17,7 +17,7 @@ fn store(audit: Audit, section: &[i64], whole: &mut [i64])
     ensures { whole.new ≡ stored audit section.now whole.old }
 {
     if night_second::is_judged(audit) {
-        night_rules::put_cells(section, night_rules::SECOND, whole);
+        lu_packed::put(section, night_rules::SECOND, whole);
     }
 }
 
@@ -37,13 +37,13 @@ fn hand_out(
     let audit = second.audit;
     store(audit, section, whole);
     if night_second::first_stands(audit) {
-        night_rules::put_cells(amounts, night_rules::HANDED, whole);
+        lu_packed::put(amounts, night_rules::HANDED, whole);
         return NightAnswer::FirstStands {
             first: first,
             second: second,
         };
     }
-    night_rules::put_cells(
+    lu_packed::put(
         &section[..night_rules::AMOUNTS_END],
         night_rules::HANDED,
         whole,
@@ -91,12 +91,12 @@ pub fn second_part(
         whole.old }
 {
     let mut amounts = [0i64; night_rules::AMOUNTS_END];
-    night_rules::put_cells(&whole[..night_rules::AMOUNTS_END], 0, &mut amounts);
+    lu_packed::put(&whole[..night_rules::AMOUNTS_END], 0, &mut amounts);
     night_second::lay_coefs(rows, columns, coefs, alarm_costs, whole);
     let mut sides = [0i64; doubles::MAX_ROWS];
-    night_second::lay_rhs(rows, rhs, found, &mut sides);
+    night_second::lay(rows, rhs, found, &mut sides);
     let mut comparisons = [0u8; doubles::MAX_ROWS];
-    night_second::lay_ops(rows, ops, &mut comparisons);
+    night_second::lay(rows, ops, 0, &mut comparisons);
     let more = rows + 1;
     let end = night_rules::COEFS + more * columns;
     let mut section = [0i64; night_rules::SECTION];

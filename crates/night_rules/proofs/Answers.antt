@@ -31,8 +31,7 @@ use Rattle.night_rules.specs.declared.NightAnswer.{NightAnswer}
 use Rattle.night_rules.specs.declared.NightAnswer.TheVariants.{ShortMemory, NoGap, RowsFull, EntriesFull}
 use Rattle.night_rules.specs.declared.NightAnswer.TheVariants.{CostBeyond}
 use Rattle.night_rules.specs.declared.NightAnswer.TheVariants.{FoundBeyond, FirstStands, Handed}
-use Rattle.night_rules.specs.declared.Next.{Next}
-use Rattle.night_rules.specs.declared.Next.TheVariants.{Stops, Goes}
+use Rattle.std.specs.Prelude.{Option, Some, None}
 use Rattle.night_rules.specs.Words.{first_stage, found, second_plan_of, second_stage, SizesIn, Long, ShowsGap}
 use Rattle.night_rules.specs.Words.{FirstBeyond, Stands, not_opened, not_plan, none_exists_holds, Opened}
 use Rattle.night_rules.specs.Words.{PastMemory, PastGap, PastRows, PastEntries, PastCosts, PastFound, Says}
@@ -225,14 +224,14 @@ module _ (n : NightPlan) (a : Arrays) (w : List ℤ) where
   same_answer (FirstStands g h) = refl
   same_answer (Handed g h) = refl
 
-  abbrev tests : Next
+  abbrev tests : Option NightAnswer
   tests = tests_after f.stage n.plan (found n a)
 
   first_only : PastMemory n a w → night_plan n a w ≡ after_first n f w
   unfolding night_plan
   first_only m = rw ((enough_exactly n a w).1 m, night_plan)
 
-  stops : PastMemory n a w → {r : NightAnswer} → tests ≡ Stops r → night_plan n a w ≡ called r f.arrays after_one
+  stops : PastMemory n a w → {r : NightAnswer} → tests ≡ Some r → night_plan n a w ≡ called r f.arrays after_one
   unfolding after_first
   stops m e = first_only m ∙ rw (e, after_first)
 
@@ -248,7 +247,7 @@ module _ (n : NightPlan) (a : Arrays) (w : List ℤ) where
   past_costs : PastCosts n a w → eqb (first_beyond n.plan) n.plan.cols ≡ true
   past_costs k = (eqb_holds _ _).1 ((costs_in n.plan).1 k.costs_in)
 
-  goes : PastFound n a w → tests ≡ Goes
+  goes : PastFound n a w → tests ≡ None
   unfolding tests_after
   goes d =
       let k = d.before in

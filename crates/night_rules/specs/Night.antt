@@ -1,6 +1,6 @@
 -- The night: alarms first, then the rest (02, Ask 14). From what is lent to the answer and what is lent afterwards.
 -- Assumes nothing.
-use Rattle.std.specs.Prelude.{Bool, true, false, not, ◌&&◌, ◌||◌, List, ℕ, ◌+◌, ◌*◌, ltb, leb, eqb, length, ℤ, Float}
+use Rattle.std.specs.Prelude.{Bool, true, false, not, ◌&&◌, ◌||◌, List, ℕ, ◌+◌, ◌*◌, ltb, leb, eqb, length, ℤ, Float, Option, Some, None}
 use Rattle.doubles.specs.Limits.{max_rows, max_columns, max_entries, max_coefficient, max_right_side}
 use Rattle.doubles.specs.Loop.{first}
 use Rattle.lu_factor_rules.specs.Packed.{all_factor_numbers, all_factor_coeffs}
@@ -20,8 +20,6 @@ use Rattle.night_rules.specs.declared.Stage.{Stage}
 use Rattle.night_rules.specs.declared.NightAnswer.{NightAnswer}
 use Rattle.night_rules.specs.declared.NightAnswer.TheVariants.{ShortMemory, NoGap, RowsFull, EntriesFull}
 use Rattle.night_rules.specs.declared.NightAnswer.TheVariants.{CostBeyond, FoundBeyond, FirstStands, Handed}
-use Rattle.night_rules.specs.declared.Next.{Next}
-use Rattle.night_rules.specs.declared.Next.TheVariants.{Stops, Goes}
 
 -- ---- as lent. The plan has the alarm costs, and no amounts and multipliers
 pub record NightPlan : Type 0 where
@@ -90,17 +88,17 @@ entries_after p = entry_count p + nonzeros (c p) p.cols
 unfoldable pub first_beyond : Plan → ℕ
 first_beyond p = first p.cols (λ j. not (within max_coefficient (c p j)))
 
-abbrev pub or_stop : Bool → NightAnswer → Next → Next
-or_stop b a r = elim b [ true ↦ r | false ↦ Stops a ]
+abbrev pub or_stop : Bool → NightAnswer → Option NightAnswer → Option NightAnswer
+or_stop b a r = elim b [ true ↦ r | false ↦ Some a ]
 
-unfoldable pub tests_after : Stage → Plan → ℤ → Next
+unfoldable pub tests_after : Stage → Plan → ℤ → Option NightAnswer
 tests_after f p found =
     let j = first_beyond p in
     or_stop (shows_gap f.audit) (NoGap f)
     (or_stop (ltb p.rows max_rows) (RowsFull f)
     (or_stop (leb (entries_after p) max_entries) (EntriesFull f)
     (or_stop (eqb j p.cols) (CostBeyond f j)
-    (or_stop (within max_right_side found) (FoundBeyond f) Goes))))
+    (or_stop (within max_right_side found) (FoundBeyond f) None))))
 
 -- ---- the second stage: whose amounts are handed out
 -- "isn't opened, or says "not a plan" or "none exists""
@@ -143,8 +141,8 @@ after_first n f w =
     let found = f.sheet.kept.C ‼ 0 in
     let u = section_into 0 f w in
     elim (tests_after f.stage n.plan found) [
-      | Stops r ↦ called r f.arrays u
-      | Goes ↦ second_part n f.stage f.sheet.plan.amounts found f.arrays u
+      | Some r ↦ called r f.arrays u
+      | None ↦ second_part n f.stage f.sheet.plan.amounts found f.arrays u
     ]
 
 unfoldable pub night_plan : NightPlan → Arrays → List ℤ → Called

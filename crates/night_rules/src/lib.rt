@@ -2,7 +2,6 @@
 #![tactic(auto)]
 
 ghost use Rattle.std.specs.Prelude.{◌≡◌, ◌+◌, ◌≤◌, length};
-ghost use Rattle.lu_packed.specs.Written.{written};
 
 // What came of a stage's audit: nothing was proposed, as the run was refused or didn't end in 0; a proposed number
 // isn't whole; opening refused with this number; or the sheet was opened and judged.
@@ -35,13 +34,6 @@ pub enum NightAnswer {
     Handed { first: Stage, second: Stage },
 }
 
-// What the tests after the first stage say.
-#[derive(Clone, Copy)]
-pub enum Next {
-    Stops(NightAnswer),
-    Goes,
-}
-
 // A stage's section: amounts, multipliers, then the kept R, D, C, B and counts. specs/Stage.antt has the same places.
 pub const AMOUNTS_END: usize = doubles::MAX_COLUMNS;
 
@@ -66,13 +58,3 @@ pub const HANDED: usize = SECOND + SECTION;
 pub const COEFS: usize = HANDED + doubles::MAX_COLUMNS;
 
 pub const WHOLE: usize = COEFS + doubles::MAX_ROWS * doubles::MAX_COLUMNS;
-
-// An array over the cells of `to` from `at` on.
-pub fn put_cells(from: &[i64], at: usize, to: &mut [i64])
-    requires { at + length from.now ≤ length to.old }
-    ensures { to.new ≡ written at from.now to.old }
-{
-    for k in 0..from.len() {
-        to[at + k] = from[k];
-    }
-}

@@ -36,8 +36,7 @@ use Rattle.night_rules.specs.declared.Audit.TheVariants.{NotRun, NotWhole, NotOp
 use Rattle.night_rules.specs.declared.Stage.{Stage}
 use Rattle.night_rules.specs.declared.NightAnswer.{NightAnswer}
 use Rattle.night_rules.specs.declared.NightAnswer.TheVariants.{ShortMemory, NoGap}
-use Rattle.night_rules.specs.declared.Next.{Next}
-use Rattle.night_rules.specs.declared.Next.TheVariants.{Stops, Goes}
+use Rattle.std.specs.Prelude.{Option, Some, None}
 use Rattle.night_rules.proofs.Arrays.{refused_is}
 use Rattle.night_second.specs.Costed.{costed}
 use Rattle.night_second.proofs.Laws.{no_gap, rows_full}
@@ -83,16 +82,16 @@ unfolding tests_after entries_after entry_count start_at first_beyond
 same_tests f p z = refl
 
 -- where they let the second stage begin
-gone_few : (f : Stage) (p : Plan) (z : ℤ) → tests_after f p z ≡ Goes
+gone_few : (f : Stage) (p : Plan) (z : ℤ) → tests_after f p z ≡ None
     → (shows_gap f.audit ≡ true) × (p.rows < max_rows)
 gone_few f p z h = (gap, few)
   where
-    stops_not : (r : NightAnswer) → Stops r ≡ Goes → ⊥
+    stops_not : (r : NightAnswer) → Some r ≡ None → ⊥
     stops_not r q = let w : ◌≡◌ {A = ℕ} 0 1 = ap number q in omega arith
       where
-        number : Next → ℕ
-        number (Stops r) = 0
-        number Goes = 1
+        number : Option NightAnswer → ℕ
+        number (Some r) = 0
+        number None = 1
 
     gap : shows_gap f.audit ≡ true
     gap = ⊎_elim (λ g. g) (λ g. absurd (stops_not _ (no_gap f p z g ∙ h))) (truth (shows_gap f.audit))
@@ -210,24 +209,24 @@ module _ (n : NightPlan) (a : Arrays) (w : List ℤ) where
               sym (no_gap F.stage p (u ‼ found_at) g) ∙ no_gap F.stage p (F.sheet.kept.C ‼ 0) g)
               (truth (shows_gap F.stage.audit))
 
-          module _ {z : ℤ} (v : z ≡ u ‼ found_at) {x : Next}
+          module _ {z : ℤ} (v : z ≡ u ‼ found_at) {x : Option NightAnswer}
               (t : x ≡ tests_after f (costed p.rows p.cols p.coefs p.costs) z) where
             next_is : x ≡ tests_after F.stage p (F.sheet.kept.C ‼ 0)
             next_is = t ∙ ap (tests_after f (costed p.rows p.cols p.coefs p.costs)) v ∙ tests_are
 
-            pub stopped : (r : NightAnswer) → x ≡ Stops r → called r b u ≡ night_plan n a w
+            pub stopped : (r : NightAnswer) → x ≡ Some r → called r b u ≡ night_plan n a w
             unfolding after_first
             stopped r s =
                 ap (λ (o : Arrays). called r o u) arrays_are ∙ ap (called r F.arrays) whole_is
                 ∙ rw (sym next_is ∙ s, after_first) refl ∙ sym begun
 
-            goes : x ≡ Goes → tests_after F.stage p (F.sheet.kept.C ‼ 0) ≡ Goes
+            goes : x ≡ None → tests_after F.stage p (F.sheet.kept.C ‼ 0) ≡ None
             goes s = sym next_is ∙ s
 
-            pub rows_fewer : x ≡ Goes → p.rows < max_rows
+            pub rows_fewer : x ≡ None → p.rows < max_rows
             rows_fewer s = (gone_few F.stage p _ (goes s)).1
 
-            pub went : {c : Called} → x ≡ Goes → c ≡ second_part n f (take max_columns u) z b u → c ≡ night_plan n a w
+            pub went : {c : Called} → x ≡ None → c ≡ second_part n f (take max_columns u) z b u → c ≡ night_plan n a w
             unfolding after_first
             went {c} s q =
                 let g = (gone_few F.stage p _ (goes s)).0 in

@@ -9,7 +9,7 @@ ghost use Rattle.night_rules.specs.Arrays.{arrays_of};
 ghost use Rattle.night_rules.specs.Night.{night_of, sizes_in, plan_long, memory_long, called};
 ghost use Rattle.night_rules.specs.Night.{night_plan};
 
-use night_rules::{Audit, Next, NightAnswer, Stage};
+use night_rules::{Audit, NightAnswer, Stage};
 
 fn sizes_in(rows: usize, columns: usize) -> bool
     ensures { result ≡ sizes_in rows columns }
@@ -158,8 +158,8 @@ pub fn night(
     let found = whole[night_rules::D_END];
     let next = night_second::tests(first, rows, columns, coefs, alarm_costs, found);
     match next {
-        Next::Stops(answer) => answer,
-        Next::Goes => night_handing::second_part(
+        Some(answer) => answer,
+        None => night_handing::second_part(
             first,
             found,
             rows,

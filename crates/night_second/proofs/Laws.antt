@@ -19,7 +19,7 @@ use Rattle.night_rules.specs.Doubles.{count_cell, nonzeros, start_at, entry_coun
 use Rattle.night_rules.specs.Night.{shows_gap, entries_after, first_beyond, tests_after}
 use Rattle.night_rules.specs.declared.Stage.{Stage}
 use Rattle.night_rules.specs.declared.NightAnswer.TheVariants.{NoGap, RowsFull, EntriesFull, CostBeyond, FoundBeyond}
-use Rattle.night_rules.specs.declared.Next.TheVariants.{Stops, Goes}
+use Rattle.std.specs.Prelude.{Some, None}
 use Rattle.night_doubles.proofs.Laws.{nonzeros_few, start_few}
 use Rattle.night_second.specs.Costed.{costed}
 
@@ -52,25 +52,25 @@ cells_fit m n h k = let l : m + 1 ≤ max_rows = omega arith in omega (arith, mu
 
 -- ---- the tests, in their order
 module _ (f : Stage) (p : Plan) (z : ℤ) where
-  pub no_gap : shows_gap f.audit ≡ false → Stops (NoGap f) ≡ tests_after f p z
+  pub no_gap : shows_gap f.audit ≡ false → Some (NoGap f) ≡ tests_after f p z
   unfolding tests_after
   no_gap h = rw (h, tests_after)
 
   module _ (g : shows_gap f.audit ≡ true) where
-    pub rows_full : max_rows ≤ p.rows → Stops (RowsFull f) ≡ tests_after f p z
+    pub rows_full : max_rows ≤ p.rows → Some (RowsFull f) ≡ tests_after f p z
     unfolding tests_after
     rows_full h = rw (g, le-ltb p.rows max_rows h, tests_after)
 
     module _ (r : p.rows < max_rows) where
-      pub entries_full : max_entries < entries_after p → Stops (EntriesFull f) ≡ tests_after f p z
+      pub entries_full : max_entries < entries_after p → Some (EntriesFull f) ≡ tests_after f p z
       unfolding tests_after
       entries_full h = rw (g, lt-ltb p.rows max_rows r, lt-leb (entries_after p) max_entries h, tests_after)
 
       module _ (e : entries_after p ≤ max_entries) where
-        pub cost_beyond : (j : ℕ) → j ≡ first_beyond p → ¬ (j ≡ p.cols) → Stops (CostBeyond f j) ≡ tests_after f p z
+        pub cost_beyond : (j : ℕ) → j ≡ first_beyond p → ¬ (j ≡ p.cols) → Some (CostBeyond f j) ≡ tests_after f p z
         unfolding tests_after
         cost_beyond j q h =
-            ap (λ (k : ℕ). Stops (CostBeyond f k)) q
+            ap (λ (k : ℕ). Some (CostBeyond f k)) q
             ∙ rw (
               g,
               lt-ltb p.rows max_rows r,
@@ -80,7 +80,7 @@ module _ (f : Stage) (p : Plan) (z : ℤ) where
             )
 
         module _ (b : first_beyond p ≡ p.cols) where
-          pub found_beyond : max_right_side < nat_abs z → Stops (FoundBeyond f) ≡ tests_after f p z
+          pub found_beyond : max_right_side < nat_abs z → Some (FoundBeyond f) ≡ tests_after f p z
           unfolding tests_after
           found_beyond h =
               rw (
@@ -92,7 +92,7 @@ module _ (f : Stage) (p : Plan) (z : ℤ) where
                 tests_after,
               )
 
-          pub goes_on : nat_abs z ≤ max_right_side → Goes ≡ tests_after f p z
+          pub goes_on : nat_abs z ≤ max_right_side → None ≡ tests_after f p z
           unfolding tests_after
           goes_on h =
               rw (

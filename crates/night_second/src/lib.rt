@@ -8,7 +8,7 @@ ghost use Rattle.night_rules.specs.Stage.{is_judged};
 ghost use Rattle.night_rules.specs.Night.{coefs_at, whole_end, shows_gap, first_beyond, tests_after, first_stands};
 ghost use Rattle.night_second.specs.Costed.{costed};
 
-use night_rules::{Audit, Next, NightAnswer, Stage};
+use night_rules::{Audit, NightAnswer, Stage};
 use sheet_rules::Verdict;
 
 // Whether a stage's sheet was opened.
@@ -75,14 +75,12 @@ fn first_beyond(columns: usize, costs: &[i64]) -> usize
     requires { columns ≤ length costs.now }
     ensures { result ≡ first_beyond (costed 0 columns [] costs.now) }
 {
-    let mut j = 0;
-    while j < columns {
-        if sheet_terms::size(costs[j]) > doubles::MAX_COEFFICIENT {
+    for (j, &cost) in costs[..columns].iter().enumerate() {
+        if sheet_terms::size(cost) > doubles::MAX_COEFFICIENT {
             return j;
         }
-        j += 1;
     }
-    j
+    columns
 }
 
 // Every test after the first stage, in 02's order.
@@ -93,34 +91,34 @@ pub fn tests(
     coefs: &[i64],
     costs: &[i64],
     found: i64,
-) -> Next
+) -> Option<NightAnswer>
     requires { (rows ≤ max_rows) × (columns ≤ max_columns) × (rows * columns ≤ length coefs.now) ×
         (columns ≤ length costs.now) }
     ensures { result ≡ tests_after first (costed rows columns coefs.now costs.now) found }
 {
     let audit = first.audit;
     if !shows_gap(audit) {
-        return Next::Stops(NightAnswer::NoGap(first));
+        return Some(NightAnswer::NoGap(first));
     }
     if rows >= doubles::MAX_ROWS {
-        return Next::Stops(NightAnswer::RowsFull(first));
+        return Some(NightAnswer::RowsFull(first));
     }
     let some = night_doubles::entries(rows, columns, coefs);
     let costs_too = night_doubles::entries(1, columns, costs);
     if some + costs_too > doubles::MAX_ENTRIES {
-        return Next::Stops(NightAnswer::EntriesFull(first));
+        return Some(NightAnswer::EntriesFull(first));
     }
     let j = first_beyond(columns, costs);
     if j != columns {
-        return Next::Stops(NightAnswer::CostBeyond {
+        return Some(NightAnswer::CostBeyond {
             first: first,
             column: j,
         });
     }
     if sheet_terms::size(found) > doubles::MAX_RIGHT_SIDE {
-        return Next::Stops(NightAnswer::FoundBeyond(first));
+        return Some(NightAnswer::FoundBeyond(first));
     }
-    Next::Goes
+    None
 }
 
 // The second stage's coefficients: the plan's, and behind them the alarm costs.
@@ -131,36 +129,15 @@ pub fn lay_coefs(rows: usize, columns: usize, coefs: &[i64], costs: &[i64], whol
         take columns costs.now) whole.old }
 {
     let cells = rows * columns;
-    night_rules::put_cells(&coefs[..cells], night_rules::COEFS, whole);
-    night_rules::put_cells(&costs[..columns], night_rules::COEFS + cells, whole);
+    lu_packed::put(&coefs[..cells], night_rules::COEFS, whole);
+    lu_packed::put(&costs[..columns], night_rules::COEFS + cells, whole);
 }
 
-// Its right sides, the found cost last.
-pub fn lay_rhs(rows: usize, rhs: &[i64], found: i64, out: &mut [i64])
-    requires { (rows ≤ length rhs.now) × (rows < length out.old) }
-    ensures { out.new ≡ written 0 (take rows rhs.now ++ (found ∷ [])) out.old }
+// A list of its rows, right sides or comparisons, with the last row's behind them.
+pub fn lay<T: Copy>(rows: usize, xs: &[T], last: T, out: &mut [T])
+    requires { (rows ≤ length xs.now) × (rows < length out.old) }
+    ensures { out.new ≡ written 0 (take rows xs.now ++ (last ∷ [])) out.old }
 {
-    night_rules::put_cells(&rhs[..rows], 0, out);
-    let last = [found];
-    night_rules::put_cells(&last, rows, out);
-}
-
-// Comparisons over the cells of `to` from `at` on.
-fn put_bytes(from: &[u8], at: usize, to: &mut [u8])
-    requires { at + length from.now ≤ length to.old }
-    ensures { to.new ≡ written at from.now to.old }
-{
-    for k in 0..from.len() {
-        to[at + k] = from[k];
-    }
-}
-
-// Its comparisons, Le last.
-pub fn lay_ops(rows: usize, ops: &[u8], out: &mut [u8])
-    requires { (rows ≤ length ops.now) × (rows < length out.old) }
-    ensures { out.new ≡ written 0 (take rows ops.now ++ (0 ∷ [])) out.old }
-{
-    put_bytes(&ops[..rows], 0, out);
-    let last = [0u8];
-    put_bytes(&last, rows, out);
+    lu_packed::put(&xs[..rows], 0, out);
+    lu_packed::put(&[last], rows, out);
 }

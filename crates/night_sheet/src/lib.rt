@@ -26,13 +26,13 @@ fn write_section(
         r.now d.now c.now b.now counts.now))
         section.old }
 {
-    night_rules::put_cells(amounts, 0, section);
-    night_rules::put_cells(mults, night_rules::AMOUNTS_END, section);
-    night_rules::put_cells(r, night_rules::MULTS_END, section);
-    night_rules::put_cells(d, night_rules::R_END, section);
-    night_rules::put_cells(c, night_rules::D_END, section);
-    night_rules::put_cells(b, night_rules::C_END, section);
-    night_rules::put_cells(counts, night_rules::B_END, section);
+    lu_packed::put(amounts, 0, section);
+    lu_packed::put(mults, night_rules::AMOUNTS_END, section);
+    lu_packed::put(r, night_rules::MULTS_END, section);
+    lu_packed::put(d, night_rules::R_END, section);
+    lu_packed::put(c, night_rules::D_END, section);
+    lu_packed::put(b, night_rules::C_END, section);
+    lu_packed::put(counts, night_rules::B_END, section);
 }
 
 // The sheet with the proposed numbers, opened and judged.

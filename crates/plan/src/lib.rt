@@ -20,12 +20,6 @@ pub enum Bad {
     Nothing,
 }
 
-#[derive(Clone, Copy)]
-pub enum Refusal {
-    By(rules::Answer),
-    Nothing,
-}
-
 // 1: "a size or the budget passes its limit"
 pub fn sizes_fit(columns: usize, rows: usize, entries: usize, budget: usize) -> bool
     ensures { result ≡ sizes_fit (plan_of columns rows entries budget f0 [] [] [] [] [] [] [] []) }
@@ -76,12 +70,10 @@ fn none_falls(rows: usize, starts: &[usize]) -> bool
     requires { rows < length starts.now }
     ensures { result ≡ all rows (λ i. leb (starts.now # i) (starts.now # (i + 1))) }
 {
-    let mut i = 0;
-    while i < rows {
+    for i in 0..rows {
         if starts[i + 1] < starts[i] {
             return false;
         }
-        i += 1;
     }
     true
 }
@@ -126,22 +118,17 @@ pub fn first_bad(columns: usize, rows: usize, starts: &[usize], cols: &[usize]) 
     requires { Rows rows starts.now (length cols.now) }
     ensures { result ≡ bad_entry (rows_of columns rows starts.now cols.now) }
 {
-    let mut row = 0;
-    let found = 'rows: loop {
-        if rows <= row {
-            break 'rows Bad::Nothing;
-        }
-        let part = row_cols(starts, cols, row);
-        let mut place = 0;
-        while place < part.len() {
-            if bad_at(columns, part, place) {
-                break 'rows Bad::Entry { row, place };
+    'found: {
+        for row in 0..rows {
+            let part = row_cols(starts, cols, row);
+            for place in 0..part.len() {
+                if bad_at(columns, part, place) {
+                    break 'found Bad::Entry { row, place };
+                }
             }
-            place += 1;
         }
-        row += 1;
-    };
-    found
+        Bad::Nothing
+    }
 }
 
 // 4: "lower > upper, with the first such column"
@@ -149,14 +136,12 @@ pub fn first_crossed(columns: usize, lowers: &[f64], uppers: &[f64]) -> usize
     requires { (columns ≤ length lowers.now) × (columns ≤ length uppers.now) }
     ensures { result ≡ first_crossed (bounds_of columns lowers.now uppers.now) }
 {
-    let mut j = 0;
-    while j < columns {
+    for j in 0..columns {
         if uppers[j] < lowers[j] {
             return j;
         }
-        j += 1;
     }
-    j
+    columns
 }
 
 // 5: whether 0 op rhs is true
@@ -182,14 +167,12 @@ pub fn first_false(rows: usize, starts: &[usize], ops: &[u8], rhs: &[f64]) -> us
     requires { (rows < length starts.now) × (rows ≤ length ops.now) × (rows ≤ length rhs.now) }
     ensures { result ≡ first_false (empties_of rows starts.now ops.now rhs.now) }
 {
-    let mut i = 0;
-    while i < rows {
+    for i in 0..rows {
         if false_row(starts, ops, rhs, i) {
             return i;
         }
-        i += 1;
     }
-    i
+    rows
 }
 
 // 1 to 5 where the sizes and lengths have passed: "The lowest number that applies is given".
@@ -206,7 +189,7 @@ pub fn first_refusal(
     coeffs: &[f64],
     ops: &[u8],
     rhs: &[f64],
-) -> Refusal
+) -> Option<rules::Answer>
     requires { plan_long (plan_of columns rows entries 0 tolerance costs.now lowers.now uppers.now
         starts.now cols.now coeffs.now ops.now rhs.now) ≡ true }
     ensures { result ≡ refusal_of (plan_of columns rows entries 0 tolerance costs.now lowers.now
@@ -214,25 +197,25 @@ pub fn first_refusal(
         rhs.now) }
 {
     if !starts_rise(rows, entries, starts) {
-        return Refusal::By(rules::Answer::BadSize);
+        return Some(rules::Answer::BadSize);
     }
     if !plan_numbers::passes_2(
         columns, rows, entries, tolerance, costs, lowers, uppers, coeffs, ops, rhs,
     ) {
-        return Refusal::By(rules::Answer::BadNumber);
+        return Some(rules::Answer::BadNumber);
     }
     if let Bad::Entry { row, place } = first_bad(columns, rows, starts, cols) {
-        return Refusal::By(rules::Answer::BadEntry { row, place });
+        return Some(rules::Answer::BadEntry { row, place });
     }
     let column = first_crossed(columns, lowers, uppers);
     if column != columns {
-        return Refusal::By(rules::Answer::CrossedBounds { column });
+        return Some(rules::Answer::CrossedBounds { column });
     }
     let row = first_false(rows, starts, ops, rhs);
     if row != rows {
-        return Refusal::By(rules::Answer::FalseEmptyRow { row });
+        return Some(rules::Answer::FalseEmptyRow { row });
     }
-    Refusal::Nothing
+    None
 }
 
 // 01: "Empty true rows are dropped". The numbers of the others are written over the front of `kept`.
@@ -241,13 +224,11 @@ pub fn keep_rows(rows: usize, starts: &[usize], kept: &mut [usize]) -> usize
     ensures { Front (kept_rows (rows_of 0 rows starts.now [])) kept.old result kept.new }
 {
     let mut m = 0;
-    let mut i = 0;
-    while i < rows {
+    for i in 0..rows {
         if starts[i] != starts[i + 1] {
             kept[m] = i;
             m += 1;
         }
-        i += 1;
     }
     m
 }

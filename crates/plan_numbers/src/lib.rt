@@ -49,70 +49,35 @@ pub fn all_finite(n: usize, xs: &[f64]) -> bool
     requires { n ≤ length xs.now }
     ensures { result ≡ all n (λ k. finite (xs.now ! k)) }
 {
-    let mut k = 0;
-    while k < n {
-        if !doubles::is_finite(xs[k]) {
-            return false;
-        }
-        k += 1;
-    }
-    true
+    xs[..n].iter().all(|&x| doubles::is_finite(x))
 }
 
 fn all_numbers(n: usize, xs: &[f64]) -> bool
     requires { n ≤ length xs.now }
     ensures { result ≡ all n (λ k. is_number (xs.now ! k)) }
 {
-    let mut k = 0;
-    while k < n {
-        if !is_number(xs[k]) {
-            return false;
-        }
-        k += 1;
-    }
-    true
+    xs[..n].iter().all(|&x| is_number(x))
 }
 
 fn all_lowers(n: usize, xs: &[f64]) -> bool
     requires { n ≤ length xs.now }
     ensures { result ≡ all n (λ k. is_lower (xs.now ! k)) }
 {
-    let mut k = 0;
-    while k < n {
-        if !is_lower(xs[k]) {
-            return false;
-        }
-        k += 1;
-    }
-    true
+    xs[..n].iter().all(|&x| is_lower(x))
 }
 
 fn all_uppers(n: usize, xs: &[f64]) -> bool
     requires { n ≤ length xs.now }
     ensures { result ≡ all n (λ k. is_upper (xs.now ! k)) }
 {
-    let mut k = 0;
-    while k < n {
-        if !is_upper(xs[k]) {
-            return false;
-        }
-        k += 1;
-    }
-    true
+    xs[..n].iter().all(|&x| is_upper(x))
 }
 
 fn all_ops(n: usize, ops: &[u8]) -> bool
     requires { n ≤ length ops.now }
     ensures { result ≡ all n (λ k. is_op (ops.now # k)) }
 {
-    let mut k = 0;
-    while k < n {
-        if !is_op(ops[k]) {
-            return false;
-        }
-        k += 1;
-    }
-    true
+    ops[..n].iter().all(|&op| is_op(op))
 }
 
 // `&`, not `&&`: a plan that passes asks every test.

@@ -19,14 +19,7 @@ use std::io::{Read, Write};
 fn all_places(at: &[usize]) -> bool
     ensures { result ≡ all (length at.now) (λ k. ltb (at.now # k) places) }
 {
-    let mut k = 0;
-    while k < at.len() {
-        if doubles::PLACES <= at[k] {
-            return false;
-        }
-        k += 1;
-    }
-    true
+    at.iter().all(|&i| i < doubles::PLACES)
 }
 
 // How many places are listed, and each with the bits of its value, in listed order.
@@ -159,12 +152,12 @@ fn store<R: Read, W: Write>(input: &mut R, out: &mut W) -> io::Result<()> {
     if doubles::ETA_COLUMNS < n {
         return Ok(());
     }
-    words::fill_places(input, &mut leaving, n);
-    words::fill_places(input, &mut starts, n + 1);
-    words::fill_places(input, &mut rows, entries);
-    words::fill_doubles(input, &mut coeffs, entries);
-    words::fill_places(input, &mut at, listed);
-    words::fill_doubles(input, &mut xs, listed);
+    words::fill(input, &mut leaving, n);
+    words::fill(input, &mut starts, n + 1);
+    words::fill(input, &mut rows, entries);
+    words::fill(input, &mut coeffs, entries);
+    words::fill(input, &mut at, listed);
+    words::fill(input, &mut xs, listed);
     solve_both(
         out, &leaving, &starts, &rows, &coeffs, n, entries, &at, &xs, listed,
     )

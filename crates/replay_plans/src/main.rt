@@ -160,7 +160,7 @@ fn show_values<W: Write>(
     let n = words::least(columns, doubles::MAX_COLUMNS)
         + words::least(kept_rows, doubles::MAX_ROWS);
     words::place(out, n)?;
-    words::doubles(out, values, n)
+    words::list(out, values, n)
 }
 
 // One start more than there are eta columns.
@@ -178,25 +178,25 @@ fn show_state<W: Write>(
 {
     let m = numbers[state::COUNTS];
     words::text(out, b" | kept")?;
-    words::places(out, &numbers[state::KEPT..state::KEPT_END], m)?;
+    words::list(out, &numbers[state::KEPT..state::KEPT_END], m)?;
     words::text(out, b" basic")?;
-    words::places(out, &numbers[state::BASIC_VARS..state::BASIC_VARS_END], m)?;
+    words::list(out, &numbers[state::BASIC_VARS..state::BASIC_VARS_END], m)?;
     words::text(out, b" nonbasic")?;
-    words::places(out, &numbers[state::NB_VARS..state::NB_VARS_END], columns)?;
+    words::list(out, &numbers[state::NB_VARS..state::NB_VARS_END], columns)?;
     words::text(out, b" bval")?;
-    words::doubles(
+    words::list(
         out,
         &doubles[state::BASIC_VAR_VALS..state::BASIC_VAR_VALS_END],
         m,
     )?;
     words::text(out, b" nval")?;
-    words::doubles(
+    words::list(
         out,
         &doubles[state::NB_VAR_VALS..state::NB_VAR_VALS_END],
         columns,
     )?;
     words::text(out, b" price")?;
-    words::doubles(out, &doubles[state::PRICES..state::PRICES_END], columns)
+    words::list(out, &doubles[state::PRICES..state::PRICES_END], columns)
 }
 
 fn show_rest<W: Write>(
@@ -210,25 +210,25 @@ fn show_rest<W: Write>(
     let etas = numbers[state::COUNTS + 1];
     let entries = numbers[state::COUNTS + 2];
     words::text(out, b" norm")?;
-    words::doubles(out, &doubles[state::NORMS..state::NORMS_END], columns)?;
+    words::list(out, &doubles[state::NORMS..state::NORMS_END], columns)?;
     words::text(out, b" flags")?;
-    words::places(out, &numbers[state::FLAGS..state::FLAGS_END], columns)?;
+    words::list(out, &numbers[state::FLAGS..state::FLAGS_END], columns)?;
     words::text(out, b" etarow")?;
-    words::places(
+    words::list(
         out,
         &numbers[state::ETA_LEAVING..state::ETA_LEAVING_END],
         etas,
     )?;
     words::text(out, b" etaptr")?;
-    words::places(
+    words::list(
         out,
         &numbers[state::ETA_STARTS..state::ETA_STARTS_END],
         starts_shown(etas),
     )?;
     words::text(out, b" etaidx")?;
-    words::places(out, &numbers[state::ETA_ROWS..state::ETA_ROWS_END], entries)?;
+    words::list(out, &numbers[state::ETA_ROWS..state::ETA_ROWS_END], entries)?;
     words::text(out, b" etaval")?;
-    words::doubles(
+    words::list(
         out,
         &doubles[state::ETA_COEFFS..state::ETA_COEFFS_END],
         entries,
@@ -248,25 +248,25 @@ fn show_factor<W: Write>(
     let lower = numbers[lu_factor_rules::L_STARTS + m];
     let upper = numbers[lu_factor_rules::U_STARTS + m];
     words::text(out, b" pivots")?;
-    words::places(
+    words::list(
         out,
         &numbers[lu_factor_rules::ORDER..lu_factor_rules::ORDER_END],
         m,
     )?;
     words::text(out, b" lptr")?;
-    words::places(
+    words::list(
         out,
         &numbers[lu_factor_rules::L_STARTS..lu_factor_rules::L_STARTS_END],
         m + 1,
     )?;
     words::text(out, b" lidx")?;
-    words::places(
+    words::list(
         out,
         &numbers[lu_factor_rules::L_ROWS..lu_factor_rules::L_ROWS_END],
         lower,
     )?;
     words::text(out, b" lval")?;
-    words::doubles(
+    words::list(
         out,
         &coeffs[lu_factor_rules::L_COEFFS..lu_factor_rules::L_COEFFS_END],
         lower,
@@ -285,25 +285,25 @@ fn show_upper<W: Write>(
         (m ≤ max_rows) }
 {
     words::text(out, b" uptr")?;
-    words::places(
+    words::list(
         out,
         &numbers[lu_factor_rules::U_STARTS..lu_factor_rules::U_STARTS_END],
         m + 1,
     )?;
     words::text(out, b" uidx")?;
-    words::places(
+    words::list(
         out,
         &numbers[lu_factor_rules::U_ROWS..lu_factor_rules::U_ROWS_END],
         upper,
     )?;
     words::text(out, b" uval")?;
-    words::doubles(
+    words::list(
         out,
         &coeffs[lu_factor_rules::U_COEFFS..lu_factor_rules::U_COEFFS_END],
         upper,
     )?;
     words::text(out, b" udiag")?;
-    words::doubles(
+    words::list(
         out,
         &coeffs[lu_factor_rules::DIAG..lu_factor_rules::DIAG_END],
         m,
@@ -342,7 +342,7 @@ fn show<W: Write>(
         show_factor(out, rows, factor_numbers, factor_coeffs)?;
     }
     words::text(out, b" dnorm")?;
-    words::doubles(
+    words::list(
         out,
         &doubles[state::DUAL_NORMS..state::DUAL_NORMS_END],
         rows,
@@ -417,14 +417,14 @@ fn plan<R: Read, W: Write>(input: &mut R, out: &mut W) -> io::Result<()> {
     let entries = words::next_place(input);
     let budget = words::next_place(input);
     let tolerance = words::next_double(input);
-    let n_costs = words::read_doubles(input, &mut costs);
-    let n_lowers = words::read_doubles(input, &mut lowers);
-    let n_uppers = words::read_doubles(input, &mut uppers);
-    let n_starts = words::read_places(input, &mut starts);
-    let n_cols = words::read_places(input, &mut cols);
-    let n_coeffs = words::read_doubles(input, &mut coeffs);
-    let n_ops = words::read_bytes(input, &mut ops);
-    let n_rhs = words::read_doubles(input, &mut rhs);
+    let n_costs = words::read(input, &mut costs);
+    let n_lowers = words::read(input, &mut lowers);
+    let n_uppers = words::read(input, &mut uppers);
+    let n_starts = words::read(input, &mut starts);
+    let n_cols = words::read(input, &mut cols);
+    let n_coeffs = words::read(input, &mut coeffs);
+    let n_ops = words::read(input, &mut ops);
+    let n_rhs = words::read(input, &mut rhs);
     solved(
         out,
         columns,

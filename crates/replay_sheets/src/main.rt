@@ -10,54 +10,13 @@ ghost use Rattle.words.specs.Counts.{Counts};
 
 use std::io;
 use std::io::{Read, Write};
+use words::Cell;
 use words_sheet::{COEFS, COLUMNS, ROWS, show_kept, show_plan};
 
-const SIGN: u64 = 0x8000_0000_0000_0000;
-
-const LEAST: i64 = -0x8000_0000_0000_0000;
-
-// By two's complement.
-fn signed_of(word: u64) -> i64 {
-    if word < SIGN {
-        return word as i64;
-    }
-    LEAST + (word - SIGN) as i64
-}
-
-fn next_signed<R: Read>(input: &mut R) -> i64 {
-    signed_of(words::next(input))
-}
-
-// The first n cells, or all.
-fn fill_signed<R: Read>(input: &mut R, out: &mut [i64], n: usize) {
-    for cell in out.iter_mut().take(n) {
-        *cell = next_signed(input);
-    }
-}
-
-// A length, then so many cells: how many of the array are lent.
-fn read_signed<R: Read>(input: &mut R, out: &mut [i64]) -> usize
-    ensures { Counts result out.new }
-{
-    let n = words::least(words::next_place(input), out.len());
-    fill_signed(input, out, n);
-    n
-}
-
-// Writes a cell, if this is the array that is meant and it has the cell.
-fn poke(out: &mut [i64], meant: bool, at: usize, number: i64) {
-    if meant {
-        if at < out.len() {
-            out[at] = number;
-        }
-    }
-}
-
-fn poke_byte(out: &mut [u8], meant: bool, at: usize, number: u8) {
-    if meant {
-        if at < out.len() {
-            out[at] = number;
-        }
+// Writes the cell that a word stands for, if the array has it.
+fn poke<T: Cell>(out: &mut [T], at: usize, word: u64) {
+    if let Some(cell) = out.get_mut(at) {
+        *cell = T::of_word(word);
     }
 }
 
@@ -81,23 +40,24 @@ fn disturb(
     b: &mut [i64; 1],
     counts: &mut [i64; 4],
 ) {
-    let number = signed_of(word);
-    let byte = words::byte_of(word);
-    poke(coefs, which == 0, at, number);
-    poke(costs, which == 1, at, number);
-    poke(lowers, which == 2, at, number);
-    poke(uppers, which == 3, at, number);
-    poke_byte(lower_marks, which == 4, at, byte);
-    poke_byte(upper_marks, which == 5, at, byte);
-    poke(rhs, which == 6, at, number);
-    poke_byte(ops, which == 7, at, byte);
-    poke(amounts, which == 8, at, number);
-    poke(mults, which == 9, at, number);
-    poke(r, which == 10, at, number);
-    poke(d, which == 11, at, number);
-    poke(c, which == 12, at, number);
-    poke(b, which == 13, at, number);
-    poke(counts, which == 14, at, number);
+    match which {
+        0 => poke(coefs, at, word),
+        1 => poke(costs, at, word),
+        2 => poke(lowers, at, word),
+        3 => poke(uppers, at, word),
+        4 => poke(lower_marks, at, word),
+        5 => poke(upper_marks, at, word),
+        6 => poke(rhs, at, word),
+        7 => poke(ops, at, word),
+        8 => poke(amounts, at, word),
+        9 => poke(mults, at, word),
+        10 => poke(r, at, word),
+        11 => poke(d, at, word),
+        12 => poke(c, at, word),
+        13 => poke(b, at, word),
+        14 => poke(counts, at, word),
+        _ => {}
+    }
 }
 
 fn step<R: Read, W: Write>(
@@ -153,7 +113,7 @@ fn step<R: Read, W: Write>(
         kind,
         row,
         column,
-        signed_of(word),
+        i64::of_word(word),
         rows,
         columns,
         coefs,
@@ -263,16 +223,16 @@ fn sheet<R: Read, W: Write>(input: &mut R, out: &mut W) -> io::Result<()> {
     let rows = words::next_place(input);
     let columns = words::next_place(input);
     let steps = words::next(input);
-    let n_coefs = read_signed(input, &mut coefs);
-    let n_costs = read_signed(input, &mut costs);
-    let n_lowers = read_signed(input, &mut lowers);
-    let n_uppers = read_signed(input, &mut uppers);
-    let n_lower_marks = words::read_bytes(input, &mut lower_marks);
-    let n_upper_marks = words::read_bytes(input, &mut upper_marks);
-    let n_rights = read_signed(input, &mut rhs);
-    let n_ops = words::read_bytes(input, &mut ops);
-    let n_amounts = read_signed(input, &mut amounts);
-    let n_mults = read_signed(input, &mut mults);
+    let n_coefs = words::read(input, &mut coefs);
+    let n_costs = words::read(input, &mut costs);
+    let n_lowers = words::read(input, &mut lowers);
+    let n_uppers = words::read(input, &mut uppers);
+    let n_lower_marks = words::read(input, &mut lower_marks);
+    let n_upper_marks = words::read(input, &mut upper_marks);
+    let n_rights = words::read(input, &mut rhs);
+    let n_ops = words::read(input, &mut ops);
+    let n_amounts = words::read(input, &mut amounts);
+    let n_mults = words::read(input, &mut mults);
     let status = sheet::open(
         rows,
         columns,

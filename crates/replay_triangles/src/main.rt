@@ -30,7 +30,7 @@ fn dense<W: Write>(
         lower, size, entries, starts, rows, vals, has_diag, diag, values,
     );
     match a {
-        lu::Answer::Solved(n) => words::doubles(out, values, n),
+        lu::Answer::Solved(n) => words::list(out, values, n),
         lu::Answer::BadTriangle => words::text(out, b" 1"),
         lu::Answer::NotFinite => words::text(out, b" 2"),
         lu::Answer::BadList => words::text(out, b" 3"),
@@ -58,9 +58,9 @@ fn sparse<W: Write>(
     match a {
         lu::Answer::Solved(n) => {
             words::text(out, b"0 list")?;
-            words::places(out, list, n)?;
+            words::list(out, list, n)?;
             words::text(out, b" sparse")?;
-            words::doubles(out, values, size)?;
+            words::list(out, values, size)?;
             Ok(true)
         }
         lu::Answer::BadTriangle => {
@@ -91,13 +91,13 @@ fn triangle<R: Read, W: Write>(input: &mut R, out: &mut W) -> io::Result<()> {
     let entries = words::next_place(input);
     let has_diag = words::next(input) != 0;
     let listed = words::next_place(input);
-    let s = words::read_places(input, &mut starts);
-    let r = words::read_places(input, &mut rows);
-    let v = words::read_doubles(input, &mut vals);
-    let d = words::read_doubles(input, &mut diag);
-    let l = words::read_places(input, &mut list);
-    let n = words::read_doubles(input, &mut values);
-    let m = words::read_doubles(input, &mut all);
+    let s = words::read(input, &mut starts);
+    let r = words::read(input, &mut rows);
+    let v = words::read(input, &mut vals);
+    let d = words::read(input, &mut diag);
+    let l = words::read(input, &mut list);
+    let n = words::read(input, &mut values);
+    let m = words::read(input, &mut all);
     let both = sparse(
         out,
         lower,

@@ -24,7 +24,7 @@ use Rattle.fix_rules.specs.Meaning.{call_number}
 use Rattle.fix_rules.specs.declared.FixAnswer.{FixAnswer}
 use Rattle.fix_rules.specs.declared.FixAnswer.TheVariants.{Told}
 use Rattle.fix_gate.specs.Gate.{kept_refusal}
-use Rattle.fix_gate.specs.declared.Refusal.TheVariants.{By, Nothing}
+use Rattle.std.specs.Prelude.{Some, None}
 use Rattle.fix_gate.proofs.Laws.{Kept, goes_by, kept_by}
 use Rattle.fix_ends.specs.Ends.{handed_call, called_by}
 use Rattle.fix_parts.proofs.Laws.{uncounted, uncounted_fits, fits, no_steps, lent_sized, lent_sound}
@@ -71,12 +71,12 @@ module _ (p : Plan) (v : List Float) (N : List ℕ) (D : List Float) (F : List �
   unfolding reprice_plan
   by_gate = kept_by p m goes
 
-  pub refuses : (a : FixAnswer) → By a ≡ kept_refusal p m
+  pub refuses : (a : FixAnswer) → Some a ≡ kept_refusal p m
       → called_by a v N D F G ≡ handed_call (reprice_plan p m) (past_of N D)
   refuses a e = ap (λ (c : Called). handed_call c (past_of N D)) (ap (goes_by p m goes) e ∙ sym by_gate)
 
   -- once nothing is refused
-  module _ (e : Nothing ≡ kept_refusal p m) where
+  module _ (e : None ≡ kept_refusal p m) where
     is_closed : goes ≡ reprice_plan p m
     is_closed = ap (goes_by p m goes) e ∙ sym by_gate
 

@@ -57,7 +57,7 @@ pub fn reprice(
         factor_numbers,
         factor_coeffs,
     );
-    if let fix_gate::Refusal::By(answer) = refusal {
+    if let Some(answer) = refusal {
         return answer;
     }
     let mut kept = [0usize; doubles::MAX_ROWS];

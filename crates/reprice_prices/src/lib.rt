@@ -18,13 +18,6 @@ ghost use Rattle.reprice_numbers.specs.Lent.{costed, valued};
 ghost use Rattle.reprice_prices.specs.Lent.{priced_of, Prices};
 ghost use Rattle.reprice_prices.specs.Left.{after_own, own_left};
 
-// The numbers of the state to go on from that stand in no array, or why there is none.
-#[derive(Clone, Copy)]
-pub enum Own {
-    Goes(state::Tally),
-    Halts(rules::Stop),
-}
-
 fn store_prices(n: usize, fresh: &[f64; doubles::MAX_COLUMNS], prices: &mut [f64])
     requires { (n ≤ max_columns) × (n ≤ length prices.old) }
     ensures { prices.new ≡ over (table n (λ c. fresh.now ! c)) prices.old }
@@ -67,7 +60,7 @@ pub fn priced(
     crows: &[usize],
     ccoeffs: &[f64],
     y: &[f64; doubles::MAX_ROWS],
-) -> Own
+) -> Result<state::Tally, rules::Stop>
     requires { Prices n costs.now kept.now cstarts.now crows.now ccoeffs.now numbers.now doubles.old
         × (length y.now ≡ max_rows) }
     ensures { (starts cols : List ℕ) (coeffs : List Float) → ByColumns
@@ -98,10 +91,10 @@ pub fn priced(
         &doubles[state::NB_VAR_VALS..state::NB_VAR_VALS_END],
     );
     if !numbers_finite(kept.len(), y, n, &fresh, objective) {
-        return Own::Halts(rules::Stop::NotFinite);
+        return Err(rules::Stop::NotFinite);
     }
     store_prices(n, &fresh, &mut doubles[state::PRICES..state::PRICES_END]);
-    Own::Goes(state::Tally {
+    Ok(state::Tally {
         eta_count: at.eta_count,
         objective,
         steps: at.steps,
@@ -165,7 +158,7 @@ pub fn as_it_is(
     cstarts: &[usize],
     crows: &[usize],
     ccoeffs: &[f64],
-) -> Own
+) -> Result<state::Tally, rules::Stop>
     requires { Prices n costs.now kept.now cstarts.now crows.now ccoeffs.now numbers.now doubles.old
         × FactorFits (length kept.now)
         (factored_of at.factored at.factorings factor_numbers.now factor_coeffs.now) }

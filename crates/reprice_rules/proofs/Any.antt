@@ -15,7 +15,7 @@ use Rattle.rules.specs.Kinds.{Kind, dual, primal}
 use Rattle.rules.specs.Answers.{Row, as_row, number_of}
 use Rattle.rules.specs.Solve.{Solved, close, end_of, solve_plan}
 use Rattle.rules.specs.Conditions.{Ends, Line, optimal, unbounded, spent, singular, infeasible, not_finite, value_rejected, row_rejected}
-use Rattle.rules.specs.declared.Choice.TheVariants.{Nothing}
+use Rattle.std.specs.Prelude.{None}
 use Rattle.rules.proofs.Refusals.{Case, refused, accepted, cases, refusal_says}
 use Rattle.rules.proofs.Answers.{end_line, answer_exact, optimal_writes}
 use Rattle.rules.proofs.Steps.{end_reached}
@@ -145,7 +145,7 @@ module _ (p : Plan) (m : Memory) where
   any_steps = way_steps any_ways
 
   -- ---- "Optimal means what it means for `solve`"
-  line_none : {P : Problem} {c : Kind} {s : State} {t : Row} → Line P c s t → t.number ≡ 0 → choose P s.ws ≡ Nothing
+  line_none : {P : Problem} {c : Kind} {s : State} {t : Row} → Line P c s t → t.number ≡ 0 → choose P s.ws ≡ None
   unfolding Ends
   line_none {c = dual} (optimal x h g) q = absurd h
   line_none {c = primal} (optimal x h g) q = h
@@ -170,7 +170,7 @@ module _ (p : Plan) (m : Memory) where
         checked = x.checked;
         all_sound = x.sound;
         none_enters =
-            subst (λ (w : Workspace). choose P w ≡ Nothing) (sym ran.lent) (line_none (end_line p m none) (whole ∙ q));
+            subst (λ (w : Workspace). choose P w ≡ None) (sym ran.lent) (line_none (end_line p m none) (whole ∙ q));
       }
 
   way_optimal : {r : AnyCalled} → AnyWays p m r → number r ≡ 0 → AnyOptimal p r

@@ -23,7 +23,7 @@ use Rattle.rules.specs.Conditions.{Ends, Checks, AllSound}
 use Rattle.rules.specs.Invariant.{ProblemFits, Sound}
 use Rattle.rules.specs.declared.Stop.{Stop}
 use Rattle.rules.specs.declared.Stop.TheVariants.{Finished, Spent, Unbounded, NotFinite, Singular, Infeasible}
-use Rattle.rules.specs.declared.Choice.TheVariants.{Nothing}
+use Rattle.std.specs.Prelude.{None}
 use Rattle.rules.specs.declared.Checked.{Checked}
 use Rattle.rules.specs.declared.Checked.TheVariants.{Passed, Value, Row}
 use Rattle.rules.proofs.Refusals.{Passes, none_refused}
@@ -92,7 +92,7 @@ ends_not_26 P s (made {e} t x g) = goes_not_26 P t e g
 
 -- ---- on 0 no column enters
 checked_none : (P : Problem) (w : Stop) (s : State) → Ends P primal s w → number_of (answer_of P (ended w s)) ≡ 0
-    → choose P s.ws ≡ Nothing
+    → choose P s.ws ≡ None
 unfolding Ends answer_of as_row
 checked_none P Finished s h q = h
 checked_none P Spent s h q = absurd (omega arith)
@@ -103,7 +103,7 @@ checked_none P (Infeasible r) s h q = absurd h
 
 module _ (P : Problem) (t : State) (e : Ended) where
   none_by_kind : (k : Kind) (n : ℕ) → Steps P t primal k n e.state → Ends P k e.state e.why
-      → number_of (answer_of P e) ≡ 0 → choose P e.state.ws ≡ Nothing
+      → number_of (answer_of P e) ≡ 0 → choose P e.state.ws ≡ None
   none_by_kind dual n x h q = absurd (no_dual P t x)
   none_by_kind primal n x h q = checked_none P e.why e.state h q
 
@@ -113,7 +113,7 @@ own_not_0 P s not_finite q = omega arith
 own_not_0 P s singular q = omega arith
 
 ends_none : (P : Problem) (s : State) {e : Ended} → RepriceEnds P s e → number_of (answer_of P e) ≡ 0
-    → choose P e.state.ws ≡ Nothing
+    → choose P e.state.ws ≡ None
 ends_none P s (not_made w x) q = absurd (own_not_0 P s x q)
 ends_none P s (made {e} t x g) q = none_by_kind P t e g.kind g.count g.by_steps g.ends q
 
@@ -229,14 +229,14 @@ module _ (p : Plan) (m : Memory) where
     reprice_writes =
         subst (λ (r : Called). call_number r ≡ 0 → CallPasses p r) (sym (reprice_closes p m n)) closed_passes
 
-  case_none : {r : Called} → RepriceCase p m r → call_number r ≡ 0 → choose P r.memory.ws ≡ Nothing
+  case_none : {r : Called} → RepriceCase p m r → call_number r ≡ 0 → choose P r.memory.ws ≡ None
   unfolding close_repriced close memory_after as_fix_row
   case_none (refused k l says) q =
       absurd (⊎_elim (λ x. omega (arith, says.number, q, x.0)) (λ x. omega (arith, says.number, q, x)) l)
   case_none (accepted n) q = ends_none P s ends q
 
   -- on 0 no column enters, with the prices of the plan's costs
-  pub reprice_none : call_number (reprice_plan p m) ≡ 0 → choose (problem_of p) (reprice_plan p m).memory.ws ≡ Nothing
+  pub reprice_none : call_number (reprice_plan p m) ≡ 0 → choose (problem_of p) (reprice_plan p m).memory.ws ≡ None
   reprice_none = case_none (reprice_cases p m)
 
   -- ---- a fixed column keeps its place, its mark and its value, whether the call is refused or not

@@ -1,6 +1,6 @@
 -- What the call promises, in words: when each refusal is given, how it goes on, and what it leaves. proofs/ shows that
 -- it keeps it. Assumes nothing.
-use Rattle.std.specs.Prelude.{◌≡◌, true, ◌⊎◌, ℕ, suc, ◌+◌, ◌<◌, ◌≤◌, Float}
+use Rattle.std.specs.Prelude.{◌≡◌, true, ◌⊎◌, ℕ, suc, ◌+◌, ◌<◌, ◌≤◌, Float, None}
 use Rattle.doubles.specs.Num.{◌⊕◌, ◌⊗◌, f0}
 use Rattle.doubles.specs.Lists.{◌!◌, ◌#◌}
 use Rattle.lu_factor_rules.specs.Factor.{Factor, factored, factorize}
@@ -12,7 +12,6 @@ use Rattle.rules.specs.Kinds.{primal}
 use Rattle.rules.specs.Answers.{as_row, number_of}
 use Rattle.rules.specs.Solve.{solve_plan}
 use Rattle.rules.specs.Conditions.{Gives, Checks, AllSound, written}
-use Rattle.rules.specs.declared.Choice.TheVariants.{Nothing}
 use Rattle.rules.specs.declared.Checked.TheVariants.{Passed}
 use Rattle.rules.specs.declared.Stop.{Stop}
 use Rattle.rules.specs.declared.Stop.TheVariants.{NotFinite, Singular}
@@ -86,7 +85,7 @@ pub record AnyOptimal (p : Plan) (r : AnyCalled) : Type 0 where
   pub values_of_holds : written p r.memory ≡ values_of (problem_of p) r.memory.ws
   pub checked : Checks (problem_of p) (written p r.memory) (Passed (as_any_row r.answer).excess)
   pub all_sound : AllSound (problem_of p) (written p r.memory)
-  pub none_enters : choose (problem_of p) r.memory.ws ≡ Nothing
+  pub none_enters : choose (problem_of p) r.memory.ws ≡ None
 
 -- ---- the numbers of the own part, apart from the loops
 

@@ -7,7 +7,6 @@ ghost use Rattle.state.specs.Packed.{state_in};
 ghost use Rattle.run.specs.Ran.{ran_by};
 ghost use Rattle.reprice_run.specs.Lent.{pricing_of, counted_end, Repricing};
 
-use reprice_prices::Own;
 use run::Ran;
 
 // The own factoring is counted last, so that within the run factorings are never above steps.
@@ -51,10 +50,10 @@ pub fn gone_on(
         kept,
     );
     match own {
-        Own::Halts(why) => {
+        Err(why) => {
             return Ran { why, at };
         }
-        Own::Goes(t) => {
+        Ok(t) => {
             let ran = run_launch::go_on(
                 numbers,
                 doubles,

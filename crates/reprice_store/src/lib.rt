@@ -15,8 +15,6 @@ ghost use Rattle.reprice_prices.specs.Lent.{priced_of};
 ghost use Rattle.reprice_prices.specs.Left.{after_own, own_left};
 ghost use Rattle.reprice_store.specs.Lent.{Pricing, PricingBy, anew_of};
 
-use reprice_prices::Own;
-
 // 2 to 5 with the factor of the basis, which isn't stored yet. Where every number is finite it is, in place of the eta
 // columns: "no eta columns, no entries, first start 0".
 fn with_factor(
@@ -40,7 +38,7 @@ fn with_factor(
     lvals: &[f64; doubles::MAX_TRI_ENTRIES],
     urows: &[usize; doubles::MAX_TRI_ENTRIES],
     uvals: &[f64; doubles::MAX_TRI_ENTRIES],
-) -> Own
+) -> Result<state::Tally, rules::Stop>
     requires pricing_by { PricingBy n costs.now kept.now cstarts.now crows.now ccoeffs.now numbers.old doubles.old
         factor_numbers.old factor_coeffs.old at }
     requires uvals_value { factored (factor_at (length kept.now) order.now number.now lstarts.now ustarts.now diag.now
@@ -77,10 +75,10 @@ fn with_factor(
         numbers, doubles, at, n, costs, kept, cstarts, crows, ccoeffs, &y,
     );
     match own {
-        Own::Halts(why) => {
-            return Own::Halts(why);
+        Err(why) => {
+            return Err(why);
         }
-        Own::Goes(t) => {
+        Ok(t) => {
             numbers[state::ETA_STARTS] = 0;
             lu_packed::store(
                 m,
@@ -96,7 +94,7 @@ fn with_factor(
                 factor_numbers,
                 factor_coeffs,
             );
-            return Own::Goes(state::Tally {
+            return Ok(state::Tally {
                 eta_count: 0,
                 objective: t.objective,
                 steps: t.steps,
@@ -121,7 +119,7 @@ fn anew(
     cstarts: &[usize],
     crows: &[usize],
     ccoeffs: &[f64],
-) -> Own
+) -> Result<state::Tally, rules::Stop>
     requires { PricingBy n costs.now kept.now cstarts.now crows.now ccoeffs.now numbers.old doubles.old
         factor_numbers.old factor_coeffs.old at }
     ensures { (starts cols : List ℕ) (coeffs : List Float) → ByColumns
@@ -159,10 +157,10 @@ fn anew(
     );
     match factored {
         lu_factor_rules::Ended::NotFinite => {
-            return Own::Halts(rules::Stop::NotFinite);
+            return Err(rules::Stop::NotFinite);
         }
         lu_factor_rules::Ended::Singular => {
-            return Own::Halts(rules::Stop::Singular);
+            return Err(rules::Stop::Singular);
         }
         lu_factor_rules::Ended::Done(_) => {
             return with_factor(
@@ -204,7 +202,7 @@ pub fn repriced(
     cols: &[usize],
     coeffs: &[f64],
     kept: &[usize],
-) -> Own
+) -> Result<state::Tally, rules::Stop>
     requires { Pricing n costs.now starts.now cols.now coeffs.now kept.now numbers.old doubles.old
         factor_numbers.old factor_coeffs.old at }
     ensures { own_left result numbers.new doubles.new factor_numbers.new

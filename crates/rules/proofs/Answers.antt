@@ -33,11 +33,8 @@ use Rattle.rules.proofs.Stops.{step_stops}
 use Rattle.rules.proofs.DualStops.{dual_stops_exactly}
 use Rattle.rules.proofs.Steps.{step_counts, dual_counts, steps_count, end_reached}
 use Rattle.rules.specs.declared.Entering.{Entering}
-use Rattle.rules.specs.declared.Choice.{Choice}
-use Rattle.rules.specs.declared.Choice.TheVariants.{Enters, Nothing}
+use Rattle.std.specs.Prelude.{Option, Some, None}
 use Rattle.rules.specs.declared.LeavingVar.{LeavingVar}
-use Rattle.rules.specs.declared.RowChoice.{RowChoice}
-use Rattle.rules.specs.declared.RowChoice.TheVariants.{Leaves, Nothing as Row-as-Nothing}
 use Rattle.rules.specs.declared.Stop.{Stop}
 use Rattle.rules.specs.declared.Stop.TheVariants.{Finished, Spent as Stop-as-Spent, Unbounded as Stop-as-Unbounded, NotFinite as Stop-as-NotFinite, Singular as Stop-as-Singular, Infeasible as Stop-as-Infeasible}
 use Rattle.rules.specs.declared.Checked.{Checked}
@@ -59,18 +56,18 @@ module _ (P : Problem) where
   goes_from dual k s = then_primal P P.plan.budget (dual_runs k s)
 
   -- with no column that enters it ends there, and with no row that leaves the dual steps do
-  none_enters : (k : ℕ) (s : State) → choose P s.ws ≡ Nothing → runs k s ≡ ended Finished s
+  none_enters : (k : ℕ) (s : State) → choose P s.ws ≡ None → runs k s ≡ ended Finished s
   unfolding until next at_budget
   none_enters zero s q = rw (q, at_budget) refl
   none_enters (suc k) s q = rw (q, until, next) refl
 
-  pub none_leaves : (k : ℕ) (s : State) → choose_row P s.ws ≡ Row-as-Nothing → dual_runs k s ≡ ended Finished s
+  pub none_leaves : (k : ℕ) (s : State) → choose_row P s.ws ≡ None → dual_runs k s ≡ ended Finished s
   unfolding until dual_next dual_at_budget
   none_leaves zero s q = rw (q, dual_at_budget) refl
   none_leaves (suc k) s q = rw (q, until, dual_next) refl
 
   -- ---- where it ends, the words of its end hold
-  halted : (s : State) (e : Entering) → choose P s.ws ≡ Enters e → s.steps < P.plan.budget → (w : Stop) → step P s e ≡ stopped w
+  halted : (s : State) (e : Entering) → choose P s.ws ≡ Some e → s.steps < P.plan.budget → (w : Stop) → step P s e ≡ stopped w
       → Ends P primal s w
   unfolding Ends StopsWith
   halted s e q h Finished r = absurd ((step_stops P s e Finished).0 r)
@@ -87,27 +84,27 @@ module _ (P : Problem) where
   unfolding until next at_budget Ends
   run_ends zero s h = go (choose P s.ws) refl
     where
-      go : (x : Choice) → choose P s.ws ≡ x → EndsSo primal (runs 0 s)
-      go Nothing q = rw (q, at_budget) q
-      go (Enters e) q = rw (q, at_budget) (e, q, omega arith)
+      go : (x : Option Entering) → choose P s.ws ≡ x → EndsSo primal (runs 0 s)
+      go None q = rw (q, at_budget) q
+      go (Some e) q = rw (q, at_budget) (e, q, omega arith)
   run_ends (suc k) s h = go (λ t l. run_ends k t l) (choose P s.ws) refl
     where
-      turn : ((t : State) → t.steps + k ≡ P.plan.budget → EndsSo primal (runs k t)) → (e : Entering) → choose P s.ws ≡ Enters e
+      turn : ((t : State) → t.steps + k ≡ P.plan.budget → EndsSo primal (runs k t)) → (e : Entering) → choose P s.ws ≡ Some e
           → (o : Outcome) → step P s e ≡ o → EndsSo primal (runs (suc k) s)
       turn rest e q (moved i t) r = rw (q, r, until, next) (rest t (omega (arith, step_counts P s e i t r)))
       turn rest e q (stopped w) r = rw (q, r, until, next) (halted s e q (omega arith) w r)
 
-      go : ((t : State) → t.steps + k ≡ P.plan.budget → EndsSo primal (runs k t)) → (x : Choice) → choose P s.ws ≡ x
+      go : ((t : State) → t.steps + k ≡ P.plan.budget → EndsSo primal (runs k t)) → (x : Option Entering) → choose P s.ws ≡ x
           → EndsSo primal (runs (suc k) s)
-      go rest Nothing q = rw (q, until, next) q
-      go rest (Enters e) q = turn rest e q (step P s e) refl
+      go rest None q = rw (q, until, next) q
+      go rest (Some e) q = turn rest e q (step P s e) refl
 
   -- the dual steps turn, or stay where they are
   data DualEnded : Ended → Type 0 where
-    turned : (t : State) → choose_row P t.ws ≡ Row-as-Nothing → t.steps ≤ P.plan.budget → DualEnded (ended Finished t)
+    turned : (t : State) → choose_row P t.ws ≡ None → t.steps ≤ P.plan.budget → DualEnded (ended Finished t)
     stayed : (w : Stop) (t : State) → Ends P dual t w → DualEnded (ended w t)
 
-  dual_halted : (s : State) (l : LeavingVar) → choose_row P s.ws ≡ Leaves l → s.steps < P.plan.budget → (w : Stop) → dual_step P s l ≡ stopped w
+  dual_halted : (s : State) (l : LeavingVar) → choose_row P s.ws ≡ Some l → s.steps < P.plan.budget → (w : Stop) → dual_step P s l ≡ stopped w
       → Ends P dual s w
   unfolding Ends DualStopsBy
   dual_halted s l q h Finished r = absurd ((dual_stops_exactly P s l Finished).0 r)
@@ -121,20 +118,20 @@ module _ (P : Problem) where
   unfolding until dual_next dual_at_budget Ends
   dual_ends zero s h = go (choose_row P s.ws) refl
     where
-      go : (x : RowChoice) → choose_row P s.ws ≡ x → DualEnded (dual_runs 0 s)
-      go Row-as-Nothing q = rw (q, dual_at_budget) (turned s q (omega arith))
-      go (Leaves l) q = rw (q, dual_at_budget) (stayed Stop-as-Spent s (l, q, omega arith))
+      go : (x : Option LeavingVar) → choose_row P s.ws ≡ x → DualEnded (dual_runs 0 s)
+      go None q = rw (q, dual_at_budget) (turned s q (omega arith))
+      go (Some l) q = rw (q, dual_at_budget) (stayed Stop-as-Spent s (l, q, omega arith))
   dual_ends (suc k) s h = go (λ t l. dual_ends k t l) (choose_row P s.ws) refl
     where
-      turn : ((t : State) → t.steps + k ≡ P.plan.budget → DualEnded (dual_runs k t)) → (l : LeavingVar) → choose_row P s.ws ≡ Leaves l
+      turn : ((t : State) → t.steps + k ≡ P.plan.budget → DualEnded (dual_runs k t)) → (l : LeavingVar) → choose_row P s.ws ≡ Some l
           → (o : Outcome) → dual_step P s l ≡ o → DualEnded (dual_runs (suc k) s)
       turn rest l q (moved i t) r = rw (q, r, until, dual_next) (rest t (omega (arith, dual_counts P s l i t r)))
       turn rest l q (stopped w) r = rw (q, r, until, dual_next) (stayed w s (dual_halted s l q (omega arith) w r))
 
-      go : ((t : State) → t.steps + k ≡ P.plan.budget → DualEnded (dual_runs k t)) → (x : RowChoice) → choose_row P s.ws ≡ x
+      go : ((t : State) → t.steps + k ≡ P.plan.budget → DualEnded (dual_runs k t)) → (x : Option LeavingVar) → choose_row P s.ws ≡ x
           → DualEnded (dual_runs (suc k) s)
-      go rest Row-as-Nothing q = rw (q, until, dual_next) (turned s q (omega arith))
-      go rest (Leaves l) q = turn rest l q (dual_step P s l) refl
+      go rest None q = rw (q, until, dual_next) (turned s q (omega arith))
+      go rest (Some l) q = turn rest l q (dual_step P s l) refl
 
   -- and then the primal ones
   both_end : {e : Ended} → DualEnded e → EndsSo (kind_after e.why) (then_primal P P.plan.budget e)
@@ -311,7 +308,7 @@ module _ (p : Plan) (m : Memory) where
 
 -- ---- 20. 02: "a column at neither bound enters only if its price's size is at least EPS. This amends the step rule and
 -- 20"
-entered : {P : Problem} {c : Kind} {s : State} {t : Told} → Line P c s t → t.number ≡ 20 → (e : Entering) × (choose P s.ws ≡ Enters e)
+entered : {P : Problem} {c : Kind} {s : State} {t : Told} → Line P c s t → t.number ≡ 20 → (e : Entering) × (choose P s.ws ≡ Some e)
 unfolding Ends
 entered (optimal x h g) q = absurd (omega arith)
 entered (value_rejected v x h g) q = absurd (omega arith)
@@ -325,7 +322,7 @@ entered (infeasible r h) q = absurd (omega arith)
 
 module _ (p : Plan) (m : Memory) where
   abbrev ByPrice : Type 0
-  ByPrice = (e : Entering) × (choose (problem_of p) (reached p m).ws ≡ Enters e) × (le eps (size e.price) ≡ true)
+  ByPrice = (e : Entering) × (choose (problem_of p) (reached p m).ws ≡ Some e) × (le eps (size e.price) ≡ true)
 
   by_price : {r : Solved} → Case p m r → number_of r.answer ≡ 20 → ByPrice
   unfolding close
@@ -337,7 +334,7 @@ module _ (p : Plan) (m : Memory) where
       (x.0, x.1, entering_priced P w x.0 ((enters_exactly P w x.0).0 x.1))
 
   -- it comes only by a column whose price's size is at least EPS
-  pub unbounded_priced : number_of (solve_plan p m).answer ≡ 20 → (e : Entering) × (choose (problem_of p) (reached p m).ws ≡ Enters e) × (le eps (size e.price) ≡ true)
+  pub unbounded_priced : number_of (solve_plan p m).answer ≡ 20 → (e : Entering) × (choose (problem_of p) (reached p m).ws ≡ Some e) × (le eps (size e.price) ≡ true)
   unbounded_priced = by_price (cases p m)
 
 -- ---- what the lent memory holds afterwards

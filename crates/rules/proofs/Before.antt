@@ -25,7 +25,7 @@ use Rattle.rules.specs.Steps.{Steps, none, turns, one_more}
 use Rattle.rules.specs.Kinds.{primal}
 use Rattle.rules.specs.Before.{column_before, inv_row_before, row_before, tau_before, helper_before, pivot_before, step_before, StepsBefore, none as none_before, one_more as one-before}
 use Rattle.rules.specs.declared.Entering.{Entering}
-use Rattle.rules.specs.declared.Choice.TheVariants.{Enters}
+use Rattle.std.specs.Prelude.{Some}
 use Rattle.rules.specs.declared.PivotInfo.{PivotInfo}
 use Rattle.rules.specs.declared.PivotInfo.TheVariants.{Flip, Exchange}
 use Rattle.rules.specs.declared.Ratio.{Ratio}
@@ -43,7 +43,7 @@ touch_again : (s : Sv) (i : ℕ) → Touched s i → touch_at s i ≡ s
 unfolding touch_at touched
 touch_again s i h = rw h refl
 
-module _ (P : Problem) (p : ProblemFits P) (s : State) (g : Sound P s) (e : Entering) (enters : choose P s.ws ≡ Enters e)
+module _ (P : Problem) (p : ProblemFits P) (s : State) (g : Sound P s) (e : Entering) (enters : choose P s.ws ≡ Some e)
     (first : s.factor.there ≡ false) where
   abbrev c : Sv
   c = step_column P s e

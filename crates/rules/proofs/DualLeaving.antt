@@ -17,8 +17,7 @@ use Rattle.rules.specs.Choose.{score_of}
 use Rattle.rules.specs.DualRow.{too_low, outside, bound_broken, row_min, row_max, outside_at, infeasibility_at, row_score_at, BestRow, best_row_of, better_row_turn, best_row, leaving_row_of, choose_row}
 use Rattle.rules.specs.DualChoices.{OutsideBy, below, above as Above·above, IsLeaving, NoneLeaves}
 use Rattle.rules.specs.declared.LeavingVar.{LeavingVar}
-use Rattle.rules.specs.declared.RowChoice.{RowChoice}
-use Rattle.rules.specs.declared.RowChoice.TheVariants.{Leaves, Nothing}
+use Rattle.std.specs.Prelude.{Option, Some, None}
 
 module _ (P : Problem) (w : Workspace) where
   -- ---- the test
@@ -70,9 +69,9 @@ module _ (P : Problem) (w : Workspace) where
   not_none l a h = not_both a.scores (h l.row a.wins.inside a.wins.passes)
 
   -- one of the two holds of what `choose_row` gives
-  data Chosen : RowChoice → Type 0 where
-    leaves : (l : LeavingVar) → IsLeaving P w l → Chosen (Leaves l)
-    none : NoneLeaves P w → Chosen Nothing
+  data Chosen : Option LeavingVar → Type 0 where
+    leaves : (l : LeavingVar) → IsLeaving P w l → Chosen (Some l)
+    none : NoneLeaves P w → Chosen None
 
   abbrev Kept : BestRow → Type 0
   Kept b = Best above at_least (outside_at P w) (row_score_at P w) (λ r. best_row_of r (row_score_at P w r)) -inf (best_row_of (m_of P) -inf) (m_of P) b
@@ -95,7 +94,7 @@ module _ (P : Problem) (w : Workspace) where
   unfolding choose_row leaving_row_of score_of
   chosen = go (best_row P w) found
     where
-      go : (b : BestRow) → Kept b → Chosen (elim (ltb b.row (m_of P)) [ true ↦ Leaves (leaving_row_of P w b) | false ↦ Nothing ])
+      go : (b : BestRow) → Kept b → Chosen (elim (ltb b.row (m_of P)) [ true ↦ Some (leaving_row_of P w b) | false ↦ None ])
       go _ (kept h) = rw (le-ltb (m_of P) (m_of P) (omega arith)) (none h)
       go _ (took r l t a h f) =
           rw (lt-ltb r (m_of P) l)
@@ -109,29 +108,29 @@ module _ (P : Problem) (w : Workspace) where
             upper_is = upper_by r;
           }))
 
-  by_leaves : {x : RowChoice} → Chosen x → (l : LeavingVar) → x ≡ Leaves l → IsLeaving P w l
+  by_leaves : {x : Option LeavingVar} → Chosen x → (l : LeavingVar) → x ≡ Some l → IsLeaving P w l
   by_leaves (leaves k a) l q = let z : k ≡ l = cc in subst (IsLeaving P w) z a
   by_leaves (none h) l q = absurd (let z : ◌≡◌ {A = ℕ} 0 1 = cc in omega arith)
 
-  by_nothing : {x : RowChoice} → Chosen x → x ≡ Nothing → NoneLeaves P w
+  by_nothing : {x : Option LeavingVar} → Chosen x → x ≡ None → NoneLeaves P w
   by_nothing (leaves k a) q = absurd (let z : ◌≡◌ {A = ℕ} 0 1 = cc in omega arith)
   by_nothing (none h) q = h
 
-  gives_leaves : {x : RowChoice} → Chosen x → (l : LeavingVar) → IsLeaving P w l → x ≡ Leaves l
-  gives_leaves (leaves k a) l b = ap Leaves (same k l a b)
+  gives_leaves : {x : Option LeavingVar} → Chosen x → (l : LeavingVar) → IsLeaving P w l → x ≡ Some l
+  gives_leaves (leaves k a) l b = ap Some (same k l a b)
   gives_leaves (none h) l b = absurd (not_none l b h)
 
-  gives_nothing : {x : RowChoice} → Chosen x → NoneLeaves P w → x ≡ Nothing
+  gives_nothing : {x : Option LeavingVar} → Chosen x → NoneLeaves P w → x ≡ None
   gives_nothing (leaves k a) h = absurd (not_none k a h)
   gives_nothing (none g) h = refl
 
   -- 02: "the leaving row has the largest squared infeasibility over dual norm, first on a tie"
-  pub leaves_exactly : (l : LeavingVar) → choose_row P w ≡ Leaves l ↔ IsLeaving P w l
+  pub leaves_exactly : (l : LeavingVar) → choose_row P w ≡ Some l ↔ IsLeaving P w l
   leaves_exactly l = (by_leaves chosen l, gives_leaves chosen l)
 
   -- "None: the primal steps begin": none leaves exactly when no row that is outside scores above -inf
-  pub none_exactly : choose_row P w ≡ Nothing ↔ NoneLeaves P w
+  pub none_exactly : choose_row P w ≡ None ↔ NoneLeaves P w
   none_exactly = (by_nothing chosen, gives_nothing chosen)
 
-  pub leaves_below : (l : LeavingVar) → choose_row P w ≡ Leaves l → l.row < m_of P
+  pub leaves_below : (l : LeavingVar) → choose_row P w ≡ Some l → l.row < m_of P
   leaves_below l q = ((leaves_exactly l).0 q).wins.inside

@@ -24,8 +24,7 @@ use Rattle.rules.specs.Solve.{end_of}
 use Rattle.rules.specs.Conditions.{Ends}
 use Rattle.rules.specs.Steps.{Steps, none, turns}
 use Rattle.rules.specs.declared.NonBasicVarState.{NonBasicVarState}
-use Rattle.rules.specs.declared.Choice.TheVariants.{Nothing}
-use Rattle.rules.specs.declared.RowChoice.TheVariants.{Nothing as Row-as-Nothing}
+use Rattle.std.specs.Prelude.{None}
 use Rattle.rules.specs.declared.Stop.TheVariants.{Finished}
 use Rattle.rules.proofs.Lists.{over_at}
 use Rattle.rules.proofs.EnteringColumn.{eps_number, size_number, filter_means, fixed_never, under_eps_never, price_number, nothing_exactly}
@@ -137,7 +136,7 @@ flags_back true false = refl
 flags_back true true = refl
 
 -- Nothing is asked of the plan: a NaN cost scores NaN, and never wins.
-pub none_at_dual_start : (P : Problem) (m : Memory) → dual_feasible P.plan ≡ true → choose P (start_state P m).ws ≡ Nothing
+pub none_at_dual_start : (P : Problem) (m : Memory) → dual_feasible P.plan ≡ true → choose P (start_state P m).ws ≡ None
 unfolding dual_feasible start_state start_workspace start_vals
 none_at_dual_start P m d = (nothing_exactly P (start_state P m).ws).1 (λ c l t. false_by (λ s. not_both t (never c l s)))
   where
@@ -220,7 +219,7 @@ module _ (P : Problem) (m : Memory) where
       let x : start.basic_var_vals ! r ≡ start_slack P xs r = over_at (m_of P) (start_slack P xs) m.ws.basic_var_vals nan r l in
       rw (v, x, (slack_bounds r).0, (slack_bounds r).1, low_inside (op_of r) (start_slack P xs r) b.0, high_inside (op_of r) (start_slack P xs r) b.1)
 
-  pub none_leaves_start : passes7 P ≡ true → choose_row P (start_state P m).ws ≡ Row-as-Nothing
+  pub none_leaves_start : passes7 P ≡ true → choose_row P (start_state P m).ws ≡ None
   none_leaves_start h = (none_exactly P start).1 (λ r l t. absurd (not_both t (never_outside h r l)))
 
   -- 01: "If dual feasible, Optimal is reached at once with 0 steps (ours)": still so where every slack starts within its

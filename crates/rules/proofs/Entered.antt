@@ -25,7 +25,7 @@ use Rattle.rules.specs.Choices.{Listed}
 use Rattle.rules.specs.Conditions.{step_column}
 use Rattle.rules.specs.Invariant.{ProblemFits, Store, Sound, Vector, Touched}
 use Rattle.rules.specs.declared.Entering.{Entering}
-use Rattle.rules.specs.declared.Choice.TheVariants.{Enters}
+use Rattle.std.specs.Prelude.{Some}
 use Rattle.rules.proofs.Lists.{part_long, part_at, set_either}
 use Rattle.rules.proofs.Zeros.{Zero, zero_f0, zero_times, zero_less, zero_small}
 use Rattle.rules.proofs.Maps.{split}
@@ -97,7 +97,7 @@ scattered_by P v i Q rows =
     (λ k l t g u. ⊎_elim (λ (q : i ≡ (get_or (column P v) k e0).at). rw q (rows k l)) g (touched_by_holds t _ _ i u)) blank (λ u. absurd (none_touched i u))
 
 -- ---- the step's own
-module _ (P : Problem) (f : ProblemFits P) (s : State) (g : Sound P s) (e : Entering) (enters : choose P s.ws ≡ Enters e) (row : ℕ) (x : Listed (step_column P s e) row)
+module _ (P : Problem) (f : ProblemFits P) (s : State) (g : Sound P s) (e : Entering) (enters : choose P s.ws ≡ Some e) (row : ℕ) (x : Listed (step_column P s e) row)
     (first : s.factor.there ≡ false) where
   abbrev h : Etas
   h = s.ws.etas

@@ -17,8 +17,7 @@ use Rattle.rules.specs.Choose.{may_enter, score_of, passes_filter, score_at, Bes
 use Rattle.rules.specs.Choices.{MayEnter, IsEntering, NoneEnters}
 use Rattle.rules.specs.declared.NonBasicVarState.{NonBasicVarState}
 use Rattle.rules.specs.declared.Entering.{Entering}
-use Rattle.rules.specs.declared.Choice.{Choice}
-use Rattle.rules.specs.declared.Choice.TheVariants.{Enters, Nothing}
+use Rattle.std.specs.Prelude.{Option, Some, None}
 
 -- ---- the filter. 01: "Filter as shown"; 02: "a column at neither bound enters only if its price's size is at least
 -- EPS"
@@ -161,9 +160,9 @@ module _ (P : Problem) (w : Workspace) where
   not_none e a h = not_both a.scores (h e.col a.wins.inside a.wins.passes)
 
   -- one of the two holds of what `choose` gives
-  data Chosen : Choice → Type 0 where
-    enters : (e : Entering) → IsEntering P w e → Chosen (Enters e)
-    none : NoneEnters P w → Chosen Nothing
+  data Chosen : Option Entering → Type 0 where
+    enters : (e : Entering) → IsEntering P w e → Chosen (Some e)
+    none : NoneEnters P w → Chosen None
 
   abbrev Kept : Column → Type 0
   Kept b = Best above at_least (passes_filter w) (score_at w) (λ c. best_of c (score_at w c)) -inf (best_of (n_of P) -inf) (n_of P) b
@@ -176,33 +175,33 @@ module _ (P : Problem) (w : Workspace) where
   unfolding choose entering_of score_of
   chosen = go (best_column (n_of P) w) found
     where
-      go : (b : Column) → Kept b → Chosen (elim (ltb b.col (n_of P)) [ true ↦ Enters (entering_of P w b) | false ↦ Nothing ])
+      go : (b : Column) → Kept b → Chosen (elim (ltb b.col (n_of P)) [ true ↦ Some (entering_of P w b) | false ↦ None ])
       go _ (kept h) = rw (le-ltb (n_of P) (n_of P) (omega arith)) (none h)
       go _ (took c l t a h f) =
           rw (lt-ltb c (n_of P) l)
           (enters (entering_of P w (best_of c (score_at w c)))
           (record { wins = record { inside = l; passes = t; largest = h; first = f }; scores = a; price_is = refl; score_is = refl; distance_is = refl }))
 
-  by_enters : {x : Choice} → Chosen x → (e : Entering) → x ≡ Enters e → IsEntering P w e
+  by_enters : {x : Option Entering} → Chosen x → (e : Entering) → x ≡ Some e → IsEntering P w e
   by_enters (enters f a) e q = let z : f ≡ e = cc in subst (IsEntering P w) z a
   by_enters (none h) e q = absurd (let z : ◌≡◌ {A = ℕ} 0 1 = cc in omega arith)
 
-  by_nothing : {x : Choice} → Chosen x → x ≡ Nothing → NoneEnters P w
+  by_nothing : {x : Option Entering} → Chosen x → x ≡ None → NoneEnters P w
   by_nothing (enters f a) q = absurd (let z : ◌≡◌ {A = ℕ} 0 1 = cc in omega arith)
   by_nothing (none h) q = h
 
-  gives_enters : {x : Choice} → Chosen x → (e : Entering) → IsEntering P w e → x ≡ Enters e
-  gives_enters (enters f a) e b = ap Enters (same f e a b)
+  gives_enters : {x : Option Entering} → Chosen x → (e : Entering) → IsEntering P w e → x ≡ Some e
+  gives_enters (enters f a) e b = ap Some (same f e a b)
   gives_enters (none h) e b = absurd (not_none e b h)
 
-  gives_nothing : {x : Choice} → Chosen x → NoneEnters P w → x ≡ Nothing
+  gives_nothing : {x : Option Entering} → Chosen x → NoneEnters P w → x ≡ None
   gives_nothing (enters f a) h = absurd (not_none f a h)
   gives_nothing (none g) h = refl
 
   -- 01: "strictly largest wins, first on a tie"
-  pub enters_exactly : (e : Entering) → choose P w ≡ Enters e ↔ IsEntering P w e
+  pub enters_exactly : (e : Entering) → choose P w ≡ Some e ↔ IsEntering P w e
   enters_exactly e = (by_enters chosen e, gives_enters chosen e)
 
   -- 01: "entering column (none: final check)": none enters exactly when no column that passes the filter scores above -inf
-  pub nothing_exactly : choose P w ≡ Nothing ↔ NoneEnters P w
+  pub nothing_exactly : choose P w ≡ None ↔ NoneEnters P w
   nothing_exactly = (by_nothing chosen, gives_nothing chosen)

@@ -17,7 +17,7 @@ use Rattle.rules.specs.Invariant.{ProblemFits}
 use Rattle.rules.specs.Conditions.{NoneBelow, Checks, DualStopsBy, dual_row, NoEntering, Ends, Line, optimal, unbounded, spent, singular, infeasible, not_finite, value_rejected, row_rejected}
 use Rattle.rules.specs.Steps.{Steps, none, turns, one_more, TurnsAt, RunsTo}
 use Rattle.rules.specs.declared.LeavingVar.{LeavingVar}
-use Rattle.rules.specs.declared.Choice.TheVariants.{Nothing}
+use Rattle.std.specs.Prelude.{None}
 use Rattle.rules.specs.declared.DualRatio.TheVariants.{Nothing as Dual-as-Nothing}
 use Rattle.rules.specs.declared.Stop.TheVariants.{Infeasible}
 use Rattle.rules.specs.declared.Checked.TheVariants.{Passed}
@@ -69,7 +69,7 @@ line_26 {c = dual} (infeasible r h) q = of_26 r refl h
 line_26 {c = primal} (infeasible r h) q = absurd h
 
 data Of0 (P : Problem) (c : Kind) (s : State) : Told → Type 0 where
-  of_0 : (x : Float) → c ≡ primal → choose P s.ws ≡ Nothing → Checks P (values_of P s.ws) (Passed x)
+  of_0 : (x : Float) → c ≡ primal → choose P s.ws ≡ None → Checks P (values_of P s.ws) (Passed x)
       → Of0 P c s (row 0 s.objective s.steps x nowhere)
 
 line_0 : {P : Problem} {c : Kind} {s : State} {t : Told} → Line P c s t → t.number ≡ 0 → Of0 P c s t
@@ -138,7 +138,7 @@ module _ (p : Plan) (m : Memory) where
   abbrev Optimal·Words : Type 0
   Optimal·Words =
       NoneBelow 8 p m
-      × ((s : State) × RunsTo p m primal s × (choose (problem_of p) s.ws ≡ Nothing)
+      × ((s : State) × RunsTo p m primal s × (choose (problem_of p) s.ws ≡ None)
       × ((x : Float) × Checks (problem_of p) (values_of (problem_of p) s.ws) (Passed x)))
 
   words_0 : {c : Kind} {s : State} {t : Told} → NoneBelow 8 p m → RunsTo p m c s → Of0 (problem_of p) c s t → Optimal·Words
@@ -148,7 +148,7 @@ module _ (p : Plan) (m : Memory) where
   -- steps of a dual feasible start ended (`turned_at`), where no column enters and which the final check accepts
   pub optimal_told : (told.number ≡ 0)
       ↔ (NoneBelow 8 p m
-      × ((s : State) × RunsTo p m primal s × (choose (problem_of p) s.ws ≡ Nothing)
+      × ((s : State) × RunsTo p m primal s × (choose (problem_of p) s.ws ≡ None)
       × ((x : Float) × Checks (problem_of p) (values_of (problem_of p) s.ws) (Passed x))))
   unfolding Ends
   optimal_told = (

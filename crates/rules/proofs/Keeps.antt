@@ -24,7 +24,7 @@ use Rattle.rules.specs.Pivot.{store_turn, stored, stores_finite, moved_val, new_
 use Rattle.rules.specs.Step.{state_with_dual_norms, step, dual_step, moved}
 use Rattle.rules.specs.Conditions.{step_column}
 use Rattle.rules.specs.declared.Entering.{Entering}
-use Rattle.rules.specs.declared.Choice.TheVariants.{Enters}
+use Rattle.std.specs.Prelude.{Some}
 use Rattle.rules.specs.declared.LeavingVar.{LeavingVar}
 use Rattle.rules.specs.declared.PivotInfo.{PivotInfo}
 use Rattle.rules.specs.Invariant.{ProblemFits, Lengths, Maps, Store, FactorFits, FactorNumbers, Numbers, Fits, Sound, Vector}
@@ -359,7 +359,7 @@ module _ (P : Problem) (p : ProblemFits P) (s : State) (f : Fits P s) (e : Enter
       x.stores
 
 -- ---- a primal step
-module _ (P : Problem) (p : ProblemFits P) (s : State) (f : Fits P s) (e : Entering) (enters : choose P s.ws ≡ Enters e) (i : PivotInfo)
+module _ (P : Problem) (p : ProblemFits P) (s : State) (f : Fits P s) (e : Entering) (enters : choose P s.ws ≡ Some e) (i : PivotInfo)
     (t : State) (steps : step P s e ≡ moved i t) where
   -- the two maps between variables and places are each other's inverse after every step
   pub step_fits : Fits P t
@@ -373,7 +373,7 @@ module _ (P : Problem) (p : ProblemFits P) (s : State) (f : Fits P s) (e : Enter
       ⊎_elim (λ (x : Flips P s e t). rw x.after (flip_numbers P s e (step_column P s e) x.value x.diff x.passes g))
       (λ (x : Exchanged P s e t). made_numbers P p s f e t x g) (moves P p s f e enters i t steps)
 
-pub step_sound : (P : Problem) (p : ProblemFits P) (s : State) → Sound P s → (e : Entering) → choose P s.ws ≡ Enters e → (i : PivotInfo) (t : State) → step P s e ≡ moved i t
+pub step_sound : (P : Problem) (p : ProblemFits P) (s : State) → Sound P s → (e : Entering) → choose P s.ws ≡ Some e → (i : PivotInfo) (t : State) → step P s e ≡ moved i t
     → Sound P t
 step_sound P p s g e enters i t q =
     record { fits = step_fits P p s g.fits e enters i t q; numbers = step_numbers P p s g.fits e enters i t q g.numbers }

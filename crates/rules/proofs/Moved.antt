@@ -22,7 +22,7 @@ use Rattle.rules.specs.Conditions.{EtaBroken, FactorBroken, Exchanges, Exchanges
 use Rattle.rules.specs.Invariant.{ProblemFits, Fits, Vector}
 use Rattle.rules.specs.declared.NonBasicVarState.{NonBasicVarState}
 use Rattle.rules.specs.declared.Entering.{Entering}
-use Rattle.rules.specs.declared.Choice.TheVariants.{Enters}
+use Rattle.std.specs.Prelude.{Some}
 use Rattle.rules.specs.declared.LeavingVar.{LeavingVar}
 use Rattle.rules.specs.declared.DualRatio.TheVariants.{Exchange as Dual-as-Exchange}
 use Rattle.rules.specs.declared.PivotInfo.{PivotInfo}
@@ -35,7 +35,7 @@ use Rattle.rules.proofs.Stops.{room, flip_broken, numbers_broken, norms_broken, 
 use Rattle.rules.proofs.DualStops.{any_moves}
 
 -- the entering column is a column
-pub enters_below : (P : Problem) (w : Workspace) (e : Entering) → choose P w ≡ Enters e → e.col < n_of P
+pub enters_below : (P : Problem) (w : Workspace) (e : Entering) → choose P w ≡ Some e → e.col < n_of P
 enters_below P w e q = ((enters_exactly P w e).0 q).wins.inside
 
 -- a row that leaves is listed
@@ -171,7 +171,7 @@ module _ (P : Problem) (p : ProblemFits P) (s : State) (f : Fits P s) (e : Enter
       vector_touch_at (step_column P s e) x.swap.row (rows_places P p) (solved_vector x.col_below) x.row_below
 
 -- ---- a primal step
-module _ (P : Problem) (p : ProblemFits P) (s : State) (f : Fits P s) (e : Entering) (enters : choose P s.ws ≡ Enters e) where
+module _ (P : Problem) (p : ProblemFits P) (s : State) (f : Fits P s) (e : Entering) (enters : choose P s.ws ≡ Some e) where
   pub step_vector : Vector (m_of P) (step_column P s e)
   step_vector = solved_vector P p s f e (enters_below P s.ws e enters)
 

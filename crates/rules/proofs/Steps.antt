@@ -19,11 +19,8 @@ use Rattle.rules.specs.Conditions.{Exchanges, ExchangesBoth, StoresTo, step_colu
 use Rattle.rules.specs.Invariant.{ProblemFits, Fits, Sound, Tails}
 use Rattle.rules.specs.Steps.{Steps, none, one_dual, turns, one_more, Reached, Bounded}
 use Rattle.rules.specs.declared.Entering.{Entering}
-use Rattle.rules.specs.declared.Choice.{Choice}
-use Rattle.rules.specs.declared.Choice.TheVariants.{Enters, Nothing}
+use Rattle.std.specs.Prelude.{Option, Some, None}
 use Rattle.rules.specs.declared.LeavingVar.{LeavingVar}
-use Rattle.rules.specs.declared.RowChoice.{RowChoice}
-use Rattle.rules.specs.declared.RowChoice.TheVariants.{Leaves, Nothing as Row-as-Nothing}
 use Rattle.rules.specs.declared.PivotInfo.{PivotInfo}
 use Rattle.rules.specs.declared.PivotInfo.TheVariants.{Flip, Exchange}
 use Rattle.rules.specs.declared.Stop.{Stop}
@@ -78,7 +75,7 @@ module _ (P : Problem) (p : ProblemFits P) (s : State) (f : Fits P s) where
       rw y.after (record { columns = omega arith; entries = λ h. omega (arith, none) }))
       x.stores
 
-  step_grows : (e : Entering) → choose P s.ws ≡ Enters e → (i : PivotInfo) (t : State) → step P s e ≡ moved i t → Grows P s t
+  step_grows : (e : Entering) → choose P s.ws ≡ Some e → (i : PivotInfo) (t : State) → step P s e ≡ moved i t → Grows P s t
   unfolding flipped
   step_grows e enters i t q =
       ⊎_elim (λ (x : Flips P s e t). rw x.after (record { columns = omega arith; entries = λ h. h })) (made_grows e t)
@@ -105,7 +102,7 @@ module _ (P : Problem) (s : State) where
   dual_same none none = refl
   dual_same (one_dual {t} l i r c q) (one_dual {t = t'} l' i' r' c' q') =
       let same : t ≡ t' = dual_same r r' in
-      let chosen : choose_row P t.ws ≡ Leaves l' = rw same c' in
+      let chosen : choose_row P t.ws ≡ Some l' = rw same c' in
       let leaves : l ≡ l' = cc in
       cc
 
@@ -114,7 +111,7 @@ module _ (P : Problem) (s : State) where
     before : State
     leaving : LeavingVar
     by_steps : Steps P s b dual k before
-    leaves : choose_row P before.ws ≡ Leaves leaving
+    leaves : choose_row P before.ws ≡ Some leaving
 
   last_dual : {b : Kind} {k : ℕ} {u : State} → Steps P s b dual (suc k) u → LastDual b k
   last_dual (one_dual {t = t} l i r c q) = record { before = t; leaving = l; by_steps = r; leaves = c }
@@ -125,7 +122,7 @@ module _ (P : Problem) (s : State) where
   turned (turns {t = t} r c) h =
       let x = last_dual h in
       let same : t ≡ x.before = dual_same r x.by_steps in
-      let chosen : choose_row P t.ws ≡ Leaves x.leaving = rw same x.leaves in
+      let chosen : choose_row P t.ws ≡ Some x.leaving = rw same x.leaves in
       let clash : ◌≡◌ {A = ℕ} 0 1 = cc in
       omega arith
   turned (one_more e i r c q) h = turned r (last_dual h).by_steps
@@ -133,7 +130,7 @@ module _ (P : Problem) (s : State) where
   -- the last primal step, or the turn
   data Last (b : Kind) (k : ℕ) (u : State) : Type 0 where
     by_turn : Steps P s b dual (suc k) u → Last b k u
-    by_step : (t : State) (e : Entering) (i : PivotInfo) → Steps P s b primal k t → choose P t.ws ≡ Enters e → step P t e ≡ moved i u
+    by_step : (t : State) (e : Entering) (i : PivotInfo) → Steps P s b primal k t → choose P t.ws ≡ Some e → step P t e ≡ moved i u
         → Last b k u
 
   last_primal : {b : Kind} {k : ℕ} {u : State} → Steps P s b primal (suc k) u → Last b k u
@@ -159,7 +156,7 @@ module _ (P : Problem) (s : State) where
       go rest (by_turn x) = absurd (turned r x)
       go rest (by_step t' e' i' r' c' q') =
           let same : t ≡ t' = rest t' r' in
-          let chosen : choose P t.ws ≡ Enters e' = rw same c' in
+          let chosen : choose P t.ws ≡ Some e' = rw same c' in
           let enters : e ≡ e' = cc in
           cc
 
@@ -222,21 +219,21 @@ module _ (P : Problem) (s₀ : State) (b : Kind) (budget : ℕ) where
   unfolding until next at_budget
   until_reaches zero s r h = go (choose P s.ws) refl
     where
-      go : (c : Choice) → choose P s.ws ≡ c → StepsTo P s₀ b primal budget (runs 0 s)
-      go Nothing c = rw (c, at_budget) (here r (omega arith))
-      go (Enters e) c = rw (c, at_budget) (here r (omega arith))
+      go : (c : Option Entering) → choose P s.ws ≡ c → StepsTo P s₀ b primal budget (runs 0 s)
+      go None c = rw (c, at_budget) (here r (omega arith))
+      go (Some e) c = rw (c, at_budget) (here r (omega arith))
   until_reaches (suc k) s r h = go (until_reaches k) (choose P s.ws) refl
     where
-      turn : Primal k → (e : Entering) → choose P s.ws ≡ Enters e → (o : Outcome) → step P s e ≡ o
+      turn : Primal k → (e : Entering) → choose P s.ws ≡ Some e → (o : Outcome) → step P s e ≡ o
           → StepsTo P s₀ b primal budget (runs (suc k) s)
       turn rest e c (moved i t) q =
           let n = step_counts P s e i t q in
           rw (c, q, until, next) (rest t (subst (λ (j : ℕ). Steps P s₀ b primal j t) (sym n) (one_more e i r c q)) (omega arith))
       turn rest e c (stopped w) q = rw (c, q, until, next) (here r (omega arith))
 
-      go : Primal k → (c : Choice) → choose P s.ws ≡ c → StepsTo P s₀ b primal budget (runs (suc k) s)
-      go rest Nothing c = rw (c, until, next) (here r (omega arith))
-      go rest (Enters e) c = turn rest e c (step P s e) refl
+      go : Primal k → (c : Option Entering) → choose P s.ws ≡ c → StepsTo P s₀ b primal budget (runs (suc k) s)
+      go rest None c = rw (c, until, next) (here r (omega arith))
+      go rest (Some e) c = turn rest e c (step P s e) refl
 
   -- the dual steps: where no row leaves they turn
   abbrev dual_runs : ℕ → State → Ended
@@ -263,20 +260,20 @@ module _ (P : Problem) (s₀ : State) (b : Kind) (budget : ℕ) where
   unfolding until dual_next dual_at_budget
   dual_reaches zero s r h = go (choose_row P s.ws) refl
     where
-      go : (c : RowChoice) → choose_row P s.ws ≡ c → DualTo (dual_runs 0 s)
-      go Row-as-Nothing c = rw (c, dual_at_budget) (here (turns r c) (omega arith))
-      go (Leaves l) c = rw (c, dual_at_budget) (here r (omega arith))
+      go : (c : Option LeavingVar) → choose_row P s.ws ≡ c → DualTo (dual_runs 0 s)
+      go None c = rw (c, dual_at_budget) (here (turns r c) (omega arith))
+      go (Some l) c = rw (c, dual_at_budget) (here r (omega arith))
   dual_reaches (suc k) s r h = go (dual_reaches k) (choose_row P s.ws) refl
     where
-      turn : Dual k → (l : LeavingVar) → choose_row P s.ws ≡ Leaves l → (o : Outcome) → dual_step P s l ≡ o → DualTo (dual_runs (suc k) s)
+      turn : Dual k → (l : LeavingVar) → choose_row P s.ws ≡ Some l → (o : Outcome) → dual_step P s l ≡ o → DualTo (dual_runs (suc k) s)
       turn rest l c (moved i t) q =
           let n = dual_counts P s l i t q in
           rw (c, q, until, dual_next) (rest t (subst (λ (j : ℕ). Steps P s₀ b dual j t) (sym n) (one_dual l i r c q)) (omega arith))
       turn rest l c (stopped w) q = rw (c, q, until, dual_next) (halts s l w q r (omega arith))
 
-      go : Dual k → (c : RowChoice) → choose_row P s.ws ≡ c → DualTo (dual_runs (suc k) s)
-      go rest Row-as-Nothing c = rw (c, until, dual_next) (here (turns r c) (omega arith))
-      go rest (Leaves l) c = turn rest l c (dual_step P s l) refl
+      go : Dual k → (c : Option LeavingVar) → choose_row P s.ws ≡ c → DualTo (dual_runs (suc k) s)
+      go rest None c = rw (c, until, dual_next) (here (turns r c) (omega arith))
+      go rest (Some l) c = turn rest l c (dual_step P s l) refl
 
   -- the primal steps behind them
   then_reaches : (w : Stop) (t : State) → DualTo (ended w t) → StepsTo P s₀ b (kind_after w) budget (then_primal P budget (ended w t))

@@ -25,7 +25,7 @@ use Rattle.rules.specs.Pivot.{store_turn, stored, flipped, exchanged_to, exchang
 use Rattle.rules.specs.Step.{state_with_dual_norms, step, dual_step, moved}
 use Rattle.rules.specs.Conditions.{step_column}
 use Rattle.rules.specs.declared.Entering.{Entering}
-use Rattle.rules.specs.declared.Choice.TheVariants.{Enters}
+use Rattle.std.specs.Prelude.{Some}
 use Rattle.rules.specs.declared.LeavingVar.{LeavingVar}
 use Rattle.rules.specs.declared.PivotInfo.{PivotInfo}
 use Rattle.rules.specs.Invariant.{ProblemFits, Fits, Vector, Past, written_to, columns_written, entries_written, Tails}
@@ -247,7 +247,7 @@ module _ (P : Problem) (p : ProblemFits P) (m : Memory) (s : State) (f : Fits P 
       z.coeff z.leaving x.row_below p y.factor y.made)))
       x.stores
 
-pub step_tails : (P : Problem) (p : ProblemFits P) (m : Memory) (s : State) (f : Fits P s) (g : Tails P m s) (e : Entering) → choose P s.ws ≡ Enters e → (i : PivotInfo) (t : State)
+pub step_tails : (P : Problem) (p : ProblemFits P) (m : Memory) (s : State) (f : Fits P s) (g : Tails P m s) (e : Entering) → choose P s.ws ≡ Some e → (i : PivotInfo) (t : State)
     → step P s e ≡ moved i t → Tails P m t
 step_tails P p m s f g e enters i t steps =
     ⊎_elim

@@ -1,6 +1,6 @@
 -- The step as it is before a basis was ever factored (01's, with room for the eta column, and Ask 8's dual norms), kept for one
 -- theorem: 02: "runs that never fill the store give the same bits as before". Assumes nothing.
-use Rattle.std.specs.Prelude.{◌≡◌, ◌&&◌, ℕ, zero, suc}
+use Rattle.std.specs.Prelude.{◌≡◌, ◌&&◌, ℕ, zero, suc, Some}
 use Rattle.doubles.specs.Num.{f1}
 use Rattle.doubles.specs.Lists.{◌#◌}
 use Rattle.sparse.specs.Scattered.{Sv, blank, put_at, relisted, listed_finite}
@@ -11,7 +11,6 @@ use Rattle.rules.specs.Ratio.{ratio}
 use Rattle.rules.specs.Pivot.{numbers_finite, eta_finite, exchanged}
 use Rattle.rules.specs.Step.{Outcome, moved, stopped, or_stop, flip, norms_moved}
 use Rattle.rules.specs.declared.Entering.{Entering}
-use Rattle.rules.specs.declared.Choice.TheVariants.{Enters}
 use Rattle.rules.specs.declared.PivotInfo.{PivotInfo}
 use Rattle.rules.specs.declared.PivotInfo.TheVariants.{Flip, Exchange}
 use Rattle.rules.specs.declared.Ratio.TheVariants.{Pivot, Unbounded, NotFinite}
@@ -58,5 +57,5 @@ step_before P s e =
 -- k such steps lead from s to t
 pub data StepsBefore (P : Problem) (s : State) : ℕ → State → Type 0 where
   none : StepsBefore P s zero s
-  one_more : {k : ℕ} {t u : State} (e : Entering) (i : PivotInfo) → StepsBefore P s k t → choose P t.ws ≡ Enters e
+  one_more : {k : ℕ} {t u : State} (e : Entering) (i : PivotInfo) → StepsBefore P s k t → choose P t.ws ≡ Some e
       → step_before P t e ≡ moved i u → StepsBefore P s (suc k) u

@@ -1,6 +1,6 @@
 -- 01, "One step": the entering column, its filter as 02 has it. From minilp 0.2.2, src/solver.rs, choose_pivot,
 -- Apache-2.0, changed. Assumes nothing.
-use Rattle.std.specs.Prelude.{Bool, true, false, not, ◌&&◌, ◌||◌, ℕ, ltb, Float}
+use Rattle.std.specs.Prelude.{Bool, true, false, not, ◌&&◌, ◌||◌, ℕ, ltb, Float, Option, Some, None}
 use Rattle.std.specs.Float.Ieee.{lt, neg}
 use Rattle.doubles.specs.Num.{◌⊖◌, ◌⊗◌, ◌⊘◌, f0, eps, -inf, size}
 use Rattle.doubles.specs.Loop.{run}
@@ -8,8 +8,6 @@ use Rattle.doubles.specs.Lists.{◌!◌, ◌#◌}
 use Rattle.rules.specs.Plan.{Problem, Workspace, n_of, var_min, var_max, flags_of}
 use Rattle.rules.specs.declared.NonBasicVarState.{NonBasicVarState}
 use Rattle.rules.specs.declared.Entering.{Entering}
-use Rattle.rules.specs.declared.Choice.{Choice}
-use Rattle.rules.specs.declared.Choice.TheVariants.{Enters, Nothing}
 
 -- "Filter as shown": a column at its lower bound enters only with a price of at most -EPS, one at its upper bound only
 -- with one of at least EPS.
@@ -55,7 +53,7 @@ entering_of P w b =
     let c = b.col in
     record { col = c; price = w.prices ! c; score = b.score; distance = size (other_val P w c ⊖ w.nb_var_vals ! c) }
 
-unfoldable pub choose : Problem → Workspace → Choice
+unfoldable pub choose : Problem → Workspace → Option Entering
 choose P w =
     let b = best_column (n_of P) w in
-    elim (ltb b.col (n_of P)) [ true ↦ Enters (entering_of P w b) | false ↦ Nothing ]
+    elim (ltb b.col (n_of P)) [ true ↦ Some (entering_of P w b) | false ↦ None ]

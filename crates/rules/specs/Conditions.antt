@@ -1,5 +1,5 @@
 -- 01's conditions as statements, apart from the tests that pick: what each answer of the table says. proofs/ shows that each is given exactly then. Assumes nothing.
-use Rattle.std.specs.Prelude.{◌≡◌, true, false, ◌⊎◌, List, ℕ, zero, suc, ◌+◌, ◌-◌, ◌^◌, ◌<◌, ◌≤◌, length, take, Float}
+use Rattle.std.specs.Prelude.{◌≡◌, true, false, ◌⊎◌, List, ℕ, zero, suc, ◌+◌, ◌-◌, ◌^◌, ◌<◌, ◌≤◌, length, take, Float, Some as One, None}
 use Rattle.std.specs.Float.Ieee.{lt, le, is_nan}
 use Rattle.doubles.specs.Num.{f0, f1, +inf, -inf, finite, infinite, size, ◌⊕◌, ◌⊖◌}
 use Rattle.doubles.specs.Limits.{max_columns, max_rows, max_entries, max_budget, eta_columns, eta_entries, count_cells}
@@ -25,9 +25,7 @@ use Rattle.rules.specs.Answers.{Row as Told, row, Place, nowhere, entry_at, colu
 use Rattle.rules.specs.Solve.{Solved, end_of}
 use Rattle.rules.specs.Kinds.{Kind, dual, primal}
 use Rattle.rules.specs.declared.Entering.{Entering}
-use Rattle.rules.specs.declared.Choice.TheVariants.{Enters, Nothing}
 use Rattle.rules.specs.declared.LeavingVar.{LeavingVar}
-use Rattle.rules.specs.declared.RowChoice.TheVariants.{Leaves}
 use Rattle.rules.specs.declared.DualRatio.{DualRatio}
 use Rattle.rules.specs.declared.DualRatio.TheVariants.{Exchange as Dual-as-Exchange, Nothing as Dual-as-Nothing, NotFinite as Dual-as-NotFinite}
 use Rattle.rules.specs.declared.PivotInfo.{PivotInfo}
@@ -429,17 +427,17 @@ pub record Passes (p : Plan) (m : Memory) (r : Solved) : Type 0 where
 
 -- a column enters, a step is left in the budget, and the step stops; or a row leaves
 abbrev pub Halts : Problem → State → Stop → Type 0
-Halts P s w = (e : Entering) × (choose P s.ws ≡ Enters e) × (s.steps < P.plan.budget) × Stops P s e w
+Halts P s w = (e : Entering) × (choose P s.ws ≡ One e) × (s.steps < P.plan.budget) × Stops P s e w
 
 abbrev pub DualHalts : Problem → State → Stop → Type 0
-DualHalts P s w = (l : LeavingVar) × (choose_row P s.ws ≡ Leaves l) × (s.steps < P.plan.budget) × DualStopsWith P s l w
+DualHalts P s w = (l : LeavingVar) × (choose_row P s.ws ≡ One l) × (s.steps < P.plan.budget) × DualStopsWith P s l w
 
 -- 26 in 02's own words: row r is the leaving one, a step is left, the row's entries are finite, and "no column has a row
 -- coefficient of size at least EPS and isn't already at the bound in the way of the move that brings the leaving value
 -- towards the one it is to take"
 pub record NoEntering (P : Problem) (s : State) (r : ℕ) : Type 0 where
   pub leaving : LeavingVar
-  pub leaves : choose_row P s.ws ≡ Leaves leaving
+  pub leaves : choose_row P s.ws ≡ One leaving
   pub row_is : r ≡ leaving.row
   pub step_left : s.steps < P.plan.budget
   pub entries : ¬ EntryBroken (dual_row P s leaving)
@@ -449,10 +447,10 @@ pub record NoEntering (P : Problem) (s : State) (r : ℕ) : Type 0 where
 unfoldable pub Ends : Problem → Kind → State → Stop → Type 0
 -- "entering column (none: final check)"
 Ends P dual s Finished = ⊥
-Ends P primal s Finished = choose P s.ws ≡ Nothing
+Ends P primal s Finished = choose P s.ws ≡ None
 -- "budget spent and a column would enter", or a row would leave
-Ends P dual s Stop-as-Spent = (l : LeavingVar) × (choose_row P s.ws ≡ Leaves l) × (s.steps ≡ P.plan.budget)
-Ends P primal s Stop-as-Spent = (e : Entering) × (choose P s.ws ≡ Enters e) × (s.steps ≡ P.plan.budget)
+Ends P dual s Stop-as-Spent = (l : LeavingVar) × (choose_row P s.ws ≡ One l) × (s.steps ≡ P.plan.budget)
+Ends P primal s Stop-as-Spent = (e : Entering) × (choose P s.ws ≡ One e) × (s.steps ≡ P.plan.budget)
 Ends P dual s Stop-as-Unbounded = ⊥
 Ends P primal s Stop-as-Unbounded = Halts P s Stop-as-Unbounded
 Ends P dual s Stop-as-NotFinite = DualHalts P s Stop-as-NotFinite

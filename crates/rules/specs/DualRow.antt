@@ -1,6 +1,6 @@
 -- 02, Ask 8: "the leaving row has the largest squared infeasibility over dual norm, first on a tie". From minilp 0.2.2,
 -- src/solver.rs, choose_pivot_row_dual, Apache-2.0, changed. Assumes nothing.
-use Rattle.std.specs.Prelude.{Bool, true, false, ◌||◌, ◌&&◌, ℕ, ltb, Float}
+use Rattle.std.specs.Prelude.{Bool, true, false, ◌||◌, ◌&&◌, ℕ, ltb, Float, Option, Some, None}
 use Rattle.std.specs.Float.Ieee.{lt}
 use Rattle.doubles.specs.Num.{◌⊕◌, ◌⊖◌, eps, -inf}
 use Rattle.doubles.specs.Loop.{run}
@@ -8,8 +8,6 @@ use Rattle.doubles.specs.Lists.{◌!◌, ◌#◌}
 use Rattle.rules.specs.Plan.{Problem, Workspace, m_of, var_min, var_max}
 use Rattle.rules.specs.Choose.{score_of}
 use Rattle.rules.specs.declared.LeavingVar.{LeavingVar}
-use Rattle.rules.specs.declared.RowChoice.{RowChoice}
-use Rattle.rules.specs.declared.RowChoice.TheVariants.{Leaves, Nothing}
 
 -- docs/RULES-02.md: "of a basic value below lower - EPS the infeasibility is lower - value, of one above upper + EPS it is
 -- value - upper"
@@ -69,7 +67,7 @@ leaving_row_of P w b =
       value = bound_broken (row_min P w r) (w.basic_var_vals ! r) (row_max P w r);
     }
 
-unfoldable pub choose_row : Problem → Workspace → RowChoice
+unfoldable pub choose_row : Problem → Workspace → Option LeavingVar
 choose_row P w =
     let b = best_row P w in
-    elim (ltb b.row (m_of P)) [ true ↦ Leaves (leaving_row_of P w b) | false ↦ Nothing ]
+    elim (ltb b.row (m_of P)) [ true ↦ Some (leaving_row_of P w b) | false ↦ None ]

@@ -1,7 +1,7 @@
 -- 01, "One step", with 02's Asks 5 and 8: entering column (none: final check); budget; column solve; ratio; Unbounded; row
 -- solve; all new numbers; eta entries or factor; store. A dual step: leaving row; budget; row; ratio on prices; 26; column
 -- solve; from there as a primal one. Assumes nothing.
-use Rattle.std.specs.Prelude.{Bool, true, false, ◌&&◌, List, ℕ, ◌-◌, Float}
+use Rattle.std.specs.Prelude.{Bool, true, false, ◌&&◌, List, ℕ, ◌-◌, Float, Some, None}
 use Rattle.doubles.specs.Loop.{until, Next, done, more}
 use Rattle.doubles.specs.Lists.{◌#◌}
 use Rattle.sparse.specs.Scattered.{Sv, listed_finite, sq_norm}
@@ -15,9 +15,7 @@ use Rattle.rules.specs.DualRatio.{leaving_rises, eligible, dual_ratio_by}
 use Rattle.rules.specs.Pivot.{stored, stores_finite, flip_finite, flipped, numbers_finite, new_dual_norm, eta_finite, exchanged, refactored}
 use Rattle.rules.specs.declared.NonBasicVarState.{NonBasicVarState}
 use Rattle.rules.specs.declared.Entering.{Entering}
-use Rattle.rules.specs.declared.Choice.TheVariants.{Enters, Nothing}
 use Rattle.rules.specs.declared.LeavingVar.{LeavingVar}
-use Rattle.rules.specs.declared.RowChoice.TheVariants.{Leaves, Nothing as Row-as-Nothing}
 use Rattle.rules.specs.declared.DualRatio.TheVariants.{Exchange as Dual-as-Exchange, Nothing as Dual-as-Nothing, NotFinite as Dual-as-NotFinite}
 use Rattle.rules.specs.declared.PivotInfo.{PivotInfo}
 use Rattle.rules.specs.declared.PivotInfo.TheVariants.{Flip, Exchange}
@@ -140,13 +138,13 @@ ended w s = record { why = w; state = s }
 unfoldable pub next : Problem → State → Next State Ended
 next P s =
     elim (choose P s.ws) [
-      | Nothing ↦ done (ended Finished s)
-      | Enters e ↦ elim (step P s e) [ moved i t ↦ more t | stopped w ↦ done (ended w s) ]
+      | None ↦ done (ended Finished s)
+      | Some e ↦ elim (step P s e) [ moved i t ↦ more t | stopped w ↦ done (ended w s) ]
     ]
 
 -- "budget spent and a column would enter"
 unfoldable pub at_budget : Problem → State → Ended
-at_budget P s = elim (choose P s.ws) [ Nothing ↦ ended Finished s | Enters e ↦ ended Spent s ]
+at_budget P s = elim (choose P s.ws) [ None ↦ ended Finished s | Some e ↦ ended Spent s ]
 
 unfoldable pub run_of : Problem → ℕ → State → Ended
 run_of P budget s = until (next P) (at_budget P) budget s
@@ -155,13 +153,13 @@ run_of P budget s = until (next P) (at_budget P) budget s
 unfoldable pub dual_next : Problem → State → Next State Ended
 dual_next P s =
     elim (choose_row P s.ws) [
-      | Row-as-Nothing ↦ done (ended Finished s)
-      | Leaves l ↦ elim (dual_step P s l) [ moved i t ↦ more t | stopped w ↦ done (ended w s) ]
+      | None ↦ done (ended Finished s)
+      | Some l ↦ elim (dual_step P s l) [ moved i t ↦ more t | stopped w ↦ done (ended w s) ]
     ]
 
 -- budget spent and a row would leave
 unfoldable pub dual_at_budget : Problem → State → Ended
-dual_at_budget P s = elim (choose_row P s.ws) [ Row-as-Nothing ↦ ended Finished s | Leaves l ↦ ended Spent s ]
+dual_at_budget P s = elim (choose_row P s.ws) [ None ↦ ended Finished s | Some l ↦ ended Spent s ]
 
 unfoldable pub dual_run_of : Problem → ℕ → State → Ended
 dual_run_of P budget s = until (dual_next P) (dual_at_budget P) budget s

@@ -1,6 +1,6 @@
 -- k steps lead from s to t, said apart from `run_of` and `dual_run_of`: each step is one of the rules' own, and has its kind.
 -- Assumes nothing.
-use Rattle.std.specs.Prelude.{◌≡◌, ℕ, zero, suc, ◌+◌, ◌*◌, ◌≤◌}
+use Rattle.std.specs.Prelude.{◌≡◌, ℕ, zero, suc, ◌+◌, ◌*◌, ◌≤◌, Some, None}
 use Rattle.doubles.specs.Limits.{count_cells}
 use Rattle.rules.specs.Plan.{Plan, Memory, Problem, State, problem_of, n_of, m_of}
 use Rattle.rules.specs.Start.{start_state}
@@ -13,19 +13,17 @@ use Rattle.rules.specs.Answers.{as_row}
 use Rattle.rules.specs.Solve.{Solved}
 use Rattle.rules.specs.Invariant.{Sound, Past, Tails}
 use Rattle.rules.specs.declared.Entering.{Entering}
-use Rattle.rules.specs.declared.Choice.TheVariants.{Enters}
 use Rattle.rules.specs.declared.LeavingVar.{LeavingVar}
-use Rattle.rules.specs.declared.RowChoice.TheVariants.{Leaves, Nothing as Row-as-Nothing}
 use Rattle.rules.specs.declared.PivotInfo.{PivotInfo}
 
 -- k steps lead from s, where steps of kind b begin, to t, where steps of the second kind go on. "dual steps until no row
 -- leaves. Then … primal steps"
 pub data Steps (P : Problem) (s : State) (b : Kind) : Kind → ℕ → State → Type 0 where
   none : Steps P s b b zero s
-  one_dual : {k : ℕ} {t u : State} (l : LeavingVar) (i : PivotInfo) → Steps P s b dual k t → choose_row P t.ws ≡ Leaves l
+  one_dual : {k : ℕ} {t u : State} (l : LeavingVar) (i : PivotInfo) → Steps P s b dual k t → choose_row P t.ws ≡ Some l
       → dual_step P t l ≡ moved i u → Steps P s b dual (suc k) u
-  turns : {k : ℕ} {t : State} → Steps P s b dual k t → choose_row P t.ws ≡ Row-as-Nothing → Steps P s b primal k t
-  one_more : {k : ℕ} {t u : State} (e : Entering) (i : PivotInfo) → Steps P s b primal k t → choose P t.ws ≡ Enters e
+  turns : {k : ℕ} {t : State} → Steps P s b dual k t → choose_row P t.ws ≡ None → Steps P s b primal k t
+  one_more : {k : ℕ} {t u : State} (e : Entering) (i : PivotInfo) → Steps P s b primal k t → choose P t.ws ≡ Some e
       → step P t e ≡ moved i u → Steps P s b primal (suc k) u
 
 -- k steps of both kinds, told apart: dual ones to a state where no row leaves, and primal ones from there
@@ -34,7 +32,7 @@ pub record TurnsAt (P : Problem) (s : State) (k : ℕ) (t : State) : Type 0 wher
   pub primals : ℕ
   pub between : State
   pub by_duals : Steps P s dual dual duals between
-  pub none_leaves : choose_row P between.ws ≡ Row-as-Nothing
+  pub none_leaves : choose_row P between.ws ≡ None
   pub by_primals : Steps P between primal primal primals t
   pub together : duals + primals ≡ k
 

@@ -26,12 +26,6 @@ pub struct Entering {
     pub distance: f64,
 }
 
-#[derive(Clone, Copy)]
-pub enum Choice {
-    Enters(Entering),
-    Nothing,
-}
-
 // 02, Ask 8: the leaving row of a dual step travels as the entering column does, with its infeasibility and score, and
 // with the value that its variable is to take.
 #[derive(Clone, Copy)]
@@ -40,12 +34,6 @@ pub struct LeavingVar {
     pub infeasibility: f64,
     pub score: f64,
     pub value: f64,
-}
-
-#[derive(Clone, Copy)]
-pub enum RowChoice {
-    Leaves(LeavingVar),
-    Nothing,
 }
 
 // What the ratio on prices gives: the entering column with its value, difference and pivot; no column; or a quotient

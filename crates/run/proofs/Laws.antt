@@ -18,8 +18,7 @@ use Rattle.state.specs.Packed.{state_in}
 use Rattle.state.specs.declared.Tally.{Tally}
 use Rattle.step_refactor.specs.Left.{after, left_by, stepped}
 use Rattle.step_refactor.specs.Lent.{Ready}
-use Rattle.step_refactor.specs.declared.Went.{Went}
-use Rattle.step_refactor.specs.declared.Went.TheVariants.{On, Stops}
+use Rattle.std.specs.Prelude.{Result, Ok, Err}
 use Rattle.step.proofs.Laws.{moves_on, stops_at}
 use Rattle.run.specs.Lent.{Running}
 
@@ -118,17 +117,17 @@ module _ {turn : Problem → State → Next State Ended} {last : Problem → Sta
     going_spends l a f = sym f ∙ Loops.spent g.rest (omega arith)
 
     -- a step
-    module _ (l : t.steps < budget) (o : Outcome) (r : Went) (M : List ℕ) (E : List Float) (H : List ℕ) (J : List Float)
+    module _ (l : t.steps < budget) (o : Outcome) (r : Result Tally Stop) (M : List ℕ) (E : List Float) (H : List ℕ) (J : List Float)
         (left : left_by r M E H J ≡ after s o) where
       -- that gives no state
-      pub going_halts : (why : Stop) → r ≡ Stops why → (o ≡ stopped why → turn Q s ≡ done (ended why s))
+      pub going_halts : (why : Stop) → r ≡ Err why → (o ≡ stopped why → turn Q s ≡ done (ended why s))
           → ended why (state_in M E H J t) ≡ whole_run
       going_halts why f e =
           let a = stops_at s o why _ H J (rw f at left) in
           state_same t why a.1 a.2 a.3 ∙ Loops.stopped g.rest (omega arith) (e a.0)
 
       -- or one
-      module _ (u : Tally) (f : r ≡ On u) where
+      module _ (u : Tally) (f : r ≡ Ok u) where
         pub going_moves : (i : PivotInfo) × (o ≡ moved i (state_in M E H J u))
         going_moves = moves_on s o (state_in M E H J u) (rw f at left)
 

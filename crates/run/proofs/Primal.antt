@@ -10,8 +10,7 @@ use Rattle.rules.specs.Choose.{choose}
 use Rattle.rules.specs.Step.{step, moved, stopped, Ended, ended, next, at_budget, run_of}
 use Rattle.rules.specs.Invariant.{Fits}
 use Rattle.rules.specs.declared.Entering.{Entering}
-use Rattle.rules.specs.declared.Choice.{Choice}
-use Rattle.rules.specs.declared.Choice.TheVariants.{Enters, Nothing}
+use Rattle.std.specs.Prelude.{Option, Some, None, Result, Ok, Err}
 use Rattle.rules.specs.declared.Stop.{Stop}
 use Rattle.rules.specs.declared.Stop.TheVariants.{Finished, Spent}
 use Rattle.rules.proofs.Moved.{enters_below}
@@ -22,8 +21,6 @@ use Rattle.step_choose.proofs.Fits.{choosing}
 use Rattle.state.specs.Packed.{packed, state_in, Sized}
 use Rattle.state.specs.declared.Tally.{Tally}
 use Rattle.step_refactor.specs.Left.{after, left_by}
-use Rattle.step_refactor.specs.declared.Went.{Went}
-use Rattle.step_refactor.specs.declared.Went.TheVariants.{On, Stops}
 use Rattle.step.proofs.Laws.{stepped_of, step_part, moved_fits}
 use Rattle.run.proofs.Laws.{Going, part, whole, going_ends, going_spends, going_halts, going_moves, going_goes}
 
@@ -37,10 +34,10 @@ module _ (P : Problem) where
   run_part budget s = λ i.
       until
       (λ t. elim (choose_same t i) [
-        | Nothing ↦ done (ended Finished t)
-        | Enters e ↦ elim (step_part P t e i) [ moved j u ↦ more u | stopped w ↦ done (ended w t) ]
+        | None ↦ done (ended Finished t)
+        | Some e ↦ elim (step_part P t e i) [ moved j u ↦ more u | stopped w ↦ done (ended w t) ]
       ])
-      (λ t. elim (choose_same t i) [ Nothing ↦ ended Finished t | Enters e ↦ ended Spent t ])
+      (λ t. elim (choose_same t i) [ None ↦ ended Finished t | Some e ↦ ended Spent t ])
       budget s
 
 -- ---- what stands at the loop's head
@@ -65,39 +62,39 @@ module _ {n : ℕ} {lowers uppers : List Float} {starts cols : List ℕ} {coeffs
   chooses_asks = (g.running.sized, choosing g.running.problem_fits g.running.state_fits)
 
   -- the choice, in the definition's words
-  module _ (x : Choice) (chosen : x ≡ choose (bounds_of Q) (packed N D)) where
-    chooses : (y : Choice) → x ≡ y → choose Q s.ws ≡ y
+  module _ (x : Option Entering) (chosen : x ≡ choose (bounds_of Q) (packed N D)) where
+    chooses : (y : Option Entering) → x ≡ y → choose Q s.ws ≡ y
     chooses y q = choose_part Q s.ws ∙ sym (choose_part (bounds_of Q) s.ws) ∙ sym chosen ∙ q
 
     -- "entering column (none: final check)"
-    pub finishes : x ≡ Nothing → ended Finished s ≡ whole_run
+    pub finishes : x ≡ None → ended Finished s ≡ whole_run
     unfolding run_of next at_budget
     finishes q =
-        going_ends g (ended Finished s) (rw (chooses Nothing q, next) refl) (rw (chooses Nothing q, at_budget) refl)
+        going_ends g (ended Finished s) (rw (chooses None q, next) refl) (rw (chooses None q, at_budget) refl)
 
-    module _ (e : Entering) (q : x ≡ Enters e) where
+    module _ (e : Entering) (q : x ≡ Some e) where
       -- the column is one
       pub column_below : e.col < n
-      column_below = enters_below Q s.ws e (chooses (Enters e) q)
+      column_below = enters_below Q s.ws e (chooses (Some e) q)
 
       -- "budget spent and a column would enter"
       pub spends : budget ≤ t.steps → ended Spent s ≡ whole_run
       unfolding run_of at_budget
-      spends l = going_spends g l (ended Spent s) (rw (chooses (Enters e) q, at_budget) refl)
+      spends l = going_spends g l (ended Spent s) (rw (chooses (Some e) q, at_budget) refl)
 
-      module _ (l : t.steps < budget) (r : Went) (M : List ℕ) (E : List Float) (H : List ℕ) (J : List Float)
+      module _ (l : t.steps < budget) (r : Result Tally Stop) (M : List ℕ) (E : List Float) (H : List ℕ) (J : List Float)
           (left : left_by r M E H J ≡ after s (step Q s e)) where
         -- a step that gives no state
-        pub halts : (why : Stop) → r ≡ Stops why → ended why (state_in M E H J t) ≡ whole_run
+        pub halts : (why : Stop) → r ≡ Err why → ended why (state_in M E H J t) ≡ whole_run
         unfolding run_of next
         halts why f =
-            going_halts g l (step Q s e) r M E H J left why f (λ o. rw (chooses (Enters e) q, o, next) refl)
+            going_halts g l (step Q s e) r M E H J left why f (λ o. rw (chooses (Some e) q, o, next) refl)
 
         -- one that does
-        module _ (u : Tally) (f : r ≡ On u) where
+        module _ (u : Tally) (f : r ≡ Ok u) where
           fits_after : Fits P (state_in M E H J u) × (u.steps ≡ suc t.steps)
           fits_after =
-              moved_fits P g.running.problem_fits s g.running.state_fits e (choose_same P s ∙ chooses (Enters e) q)
+              moved_fits P g.running.problem_fits s g.running.state_fits e (choose_same P s ∙ chooses (Some e) q)
               (state_in M E H J u) (rw f at left)
 
           -- the step is counted
@@ -109,4 +106,4 @@ module _ {n : ℕ} {lowers uppers : List Float} {starts cols : List ℕ} {coeffs
           unfolding next
           goes_on =
               let m = going_moves g l (step Q s e) r M E H J left u f in
-              going_goes g l (step Q s e) r M E H J left u f (rw (chooses (Enters e) q, m.1, next) refl) counts fits_after.0
+              going_goes g l (step Q s e) r M E H J left u f (rw (chooses (Some e) q, m.1, next) refl) counts fits_after.0

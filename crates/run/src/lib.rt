@@ -55,7 +55,7 @@ pub fn optimize(
     let mut tally = at;
     loop {
         let choice = step_reads::choose(numbers, doubles, n, lowers, uppers, ops, kept);
-        let rules::Choice::Enters(e) = choice else {
+        let Some(e) = choice else {
             return Ran {
                 why: rules::Stop::Finished,
                 at: tally,
@@ -87,10 +87,10 @@ pub fn optimize(
             e,
         );
         match went {
-            step_refactor::Went::On(after) => {
+            Ok(after) => {
                 tally = after;
             }
-            step_refactor::Went::Stops(why) => {
+            Err(why) => {
                 return Ran { why, at: tally };
             }
         }

@@ -49,7 +49,7 @@ pub fn restore_feasibility(
     let mut so_far = at;
     loop {
         let choice = step_dual_reads::choose_row(numbers, doubles, n, lowers, uppers, ops, kept);
-        let rules::RowChoice::Leaves(l) = choice else {
+        let Some(l) = choice else {
             let why = rules::Stop::Finished;
             return Ran { why, at: so_far };
         };
@@ -78,10 +78,10 @@ pub fn restore_feasibility(
             false,
         );
         match went {
-            step_refactor::Went::On(after) => {
+            Ok(after) => {
                 so_far = after;
             }
-            step_refactor::Went::Stops(why) => {
+            Err(why) => {
                 return Ran { why, at: so_far };
             }
         }

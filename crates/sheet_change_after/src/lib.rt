@@ -194,8 +194,7 @@ fn activities_stay(
         ops.now amounts.now mults.now)
         (kept_of r.now d.now c.now b.now counts.now)) e i)) }
 {
-    let mut i = 0;
-    while i < rows {
+    for i in 0..rows {
         if size(activity_after(
             e,
             i,
@@ -216,7 +215,6 @@ fn activities_stay(
         {
             return false;
         }
-        i += 1;
     }
     true
 }
@@ -251,8 +249,7 @@ fn prices_stay(
         ops.now amounts.now mults.now)
         (kept_of r.now d.now c.now b.now counts.now)) e j)) }
 {
-    let mut j = 0;
-    while j < columns {
+    for j in 0..columns {
         if size(price_after(
             e,
             j,
@@ -273,7 +270,6 @@ fn prices_stay(
         {
             return false;
         }
-        j += 1;
     }
     true
 }

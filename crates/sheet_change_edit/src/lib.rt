@@ -180,12 +180,10 @@ fn column_fine(
         uppers.now lower_marks.now upper_marks.now rhs.now
         ops.now amounts.now mults.now) column }
 {
-    let mut i = 0;
-    while i < rows {
+    for i in 0..rows {
         if size(coefs[i * columns + column]) > doubles::MAX_COEFFICIENT {
             return false;
         }
-        i += 1;
     }
     true
 }
@@ -212,12 +210,10 @@ fn row_fine(
         uppers.now lower_marks.now upper_marks.now rhs.now
         ops.now amounts.now mults.now) row }
 {
-    let mut j = 0;
-    while j < columns {
+    for j in 0..columns {
         if size(coefs[row * columns + j]) > doubles::MAX_COEFFICIENT {
             return false;
         }
-        j += 1;
     }
     true
 }

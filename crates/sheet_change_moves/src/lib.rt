@@ -59,11 +59,9 @@ pub fn broken_change(
         ops.now r.now }
 {
     let mut total: i64 = 0;
-    let mut i = 0;
-    while i < rows {
+    for i in 0..rows {
         let new = r[i] + coefs[i * columns + column] * by;
         total += broken(ops[i], new, rhs[i]) - broken(ops[i], r[i], rhs[i]);
-        i += 1;
     }
     total
 }
@@ -113,8 +111,7 @@ pub fn terms_change(
         lower_marks.now upper_marks.now d.now }
 {
     let mut total: i64 = 0;
-    let mut j = 0;
-    while j < columns {
+    for j in 0..columns {
         total += term_change(
             coefs[row * columns + j],
             by,
@@ -124,7 +121,6 @@ pub fn terms_change(
             lower_marks[j],
             upper_marks[j],
         );
-        j += 1;
     }
     total
 }
@@ -146,8 +142,7 @@ pub fn absent_change(
         upper_marks.now d.now }
 {
     let mut total: i64 = 0;
-    let mut j = 0;
-    while j < columns {
+    for j in 0..columns {
         total += lacking_change(
             coefs[row * columns + j],
             by,
@@ -155,7 +150,6 @@ pub fn absent_change(
             lower_marks[j],
             upper_marks[j],
         );
-        j += 1;
     }
     total
 }

@@ -40,13 +40,10 @@ module _ (l : List ℤ) (b n : ℕ) where
   pub cut_at : (j : ℕ) → j < n → cut ‼ j ≡ l ‼ (b + j)
   cut_at j h = get_or-take (b + n - b) (drop b l) j (pos 0) (omega arith) ∙ get_or-drop b l j (pos 0)
 
--- what the sum behind R asks, and what it is
+-- what the sum behind R is
 module _ (coefs amounts : List ℤ) (i m n : ℕ) (l : i < m) (few : n ≤ max_columns) (a : Small max_coefficient (m * n) coefs) (x : Small max_amount n amounts) where
   long : length (cut coefs (i * n) n) ≡ n
   long = cut_long coefs (i * n) n (le_trans (row_within i m n l) a.there)
-
-  pub row_asks : (length (cut coefs (i * n) n) ≤ max_columns) × Small max_coefficient (length (cut coefs (i * n) n)) (cut coefs (i * n) n) × Small max_amount (length (cut coefs (i * n) n)) amounts
-  row_asks = rw long (few, record { there = omega (arith, long); at = λ j h. rw (cut_at coefs (i * n) n j h) (a.at (i * n + j) (omega (arith, row_within i m n l))) }, x)
 
   pub row_is : row_sum (cut coefs (i * n) n) amounts ≡ dot n (λ j. coefs ‼ (i * n + j)) (λ j. amounts ‼ j)
   unfolding row_sum

@@ -8,7 +8,7 @@ use native.Mathlib.Numerals.{add-one}
 use native.Mathlib.Omega.{arith}
 use lib.Dec.{lit≤}
 use lib.IntN.{ℤ, pos, ◌+ℤ◌, ◌-ℤ◌, ◌*ℤ◌, *ℤ-zero, +ℤ_idr}
-use lib.ListN.{length, drop, length-append, length-drop}
+use lib.ListN.{length, drop, length-append}
 use lib.Seq.{drop-append_seam}
 use Rattle.doubles.specs.Limits.{max_rows, max_coefficient, max_cost, max_multiplier, max_d, unit}
 use Rattle.doubles.specs.Lists.{over}
@@ -76,9 +76,6 @@ module _ (coefs costs mults : List ℤ) (n : ℕ) where
       ∙ ap (λ (k : ℕ). over (table k (λ j. d ‼ j -ℤ cut coefs (i * n) n ‼ j *ℤ y)) d) long
       ∙ over_same (λ j. d ‼ j -ℤ cut coefs (i * n) n ‼ j *ℤ y) (price_at (i + 1)) n d d₀ (λ j h.
       (λ t. (ap (λ (q : List ℤ). q ‼ j) ed ∙ front n (price_at i) d₀ j h) t -ℤ cut_at coefs (i * n) n j h t *ℤ ey t) ∙ row_more i j) rest
-
-  pub same_long : (d₀ d : List ℤ) (f : ℕ → ℤ) → n ≤ length d₀ → d ≡ over (table n f) d₀ → length d ≡ length d₀
-  same_long d₀ d f h e = ap length e ∙ simp (length-append, length_tab, length-drop) (omega arith)
 
   -- what taking a row off asks
   pub prices_asked : (d₀ d : List ℤ) (i m : ℕ) → m ≤ max_rows → i < m → Small max_coefficient (m * n) coefs → Small max_cost n costs → Small max_multiplier m mults → d ≡ over (table n (price_at i)) d₀

@@ -21,12 +21,10 @@ fn write_activities(rows: usize, columns: usize, coefs: &[i64], amounts: &[i64],
         (λ i. dot columns (λ j. coefs.now ‼ (i * columns + j)) (λ j. amounts.now ‼ j)))
         r.old }
 {
-    let mut i = 0;
-    while i < rows {
+    for i in 0..rows {
         let base = i * columns;
         let end = base + columns;
         r[i] = sheet_terms::activity(&coefs[base..end], amounts);
-        i += 1;
     }
 }
 
@@ -35,10 +33,8 @@ fn start_prices(columns: usize, costs: &[i64], d: &mut [i64])
     requires { Small max_cost columns costs.now × (columns ≤ length d.old) }
     ensures { d.new ≡ over (table columns (λ j. pos unit *ℤ costs.now ‼ j)) d.old }
 {
-    let mut j = 0;
-    while j < columns {
+    for j in 0..columns {
         d[j] = doubles::UNIT * costs[j];
-        j += 1;
     }
 }
 
@@ -49,11 +45,8 @@ fn take_row(row: &[i64], mult: i64, d: &mut [i64])
     ensures { d.new ≡ over (table (length row.now)
         (λ j. d.old ‼ j -ℤ row.now ‼ j *ℤ mult)) d.old }
 {
-    let n = row.len();
-    let mut j = 0;
-    while j < n {
-        d[j] = d[j] - row[j] * mult;
-        j += 1;
+    for (j, &a) in row.iter().enumerate() {
+        d[j] = d[j] - a * mult;
     }
 }
 
@@ -73,15 +66,12 @@ fn write_prices(
         (λ i. mults.now ‼ i))) d.old }
 {
     start_prices(columns, costs, d);
-    let mut i = 0;
-    while i < rows {
-        let mult = mults[i];
+    for (i, &mult) in mults[..rows].iter().enumerate() {
         if !sheet_terms::is_zero(mult) {
             let base = i * columns;
             let end = base + columns;
             take_row(&coefs[base..end], mult, d);
         }
-        i += 1;
     }
 }
 

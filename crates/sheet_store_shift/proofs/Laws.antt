@@ -36,8 +36,8 @@ module _ (p : Plan) (e : Edit) (g : PlanReady p e) where
   pub row_within : eqb e.kind 6 ≡ true → e.row < p.rows
   row_within h = g.ready.index.row_within (rw (eqb-true e.kind 6 h))
 
-  pub rows_cover : Covers p.rows (row_change p e) (span_by (eqb e.kind 1) (eqb e.kind 6) p.rows e.row)
-  rows_cover = covers (eqb e.kind 1) (eqb e.kind 6) p.rows e.row (row_change p e) row_within (λ h k l ne. row_6_other p e g (eqb-true _ _ h) k l ne) (λ h w k l. row_rest p e g (eqb-false _ _ h) (eqb-false _ _ w) k l)
+  pub rows_cover : {t : Span} → t ≡ span_by (eqb e.kind 1) (eqb e.kind 6) p.rows e.row → Covers p.rows (row_change p e) t
+  rows_cover q = rw q (covers (eqb e.kind 1) (eqb e.kind 6) p.rows e.row (row_change p e) row_within (λ h k l ne. row_6_other p e g (eqb-true _ _ h) k l ne) (λ h w k l. row_rest p e g (eqb-false _ _ h) (eqb-false _ _ w) k l))
 
   one_of : (a b : Bool) {C : Type 0} → (a ≡ true → C) → (b ≡ true → C) → (a || b) ≡ true → C
   one_of true b f h t = f refl
@@ -46,11 +46,12 @@ module _ (p : Plan) (e : Edit) (g : PlanReady p e) where
   pub column_in_holds : (eqb e.kind 2 || eqb e.kind 6) ≡ true → e.column < p.cols
   column_in_holds h = one_of (eqb e.kind 2) (eqb e.kind 6) (λ w. g.ready.index.column_in_holds (rw (eqb-true e.kind 2 w))) (λ w. g.ready.index.column_in_holds (rw (eqb-true e.kind 6 w))) h
 
-  pub columns_cover : Covers p.cols (price_change p e) (span_by (eqb e.kind 7) (eqb e.kind 2 || eqb e.kind 6) p.cols e.column)
-  columns_cover =
-      covers (eqb e.kind 7) (eqb e.kind 2 || eqb e.kind 6) p.cols e.column (price_change p e) column_in_holds
+  pub columns_cover : {t : Span} → t ≡ span_by (eqb e.kind 7) (eqb e.kind 2 || eqb e.kind 6) p.cols e.column → Covers p.cols (price_change p e) t
+  columns_cover q =
+      rw q
+      (covers (eqb e.kind 7) (eqb e.kind 2 || eqb e.kind 6) p.cols e.column (price_change p e) column_in_holds
       (λ h k l ne. one_of (eqb e.kind 2) (eqb e.kind 6) (λ w. price_2_other p e g (eqb-true _ _ w) k l ne) (λ w. price_6_other p e g (eqb-true _ _ w) k l ne) h)
-      (λ h w k l. let b = neither (eqb e.kind 2) (eqb e.kind 6) w in price_rest p e g (eqb-false _ _ b.0) (eqb-false _ _ b.1) (eqb-false _ _ h) k l)
+      (λ h w k l. let b = neither (eqb e.kind 2) (eqb e.kind 6) w in price_rest p e g (eqb-false _ _ b.0) (eqb-false _ _ b.1) (eqb-false _ _ h) k l))
 
 -- ---- an array that a loop moves, and the places that it needn't look at
 module _ (change : ℕ → ℤ) (l₀ l : List ℤ) where

@@ -64,9 +64,7 @@ pub fn move_activities(
 {
     let kind = e.kind;
     let places = touched_span(kind == 1, kind == 6, rows, e.row);
-    let end = places.end;
-    let mut i = places.from;
-    while i < end {
+    for i in places.from..places.end {
         r[i] = sheet_change_after::activity_after(
             e,
             i,
@@ -84,7 +82,6 @@ pub fn move_activities(
             amounts,
             mults,
         );
-        i += 1;
     }
 }
 
@@ -115,9 +112,7 @@ pub fn move_prices(
 {
     let kind = e.kind;
     let places = touched_span(kind == 7, (kind == 2) | (kind == 6), columns, e.column);
-    let end = places.end;
-    let mut j = places.from;
-    while j < end {
+    for j in places.from..places.end {
         d[j] = sheet_change_after::price_after(
             e,
             j,
@@ -135,6 +130,5 @@ pub fn move_prices(
             amounts,
             mults,
         );
-        j += 1;
     }
 }

@@ -16,10 +16,8 @@ pub fn dot(n: usize, xs: &[i64], ys: &[i64]) -> i64
     ensures { result ≡ dot n (λ k. xs.now ‼ k) (λ k. ys.now ‼ k) }
 {
     let mut total: i64 = 0;
-    let mut k = 0;
-    while k < n {
+    for k in 0..n {
         total += xs[k] * ys[k];
-        k += 1;
     }
     total
 }
@@ -31,10 +29,8 @@ pub fn column_sum(rows: usize, columns: usize, column: usize, coefs: &[i64], mul
     ensures { result ≡ dot rows (λ i. coefs.now ‼ (i * columns + column)) (λ i. mults.now ‼ i) }
 {
     let mut total: i64 = 0;
-    let mut i = 0;
-    while i < rows {
+    for i in 0..rows {
         total += coefs[i * columns + column] * mults[i];
-        i += 1;
     }
     total
 }
@@ -54,10 +50,8 @@ pub fn column_terms(
         (lower_marks.now # j) (upper_marks.now # j)) }
 {
     let mut total: i64 = 0;
-    let mut j = 0;
-    while j < columns {
+    for j in 0..columns {
         total += term(d[j], lowers[j], uppers[j], lower_marks[j], upper_marks[j]);
-        j += 1;
     }
     total
 }
@@ -69,10 +63,8 @@ pub fn broken_rows(rows: usize, rhs: &[i64], ops: &[u8], r: &[i64]) -> i64
         (rhs.now ‼ i))) }
 {
     let mut total: i64 = 0;
-    let mut i = 0;
-    while i < rows {
+    for i in 0..rows {
         total += bit(!holds(ops[i], r[i], rhs[i]));
-        i += 1;
     }
     total
 }
@@ -93,8 +85,7 @@ pub fn outside_amounts(
         (uppers.now ‼ j) (lower_marks.now # j) (upper_marks.now # j)) }
 {
     let mut total: i64 = 0;
-    let mut j = 0;
-    while j < columns {
+    for j in 0..columns {
         total += bit(outside(
             amounts[j],
             lowers[j],
@@ -102,7 +93,6 @@ pub fn outside_amounts(
             lower_marks[j],
             upper_marks[j],
         ));
-        j += 1;
     }
     total
 }
@@ -113,10 +103,8 @@ pub fn wrong_signs(rows: usize, ops: &[u8], mults: &[i64]) -> i64
     ensures { result ≡ count rows (λ i. wrong (ops.now # i) (mults.now ‼ i)) }
 {
     let mut total: i64 = 0;
-    let mut i = 0;
-    while i < rows {
+    for i in 0..rows {
         total += bit(wrong(ops[i], mults[i]));
-        i += 1;
     }
     total
 }
@@ -129,10 +117,8 @@ pub fn absent_needed(columns: usize, lower_marks: &[u8], upper_marks: &[u8], d: 
         (upper_marks.now # j)) }
 {
     let mut total: i64 = 0;
-    let mut j = 0;
-    while j < columns {
+    for j in 0..columns {
         total += bit(lacks(d[j], lower_marks[j], upper_marks[j]));
-        j += 1;
     }
     total
 }

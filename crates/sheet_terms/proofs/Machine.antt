@@ -5,15 +5,18 @@
 -- Assumes nothing.
 use mathlib.Core.Path.{◌≡◌, refl, ◌∙◌}
 use mathlib.Core.Bool.{Bool, true, false, ◌&&◌}
+use mathlib.Core.List.{List}
 use Prim.Native.Nat.{ℕ, suc, ◌+◌, ◌*◌, ◌/◌, ◌%◌, ◌^◌, ◌≤◌, ◌<◌}
 use native.Mathlib.Omega.{arith}
 use lib.Dec.{T, ltb, ltb→lt, lit<}
+use lib.ListN.{length, get_or, take}
 use lib.IntN.{ℤ, pos, negsuc, nat_abs, ◌+ℤ◌, ◌-ℤ◌, ◌*ℤ◌}
 use lib.Signed.{quot_z, rem_z, mag}
 use mir.Syntax.{w64}
 use mir.Val.{SFits, to_z, of_z}
 use mir.ValLaws.{to_z-of_z}
 use native.Mathlib.Nat.{lt_of_le_of_lt}
+use Rattle.doubles.proofs.Items.{item}
 use Rattle.sheet_rules.proofs.Sizes.{mul_size, sub_size, abs_add, abs_neg}
 
 mag_abs : (z : ℤ) → mag z ≤ nat_abs z
@@ -149,3 +152,7 @@ result z h = to_z-of_z w64 z (record { sfits = h })
 -- a parameter is what the machine reads back
 pub of_word : {z : ℤ} → SFits w64 z → word z ≡ z
 of_word {z} h = to_z-of_z w64 z h
+
+-- in a `for` over the first n numbers of a list, the one in hand is the list's own
+pub result_item : (n : ℕ) (l : List ℤ) {k : ℕ} → n ≤ length l → k < length (take n l) → mag (get_or (take n l) k (pos 0)) < 2 ^ 63 → word (get_or (take n l) k (pos 0)) ≡ get_or l k (pos 0)
+result_item n l {k} h t b = result (get_or (take n l) k (pos 0)) b ∙ item n l h t (pos 0)

@@ -98,10 +98,8 @@ fn quiet(row: &[i64], j: usize) -> bool
     ensures { result ≡ all block (λ k. is_zero (row.now ‼ (j + k))) }
 {
     let mut bits: i64 = 0;
-    let mut k: usize = 0;
-    while k < BLOCK {
+    for k in 0..BLOCK {
         bits |= row[j + k];
-        k += 1;
     }
     bits == 0
 }
@@ -114,10 +112,8 @@ fn go_on(row: &[i64], amounts: &[i64], so_far: i64, from: usize, to: usize) -> i
     ensures { result ≡ dot to (λ k. row.now ‼ k) (λ k. amounts.now ‼ k) }
 {
     let mut r = so_far;
-    let mut j = from;
-    while j < to {
+    for j in from..to {
         r += row[j] * amounts[j];
-        j += 1;
     }
     r
 }
@@ -138,6 +134,7 @@ pub fn activity(row: &[i64], amounts: &[i64]) -> i64
     }
     let mut r: i64 = 0;
     let mut j: usize = 0;
+    // A while: the cursor moves by a block's length, and what it leaves is summed from there.
     while j + BLOCK <= n {
         if !quiet(row, j) {
             r = go_on(row, amounts, r, j, j + BLOCK);

@@ -1,12 +1,12 @@
 -- What numbers looked at together tell of each. Assumes nothing.
 use mathlib.Core.Path.{◌≡◌, refl}
-use mathlib.Core.Bool.{true, false}
+use mathlib.Core.Bool.{true}
 use mathlib.Core.List.{List}
 use Prim.Native.Nat.{ℕ, zero, suc, ◌≤◌, ◌<◌}
 use native.Mathlib.Omega.{arith}
 use lib.Bits.{bit_or, or_add_and, and_le_r, and_le_l}
-use lib.IntN.{ℤ, pos, negsuc, nat_abs}
-use lib.Signed.{mag, lt_z}
+use lib.IntN.{ℤ, pos, negsuc}
+use lib.Signed.{mag}
 use borrow.Author.Tests.{le-leb}
 use Rattle.doubles.specs.Loop.{run, all}
 use Rattle.sheet_rules.specs.Sum.{◌‼◌}
@@ -19,11 +19,6 @@ or_left a b = omega (arith, or_add_and a b, and_le_r a b)
 
 or_right : (a b : ℕ) → b ≤ bit_or a b
 or_right a b = omega (arith, or_add_and a b, and_le_l a b)
-
--- a number from 0 on is as large as its size
-pub up_size : (z : ℤ) → lt_z z (pos 0) ≡ false → nat_abs z ≡ mag z
-up_size (pos n) e = refl
-up_size (negsuc n) e = absurd (let w : ◌≡◌ {A = ℕ} 0 1 = cc in omega arith)
 
 -- one less below 0: what stays below the limit is within it
 mag_within : (m : ℕ) (z : ℤ) → mag z < m → within m z ≡ true

@@ -29,10 +29,8 @@ fn joined(n: usize, xs: &[i64]) -> u64
     ensures { result ≡ joined n xs.now }
 {
     let mut bits: u64 = 0;
-    let mut i = 0;
-    while i < n {
-        bits |= depth(xs[i]);
-        i += 1;
+    for &x in &xs[..n] {
+        bits |= depth(x);
     }
     bits
 }
@@ -42,12 +40,10 @@ fn each_within(limit: u64, n: usize, xs: &[i64]) -> bool
     requires { n ≤ length xs.now }
     ensures { result ≡ all_within limit n xs.now }
 {
-    let mut i = 0;
-    while i < n {
-        if size(xs[i]) > limit {
+    for &x in &xs[..n] {
+        if size(x) > limit {
             return false;
         }
-        i += 1;
     }
     true
 }
@@ -79,12 +75,10 @@ pub fn bounds_fine(n: usize, marks: &[u8], xs: &[i64]) -> bool
     requires { (n ≤ length marks.now) × (n ≤ length xs.now) }
     ensures { result ≡ bounds_fine n marks.now xs.now }
 {
-    let mut i = 0;
-    while i < n {
+    for i in 0..n {
         if !bound_fine(marks[i], xs[i]) {
             return false;
         }
-        i += 1;
     }
     true
 }
@@ -94,12 +88,10 @@ pub fn ops_fine(n: usize, ops: &[u8]) -> bool
     requires { n ≤ length ops.now }
     ensures { result ≡ ops_fine n ops.now }
 {
-    let mut i = 0;
-    while i < n {
-        if ops[i] > 2 {
+    for &op in &ops[..n] {
+        if op > 2 {
             return false;
         }
-        i += 1;
     }
     true
 }
@@ -254,12 +246,10 @@ pub fn uncrossed(
         uppers.now lower_marks.now upper_marks.now rhs.now
         ops.now amounts.now mults.now) }
 {
-    let mut j = 0;
-    while j < columns {
+    for j in 0..columns {
         if crosses(lowers[j], uppers[j], lower_marks[j], upper_marks[j]) {
             return false;
         }
-        j += 1;
     }
     true
 }

@@ -23,7 +23,7 @@ use Rattle.state.specs.Packed.{packed, state_in, kept_at, objective_at}
 use Rattle.state.specs.Memory.{memory_in, Past, past_of, Handed, handed, answered}
 use Rattle.state.proofs.Memory.{front_packed, front_sized, front_same, after_sized, after_long, after_memory, after_past}
 use Rattle.plan.specs.Lent.{rows_of, Front}
-use Rattle.plan.specs.declared.Refusal.TheVariants.{By, Nothing}
+use Rattle.std.specs.Prelude.{Some, None, Result, Err, Ok}
 use Rattle.plan.proofs.Parts.{kept_part}
 use Rattle.plan.proofs.Fits.{front_taken}
 use Rattle.plan.proofs.Ladder.{from_six, solved_by}
@@ -33,8 +33,6 @@ use Rattle.check_final.proofs.Parts.{checked_by}
 use Rattle.start_gate.specs.Lent.{Passed}
 use Rattle.start_gate.specs.Gate as Gate
 use Rattle.start_gate.specs.Gate.{refused, filled, refusal_by, begun, begun_by}
-use Rattle.start_gate.specs.declared.Begun.{Begun}
-use Rattle.start_gate.specs.declared.Begun.TheVariants.{Refused, On}
 use Rattle.start_gate.proofs.Gate.{Accepted, accepted, solved_by_holds, begun_part, start_refused, start_filled}
 use Rattle.start_gate.proofs.Long.{Long, arrays_long}
 use Rattle.run.specs.Ran.{ran_by}
@@ -46,26 +44,26 @@ use Rattle.check_close.proofs.Laws.{close_whole, fits_close}
 
 -- 1 to 5
 pub refuses : (p : Plan) (v : List Float) (N : List ℕ) (D : List Float) (F : List ℕ) (G : List Float) (a : Answer)
-    → By a ≡ refusal_by p (memory_in v N D F G)
+    → Some a ≡ refusal_by p (memory_in v N D F G)
     → answered a v N D F G ≡ handed (solve_plan p (memory_in v N D F G)) (past_of N D)
 refuses p v N D F G a e =
     let m = memory_in v N D F G in
     ap (λ (r : Solved). handed r (past_of N D)) (ap (solved_by p m) e ∙ sym (solved_by_holds p m))
 
 -- what `begin` answered, with the scratch as it left it
-module _ (r : Begun) (xs slacks norms : List Float) (g : Gate.Scratch) (e : begun_by r xs slacks norms ≡ g) where
-  pub was_refused : (a : Answer) → r ≡ Refused a → refused a ≡ g
-  was_refused a q = ap (λ (x : Begun). begun_by x xs slacks norms) (sym q) ∙ e
+module _ (r : Result Float Answer) (xs slacks norms : List Float) (g : Gate.Scratch) (e : begun_by r xs slacks norms ≡ g) where
+  pub was_refused : (a : Answer) → r ≡ Err a → refused a ≡ g
+  was_refused a q = ap (λ (x : Result Float Answer). begun_by x xs slacks norms) (sym q) ∙ e
 
-  pub was_filled : (o : Float) → r ≡ On o → filled (numbers xs slacks norms o) ≡ g
-  was_filled o q = ap (λ (x : Begun). begun_by x xs slacks norms) (sym q) ∙ e
+  pub was_filled : (o : Float) → r ≡ Ok o → filled (numbers xs slacks norms o) ≡ g
+  was_filled o q = ap (λ (x : Result Float Answer). begun_by x xs slacks norms) (sym q) ∙ e
 
 -- the scratch at first
 abbrev pub blank : Numbers
 blank = numbers (replicate max_columns f0) (replicate max_rows f0) (replicate max_columns f0) f0
 
 module _ (p : Plan) (v : List Float) (N : List ℕ) (D : List Float) (F : List ℕ) (G : List Float)
-    (ok : Nothing ≡ refusal_by p (memory_in v N D F G)) where
+    (ok : None ≡ refusal_by p (memory_in v N D F G)) where
   abbrev m : Memory
   m = memory_in v N D F G
 

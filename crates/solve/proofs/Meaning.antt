@@ -24,7 +24,7 @@ use Rattle.rules.specs.Invariant.{Maps, Numbers}
 use Rattle.rules.specs.Steps.{Steps, RunsTo, LentTails, Ran}
 use Rattle.rules.specs.declared.Answer.{Answer}
 use Rattle.rules.specs.declared.Entering.{Entering}
-use Rattle.rules.specs.declared.Choice.TheVariants.{Enters, Nothing}
+use Rattle.std.specs.Prelude.{Some, None}
 use Rattle.rules.specs.declared.Checked.TheVariants.{Passed}
 use Rattle.rules.specs.declared.Stop.{Stop}
 use Rattle.state.specs.Memory.{memory_in, past_of, Handed, handed, answered}
@@ -120,7 +120,7 @@ module _ (p : Plan) (m : Memory) (r : Solved) (e : Promised p m r) where
   -- final check accepts: of a dual feasible start the dual steps have ended before, with no row that leaves
   pub optimal_exactly : (number_of r.answer ≡ 0)
       ↔ (NoneBelow 8 p m
-      × ((s : State) × RunsTo p m primal s × (choose (problem_of p) s.ws ≡ Nothing)
+      × ((s : State) × RunsTo p m primal s × (choose (problem_of p) s.ws ≡ None)
       × ((x : Float) × Checks (problem_of p) (values_of (problem_of p) s.ws) (Passed x))))
   optimal_exactly = rw e (optimal_told p m)
 
@@ -137,10 +137,10 @@ module _ (p : Plan) (m : Memory) (r : Solved) (e : Promised p m r) where
   -- 02: "a column at neither bound enters only if its price's size is at least EPS. This amends the step rule and 20":
   -- wherever it stands, the column by which 20 comes has such a price
   pub unbounded_by_price : number_of r.answer ≡ 20
-      → (f : Entering) × (choose (problem_of p) (reached p m).ws ≡ Enters f) × (le eps (size f.price) ≡ true)
+      → (f : Entering) × (choose (problem_of p) (reached p m).ws ≡ Some f) × (le eps (size f.price) ≡ true)
   unbounded_by_price =
       subst (λ (x : Solved). number_of x.answer ≡ 20
-      → (f : Entering) × (choose (problem_of p) (reached p m).ws ≡ Enters f) × (le eps (size f.price) ≡ true))
+      → (f : Entering) × (choose (problem_of p) (reached p m).ws ≡ Some f) × (le eps (size f.price) ≡ true))
       (sym e) (unbounded_priced p m)
 
   -- 01: "Answers 0 and 20 to 24 carry the objective and step count of that state"; "the workspace then holds the state

@@ -55,7 +55,7 @@ pub fn solve(
         factor_numbers,
         factor_coeffs,
     );
-    if let plan::Refusal::By(answer) = refusal {
+    if let Some(answer) = refusal {
         return answer;
     }
     let mut kept = [0usize; doubles::MAX_ROWS];
@@ -79,8 +79,8 @@ pub fn solve(
         &mut norms,
     );
     match begun {
-        start_gate::Begun::Refused(answer) => answer,
-        start_gate::Begun::On(start) => {
+        Err(answer) => answer,
+        Ok(start) => {
             let ran = run_launch::launch(
                 &mut numbers[..state::KEPT],
                 &mut doubles[..state::OBJECTIVE],

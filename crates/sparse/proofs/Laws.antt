@@ -16,7 +16,7 @@ use Rattle.doubles.specs.Lists.{◌!◌, ◌#◌}
 use Rattle.doubles.specs.Limits.{places}
 use Rattle.doubles.specs.Loop.{run}
 use Rattle.doubles.proofs.Loops.{keeps}
-use Rattle.sparse.specs.Scattered.{Pat, pat, Sv, blank, touched, touched_by, trues, Built, Wf, Good, Below, Within, listed, listed_val, put_at, take_turn, take_off, put_turn, loaded, clear_turn, cleared}
+use Rattle.sparse.specs.Scattered.{Pat, Sv, blank, touched, touched_by, trues, Built, Wf, Good, Below, Within, listed, listed_val, put_at, take_turn, take_off, put_turn, loaded, clear_turn, cleared}
 
 -- ---- the count of the marks
 

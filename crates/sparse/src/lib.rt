@@ -96,11 +96,8 @@ pub fn take_off(
         coeffs.now (sv values.old marks.old list.old count) }
 {
     let mut n = count;
-    let mut k = 0;
-    while k < rows.len() {
-        let r = rows[k];
+    for (k, &r) in rows.iter().enumerate() {
         n = sub_at(values, marks, list, n, r, x * coeffs[k]);
-        k += 1;
     }
     n
 }
@@ -121,11 +118,8 @@ pub fn load(
         xs.now n (sv values.old marks.old list.old count) }
 {
     let mut c = count;
-    let mut k = 0;
-    while k < n {
-        let i = at[k];
+    for (k, &i) in at[..n].iter().enumerate() {
         c = put_at(values, marks, list, c, i, xs[k]);
-        k += 1;
     }
     c
 }
@@ -141,12 +135,9 @@ pub fn clear(
     ensures { sv values.new marks.new list.now 0
         ≡ cleared (sv values.old marks.old list.now count) }
 {
-    let mut k = 0;
-    while k < count {
-        let i = list[k];
+    for &i in &list[..count] {
         values[i] = 0.0;
         marks[i] = false;
-        k += 1;
     }
 }
 
@@ -160,11 +151,8 @@ pub fn sq_norm(
     ensures { (m : List Bool) → result ≡ sq_norm (sv values.now m list.now count) }
 {
     let mut sum = 0.0;
-    let mut k = 0;
-    while k < count {
-        let i = list[k];
-        sum = sum + values[i] * values[i];
-        k += 1;
+    for &p in &list[..count] {
+        sum = sum + values[p] * values[p];
     }
     sum
 }
@@ -175,11 +163,8 @@ pub fn dot(at: &[usize], xs: &[f64], v: &[f64]) -> f64
     ensures { result ≡ dot at.now xs.now v.now }
 {
     let mut sum = 0.0;
-    let mut k = 0;
-    while k < at.len() {
-        let i = at[k];
+    for (k, &i) in at.iter().enumerate() {
         sum = sum + xs[k] * v[i];
-        k += 1;
     }
     sum
 }
@@ -199,11 +184,8 @@ pub fn relist(
         ≡ relisted (sv from.now m from_list.now from_count) }
 {
     let mut c = 0;
-    let mut k = 0;
-    while k < from_count {
-        let r = from_list[k];
+    for &r in &from_list[..from_count] {
         c = put_at(values, marks, list, c, r, from[r]);
-        k += 1;
     }
     c
 }
@@ -217,13 +199,10 @@ pub fn listed_finite(
     requires { (count ≤ places) × Within places count list.now }
     ensures { (m : List Bool) → result ≡ listed_finite (sv values.now m list.now count) }
 {
-    let mut k = 0;
-    while k < count {
-        let i = list[k];
+    for &i in &list[..count] {
         if !doubles::is_finite(values[i]) {
             return false;
         }
-        k += 1;
     }
     true
 }

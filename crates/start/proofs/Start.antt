@@ -11,7 +11,7 @@ use Rattle.doubles.specs.Loop.{table}
 use Rattle.doubles.specs.Lists.{◌!◌, ◌#◌, over}
 use Rattle.doubles.proofs.Loops.{run_same, all_same, over_same, length_tab}
 use Rattle.sparse.specs.Scattered.{Within, dot, dot_turn}
-use Rattle.rules.specs.Plan.{Plan, Problem, Etas, Workspace, Factored, State, Memory, n_of, m_of, row_cols, row_coeffs, slack_min, slack_max}
+use Rattle.rules.specs.Plan.{Plan, Problem, Etas, Factored, State, Memory, n_of, m_of, row_cols, row_coeffs, slack_min, slack_max}
 use Rattle.rules.specs.Parts.{workspace_of, factored_of, state_with}
 use Rattle.rules.specs.Start.{start_val_at, start_vals, start_objective, objective_turn, start_slack, start_norm, start_flags, start_workspace, start_state, in_bounds, passes6, passes7}
 use Rattle.rules.specs.Invariant.{ProblemFits}

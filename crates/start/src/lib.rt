@@ -69,13 +69,10 @@ pub fn passes_7(ops: &[u8], kept: &[usize], slacks: &[f64; doubles::MAX_ROWS]) -
     requires { (length kept.now ≤ max_rows) × Within (length ops.now) (length kept.now) kept.now }
     ensures { result ≡ slacks_inside ops.now kept.now slacks.now }
 {
-    let mut r = 0;
-    while r < kept.len() {
-        let i = kept[r];
+    for (r, &i) in kept.iter().enumerate() {
         if !in_bounds(ops[i], slacks[r]) {
             return false;
         }
-        r += 1;
     }
     true
 }

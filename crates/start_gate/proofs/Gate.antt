@@ -17,8 +17,7 @@ use Rattle.rules.specs.Solve.{Solved, solved, or_refuse, close, end_of, solve_pl
 use Rattle.rules.specs.declared.Answer.{Answer}
 use Rattle.rules.specs.declared.Answer.TheVariants.{BadSize, BadNumber, BadEntry, StartNotFinite, SlackOutside}
 use Rattle.plan.specs.Refused.{passing, refusal_of}
-use Rattle.plan.specs.declared.Refusal.{Refusal}
-use Rattle.plan.specs.declared.Refusal.TheVariants.{By, Nothing}
+use Rattle.std.specs.Prelude.{Option, Some, None}
 use Rattle.plan.proofs.Ladder.{from_six, solved_by, too_short, by_refusal}
 use Rattle.start.specs.Reckoned.{Numbers, reckoned}
 use Rattle.start_gate.specs.Gate.{Scratch, refused, filled, refusal_by, begun}
@@ -35,15 +34,15 @@ module _ (p : Plan) (m : Memory) where
   unfolding memory_long
   memory_part = refl
 
-  pub size_over : sizes_fit p ≡ false → By BadSize ≡ refusal_by p m
+  pub size_over : sizes_fit p ≡ false → Some BadSize ≡ refusal_by p m
   unfolding refusal_by
   size_over e = rw (e, refusal_by)
 
-  pub plan_short : sizes_fit p ≡ true → plan_long p ≡ false → By BadSize ≡ refusal_by p m
+  pub plan_short : sizes_fit p ≡ true → plan_long p ≡ false → Some BadSize ≡ refusal_by p m
   unfolding refusal_by
   plan_short a e = rw (a, e, refusal_by)
 
-  pub memory_short : sizes_fit p ≡ true → plan_long p ≡ true → memory_long p m ≡ false → By BadSize ≡ refusal_by p m
+  pub memory_short : sizes_fit p ≡ true → plan_long p ≡ true → memory_long p m ≡ false → Some BadSize ≡ refusal_by p m
   unfolding refusal_by
   memory_short a b e = rw (a, b, e, refusal_by)
 
@@ -68,11 +67,11 @@ module _ (p : Plan) (m : Memory) where
     pub passes_3 : first_bad_row p ≡ p.rows
 
   -- a rung that refuses nothing has passed
-  passed : (a : Answer) (b : Bool) (r : Refusal) → Nothing ≡ passing b a r → (b ≡ true) × (Nothing ≡ r)
+  passed : (a : Answer) (b : Bool) (r : Option Answer) → None ≡ passing b a r → (b ≡ true) × (None ≡ r)
   passed a true r e = (refl, e)
   passed a false r e = absurd (let z : ◌≡◌ {A = ℕ} 0 1 = cc in omega arith)
 
-  pub accepted : Nothing ≡ refusal_by p m → Accepted
+  pub accepted : None ≡ refusal_by p m → Accepted
   unfolding refusal_by refusal_of passes1
   accepted e =
       let a = passed BadSize (sizes_fit p && plan_long p && memory_long p m) _ e in

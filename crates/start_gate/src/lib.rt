@@ -13,13 +13,6 @@ ghost use Rattle.start.specs.Reckoned.{numbers};
 ghost use Rattle.start_gate.specs.Lent.{Passed};
 ghost use Rattle.start_gate.specs.Gate.{refusal_by, begun, begun_by};
 
-// The start in scratch: refused, or its numbers, of which the objective is handed back.
-#[derive(Clone, Copy)]
-pub enum Begun {
-    Refused(rules::Answer),
-    On(f64),
-}
-
 // 1: "Needed are columns plus rows of values, dropped rows counted, and the full stated store", and the factor's two
 // arrays: each whole, whatever the plan's sizes. Those are small by then, so that they may be added.
 pub fn memory_long(
@@ -63,19 +56,19 @@ pub fn refusal(
     doubles: &[f64],
     factor_numbers: &[usize],
     factor_coeffs: &[f64],
-) -> plan::Refusal
+) -> Option<rules::Answer>
     ensures { result ≡ refusal_by (plan_of columns rows entries budget tolerance costs.now
         lowers.now uppers.now starts.now cols.now coeffs.now
         ops.now rhs.now) (memory_in values.now numbers.now
         doubles.now factor_numbers.now factor_coeffs.now) }
 {
     if !plan::sizes_fit(columns, rows, entries, budget) {
-        return plan::Refusal::By(rules::Answer::BadSize);
+        return Some(rules::Answer::BadSize);
     }
     if !plan::plan_long(
         columns, rows, entries, costs, lowers, uppers, starts, cols, coeffs, ops, rhs,
     ) {
-        return plan::Refusal::By(rules::Answer::BadSize);
+        return Some(rules::Answer::BadSize);
     }
     if !memory_long(
         columns,
@@ -86,7 +79,7 @@ pub fn refusal(
         factor_numbers,
         factor_coeffs,
     ) {
-        return plan::Refusal::By(rules::Answer::BadSize);
+        return Some(rules::Answer::BadSize);
     }
     plan::first_refusal(
         columns, rows, entries, tolerance, costs, lowers, uppers, starts, cols, coeffs, ops, rhs,
@@ -109,7 +102,7 @@ pub fn begin(
     xs: &mut [f64; doubles::MAX_COLUMNS],
     slacks: &mut [f64; doubles::MAX_ROWS],
     norms: &mut [f64; doubles::MAX_COLUMNS],
-) -> Begun
+) -> Result<f64, rules::Answer>
     requires passed { Passed columns costs.now lowers.now uppers.now starts.now cols.now coeffs.now ops.now
         rhs.now kept.now }
     requires scratch { Scratch columns (length kept.now) xs.old slacks.old norms.old }
@@ -122,12 +115,12 @@ pub fn begin(
         columns, costs, lowers, uppers, starts, cols, coeffs, rhs, kept, xs, slacks, norms,
     );
     if !start::passes_6(columns, kept.len(), xs, slacks, objective, norms) {
-        return Begun::Refused(rules::Answer::StartNotFinite);
+        return Err(rules::Answer::StartNotFinite);
     }
     if !(start::passes_7(ops, kept, slacks)
         | start_values::dual_feasible(costs, lowers, uppers, columns))
     {
-        return Begun::Refused(rules::Answer::SlackOutside);
+        return Err(rules::Answer::SlackOutside);
     }
-    Begun::On(objective)
+    Ok(objective)
 }

@@ -17,9 +17,7 @@ fn clear_norms(n: usize, norms: &mut [f64; doubles::MAX_COLUMNS])
     requires { (n ≤ max_columns) × (n ≤ length norms.old) }
     ensures { norms.new ≡ over (table n (λ _. f0)) norms.old }
 {
-    for j in 0..n {
-        norms[j] = 0.0;
-    }
+    norms[..n].fill(0.0);
 }
 
 // A row's squares, each added at its column.
@@ -27,11 +25,8 @@ fn add_squares(cols: &[usize], coeffs: &[f64], norms: &mut [f64; doubles::MAX_CO
     requires { (length cols.now ≤ length coeffs.now) × Within max_columns (length cols.now) cols.now }
     ensures { norms.new ≡ add_squares cols.now coeffs.now norms.old }
 {
-    let mut k = 0;
-    while k < cols.len() {
-        let j = cols[k];
+    for (k, &j) in cols.iter().enumerate() {
         norms[j] = norms[j] + coeffs[k] * coeffs[k];
-        k += 1;
     }
 }
 
@@ -47,13 +42,10 @@ fn sum_squares(
     ensures { norms.new ≡ squares (rowed 0 starts.now cols.now
         coeffs.now kept.now) norms.old }
 {
-    let mut r = 0;
-    while r < kept.len() {
-        let i = kept[r];
+    for &i in kept {
         let row_cols = plan::row_cols(starts, cols, i);
         let row_coeffs = plan::row_coeffs(starts, coeffs, i);
         add_squares(row_cols, row_coeffs, norms);
-        r += 1;
     }
 }
 

@@ -96,12 +96,10 @@ pub fn dual_feasible(costs: &[f64], lowers: &[f64], uppers: &[f64], n: usize) ->
     requires { Columns n costs.now lowers.now uppers.now }
     ensures { result ≡ dual_feasible (costed n costs.now lowers.now uppers.now) }
 {
-    let mut j = 0;
-    while j < n {
+    for j in 0..n {
         if !start_dual(costs[j], lowers[j], uppers[j]) {
             return false;
         }
-        j += 1;
     }
     true
 }
@@ -156,9 +154,7 @@ pub fn start_slacks(
         (start_slack (sided starts.now cols.now coeffs.now rhs.now
         kept.now) xs.now)) slacks.old }
 {
-    let mut r = 0;
-    while r < kept.len() {
+    for r in 0..kept.len() {
         slacks[r] = start_slack(starts, cols, coeffs, rhs, kept, xs, r);
-        r += 1;
     }
 }

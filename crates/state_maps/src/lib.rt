@@ -17,14 +17,7 @@ fn same(n: usize, xs: &[usize], ys: &[usize]) -> bool
     requires { (n ≤ length xs.now) × (n ≤ length ys.now) }
     ensures { result ≡ all n (λ k. eqb (xs.now # k) (ys.now # k)) }
 {
-    let mut i = 0;
-    while i < n {
-        if xs[i] != ys[i] {
-            return false;
-        }
-        i += 1;
-    }
-    true
+    xs[..n] == ys[..n]
 }
 
 // Whether the kept rows are those of the plan, which are found anew.
@@ -56,12 +49,10 @@ pub fn all_lead_back(vars: usize, states: &[usize], from: usize, n: usize, at: &
     requires { (vars ≤ length states.now) × (from + n ≤ vars) × (n ≤ length at.now) }
     ensures { result ≡ all n (λ k. leads_back vars states.now (from + k) (at.now # k)) }
 {
-    let mut i = 0;
-    while i < n {
-        if !leads_back(vars, states, from + i, at[i]) {
+    for (i, &v) in at[..n].iter().enumerate() {
+        if !leads_back(vars, states, from + i, v) {
             return false;
         }
-        i += 1;
     }
     true
 }
@@ -71,14 +62,7 @@ pub fn all_below(limit: usize, n: usize, xs: &[usize]) -> bool
     requires { n ≤ length xs.now }
     ensures { result ≡ all n (λ k. ltb (xs.now # k) limit) }
 {
-    let mut i = 0;
-    while i < n {
-        if limit <= xs[i] {
-            return false;
-        }
-        i += 1;
-    }
-    true
+    xs[..n].iter().all(|&x| x < limit)
 }
 
 // Whether the maps of n columns and m kept rows lead back and forth.

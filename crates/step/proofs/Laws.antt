@@ -19,7 +19,7 @@ use Rattle.rules.specs.Pivot.{flags_at, flip_finite, flipped, numbers_finite, ex
 use Rattle.rules.specs.Step.{Outcome, moved, stopped, or_stop, step, pivot, flip, exchange, both_norms}
 use Rattle.rules.specs.Invariant.{ProblemFits, FactorFits, Fits, Vector}
 use Rattle.rules.specs.declared.Entering.{Entering}
-use Rattle.rules.specs.declared.Choice.TheVariants.{Enters as Enters·column}
+use Rattle.std.specs.Prelude.{Some}
 use Rattle.rules.specs.declared.PivotInfo.{PivotInfo}
 use Rattle.rules.specs.declared.PivotInfo.TheVariants.{Exchange as Exchanging, Flip}
 use Rattle.rules.specs.declared.Ratio.{Ratio}
@@ -285,7 +285,7 @@ module _ (s : State) where
   stops_at (stopped v) w x F G q = (cc, cc, cc, cc)
 
 -- the state after a step fits, and one more step is counted
-pub moved_fits : (P : Problem) → ProblemFits P → (s : State) → Fits P s → (e : Entering) → choose P s.ws ≡ Enters·column e → (t : State) → on t ≡ after s (step (stepped_of P) s e)
+pub moved_fits : (P : Problem) → ProblemFits P → (s : State) → Fits P s → (e : Entering) → choose P s.ws ≡ Some e → (t : State) → on t ≡ after s (step (stepped_of P) s e)
     → Fits P t × (t.steps ≡ suc s.steps)
 moved_fits P f s g e enters t q =
     let m = moves_on s (step (stepped_of P) s e) t q in

@@ -13,8 +13,6 @@ ghost use Rattle.step_refactor.specs.Left.{after_by, left_by, stepped};
 ghost use Rattle.step_refactor.specs.Lent.{Ready, ReadyBy, Solved};
 ghost use Rattle.step.specs.Found.{found, found_by};
 
-use step_refactor::Went;
-
 // What is decided of a step: how many places the column lists, with the numbers of the flip or of the exchange, or why
 // there is none.
 #[derive(Clone, Copy)]
@@ -135,7 +133,7 @@ fn exchange(
     count: usize,
     e: rules::Entering,
     x: state::Exchange,
-) -> Went
+) -> Result<state::Tally, rules::Stop>
     requires ready { Ready n lowers.now uppers.now starts.now cols.now coeffs.now ops.now kept.now
         numbers.old doubles.old factor_numbers.old factor_coeffs.old at }
     requires by_columns { ByColumns (rowed n starts.now cols.now coeffs.now kept.now) cstarts.now crows.now
@@ -211,7 +209,7 @@ pub fn step(
     crows: &[usize],
     ccoeffs: &[f64],
     e: rules::Entering,
-) -> Went
+) -> Result<state::Tally, rules::Stop>
     requires ready { Ready n lowers.now uppers.now starts.now cols.now coeffs.now ops.now kept.now
         numbers.old doubles.old factor_numbers.old factor_coeffs.old at }
     requires by_columns { ByColumns (rowed n starts.now cols.now coeffs.now kept.now) cstarts.now crows.now
@@ -247,10 +245,10 @@ pub fn step(
     );
     match decided {
         Decided::Stops(why) => {
-            return Went::Stops(why);
+            return Err(why);
         }
         Decided::Flips { count, value, diff } => {
-            return Went::On(step_store::store_flip(
+            return Ok(step_store::store_flip(
                 numbers, doubles, at, n, lowers, uppers, ops, kept, &values, &list, count, e,
                 value, diff,
             ));

@@ -9,23 +9,23 @@ use Rattle.doubles.specs.Num.{◌⊖◌, size}
 use Rattle.doubles.specs.Lists.{◌!◌}
 use Rattle.rules.specs.Plan.{Problem, Workspace, n_of}
 use Rattle.rules.specs.Choose.{Best, best_column, other_val, entering_of, choose}
-use Rattle.rules.specs.declared.Choice.{Choice}
-use Rattle.rules.specs.declared.Choice.TheVariants.{Enters, Nothing}
+use Rattle.std.specs.Prelude.{Option, Some, None}
+use Rattle.rules.specs.declared.Entering.{Entering}
 
 module _ (P : Problem) (w : Workspace) {b : Best} (best : b ≡ best_column (n_of P) w) where
-  abbrev pick : Best → Choice
-  pick b = elim (ltb b.col (n_of P)) [ true ↦ Enters (entering_of P w b) | false ↦ Nothing ]
+  abbrev pick : Best → Option Entering
+  pick b = elim (ltb b.col (n_of P)) [ true ↦ Some (entering_of P w b) | false ↦ None ]
 
   pub chosen : {o d : Float} → b.col < n_of P → o ≡ other_val P w b.col → d ≡ size (o ⊖ w.nb_var_vals ! b.col)
-      → Enters (record { col = b.col; price = w.prices ! b.col; score = b.score; distance = d }) ≡ choose P w
+      → Some (record { col = b.col; price = w.prices ! b.col; score = b.score; distance = d }) ≡ choose P w
   unfolding choose entering_of
   chosen {o} {d} l e f =
-      let this : Enters (record { col = b.col; price = w.prices ! b.col; score = b.score; distance = d }) ≡ pick b =
+      let this : Some (record { col = b.col; price = w.prices ! b.col; score = b.score; distance = d }) ≡ pick b =
       rw (lt-ltb b.col (n_of P) l, pick, f, e) in
       this ∙ ap pick best
 
-  pub not_chosen : n_of P ≤ b.col → Nothing ≡ choose P w
+  pub not_chosen : n_of P ≤ b.col → None ≡ choose P w
   unfolding choose
   not_chosen g =
-      let this : Nothing ≡ pick b = rw (le-ltb b.col (n_of P) g, pick) in
+      let this : None ≡ pick b = rw (le-ltb b.col (n_of P) g, pick) in
       this ∙ ap pick best

@@ -54,10 +54,8 @@ pub fn best_column(n: usize, prices: &[f64], norms: &[f64], flags: &[usize]) -> 
         col: n,
         score: -doubles::infinity(),
     };
-    let mut c = 0;
-    while c < n {
+    for c in 0..n {
         best = better(c, prices[c], norms[c], flags[c], best);
-        c += 1;
     }
     best
 }
@@ -122,7 +120,7 @@ pub fn choose(
     prices: &[f64],
     norms: &[f64],
     flags: &[usize],
-) -> rules::Choice
+) -> Option<rules::Entering>
     requires { Choosing (bounded n lowers.now uppers.now ops.now kept.now)
         (non_basic_of nb_vars.now nb_var_vals.now prices.now norms.now flags.now) }
     ensures { result ≡ Choose.choose (bounded n lowers.now uppers.now ops.now
@@ -139,7 +137,7 @@ pub fn choose(
             score: best.score,
             distance: doubles::abs(other - nb_var_vals[col]),
         };
-        return rules::Choice::Enters(e);
+        return Some(e);
     }
-    rules::Choice::Nothing
+    None
 }

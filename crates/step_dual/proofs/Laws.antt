@@ -22,7 +22,7 @@ use Rattle.rules.specs.Invariant.{ProblemFits, Fits, Vector}
 use Rattle.rules.specs.declared.NonBasicVarState.{NonBasicVarState}
 use Rattle.rules.specs.declared.Entering.{Entering}
 use Rattle.rules.specs.declared.LeavingVar.{LeavingVar}
-use Rattle.rules.specs.declared.RowChoice.TheVariants.{Leaves}
+use Rattle.std.specs.Prelude.{Some}
 use Rattle.rules.specs.declared.DualRatio.{DualRatio}
 use Rattle.rules.specs.declared.DualRatio.TheVariants.{Exchange as Exchanging, Nothing, NotFinite}
 use Rattle.rules.specs.declared.Stop.{Stop}
@@ -206,7 +206,7 @@ module _ (test : NonBasicVarState → Float → Bool) (P : Problem) (s : State) 
   dual_step_part = let r = row_coeffs_of P s l.row in ap (or_stop (listed_finite r) Stop-as-NotFinite) (by_ratio_holds (dual_ratio_by test s.ws l r))
 
 -- the state after a dual step fits, and one more step is counted
-pub dual_moved_fits : (P : Problem) → ProblemFits P → (s : State) → Fits P s → (l : LeavingVar) → choose_row P s.ws ≡ Leaves l → (t : State)
+pub dual_moved_fits : (P : Problem) → ProblemFits P → (s : State) → Fits P s → (l : LeavingVar) → choose_row P s.ws ≡ Some l → (t : State)
     → on t ≡ after s (dual_step (stepped_of P) s l) → Fits P t × (t.steps ≡ suc s.steps)
 dual_moved_fits P f s g l leaves t q =
     let m = moves_on s (dual_step (stepped_of P) s l) t q in

@@ -16,8 +16,6 @@ ghost use Rattle.step_refactor.specs.Lent.{Ready};
 ghost use Rattle.step_exchange.specs.Lent.{Solving, Inverse};
 ghost use Rattle.step_dual.specs.Found.{found, found_by, entered};
 
-use step_refactor::Went;
-
 // What is decided of a dual step: how many places the row solve's result lists, with the entering column and the numbers of
 // the exchange, or why there is none.
 #[derive(Clone, Copy)]
@@ -144,7 +142,7 @@ fn enter(
     y_count: usize,
     e: rules::Entering,
     x: state::Exchange,
-) -> Went
+) -> Result<state::Tally, rules::Stop>
     requires ready { Ready n lowers.now uppers.now starts.now cols.now coeffs.now ops.now kept.now
         numbers.old doubles.old factor_numbers.old factor_coeffs.old at }
     requires by_columns { ByColumns (rowed n starts.now cols.now coeffs.now kept.now) cstarts.now crows.now
@@ -181,7 +179,7 @@ fn enter(
         col,
     );
     if !sparse::listed_finite(&values, &list, count) {
-        return Went::Stops(rules::Stop::NotFinite);
+        return Err(rules::Stop::NotFinite);
     }
     let touched = sparse::touch(&mut marks, &mut list, count, x.row);
     step_norms::exchange(
@@ -233,7 +231,7 @@ pub fn dual_step(
     ccoeffs: &[f64],
     l: rules::LeavingVar,
     still: bool,
-) -> Went
+) -> Result<state::Tally, rules::Stop>
     requires ready { Ready n lowers.now uppers.now starts.now cols.now coeffs.now ops.now kept.now
         numbers.old doubles.old factor_numbers.old factor_coeffs.old at }
     requires by_columns { ByColumns (rowed n starts.now cols.now coeffs.now kept.now) cstarts.now crows.now
@@ -268,7 +266,7 @@ pub fn dual_step(
     );
     match decided {
         Decided::Stops(why) => {
-            return Went::Stops(why);
+            return Err(why);
         }
         Decided::Enters { count, e, x } => {
             return enter(

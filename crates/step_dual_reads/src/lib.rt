@@ -20,7 +20,7 @@ pub fn choose_row(
     uppers: &[f64],
     ops: &[u8],
     kept: &[usize],
-) -> rules::RowChoice
+) -> Option<rules::LeavingVar>
     requires { Sized numbers.now doubles.now
         × Leaving (bounded n lowers.now uppers.now ops.now kept.now) (packed numbers.now doubles.now) }
     ensures { result ≡ choose_row (bounded n lowers.now uppers.now ops.now

@@ -41,8 +41,7 @@ use Rattle.step_refactor.specs.Lent.{Ready, Solved}
 use Rattle.step_refactor.specs.Made.{made}
 use Rattle.step_exchange.specs.Lent.{Inverse}
 use Rattle.step_exchange.specs.Decided.{Decision, goes, ends, decision, decided, decided_by}
-use Rattle.step_exchange.specs.declared.Decided.{Decided}
-use Rattle.step_exchange.specs.declared.Decided.TheVariants.{Goes, NotFinite as Broken}
+use Rattle.std.specs.Prelude.{Option, Some, None}
 
 -- ---- what the calls ask
 module _ {n : ℕ} {lowers uppers : List Float} {starts cols : List ℕ} {coeffs : List Float} {ops kept : List ℕ} {N : List ℕ} {D : List Float}
@@ -205,12 +204,12 @@ module _ (Q : Problem) (s : State) (e : Entering) (c : Sv) (x : Exchange) where
   is_decided = by_tests _ _ _
 
   -- what the code decided, with the vectors as it left them
-  module _ (d : Decided) (v : List Float) (m : List Bool) (l : List ℕ) (h : List Float) (q : decided_by d v m l h ≡ decided rows_of s e c x) where
-    pub exchange_ends : d ≡ Broken → off NotFinite s.ws s.factor.numbers s.factor.coeffs ≡ after s whole
+  module _ (d : Option ℕ) (v : List Float) (m : List Bool) (l : List ℕ) (h : List Float) (q : decided_by d v m l h ≡ decided rows_of s e c x) where
+    pub exchange_ends : d ≡ None → off NotFinite s.ws s.factor.numbers s.factor.coeffs ≡ after s whole
     unfolding after
     exchange_ends f = let g : ends ≡ decided rows_of s e c x = rw f at q in sym (ap (after s) (is_decided ∙ ap by_decision (sym g)))
 
-    module _ (k : ℕ) (f : d ≡ Goes k) where
+    module _ (k : ℕ) (f : d ≡ Some k) where
       gone : goes (sv v m l k) h ≡ decided rows_of s e c x
       gone = rw f at q
 

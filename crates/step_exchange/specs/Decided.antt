@@ -1,14 +1,12 @@
 -- "row solve; all new numbers": what is known of an exchange before its eta column or the new basis' factor is made. `rules`
 -- has the whole as `exchange`; proofs/Laws.antt puts it together from this and the stores. Assumes nothing.
-use Rattle.std.specs.Prelude.{Bool, true, false, ◌&&◌, List, ℕ, Float}
+use Rattle.std.specs.Prelude.{Bool, true, false, ◌&&◌, List, ℕ, Float, Option, Some, None}
 use Rattle.sparse.specs.Scattered.{Sv, sv, listed_finite}
 use Rattle.rules.specs.Plan.{Problem, State}
 use Rattle.rules.specs.Basis.{row_coeffs_of, helper_of, touch_at}
 use Rattle.rules.specs.Pivot.{numbers_finite}
 use Rattle.rules.specs.declared.Entering.{Entering}
 use Rattle.state.specs.declared.Exchange.{Exchange}
-use Rattle.step_exchange.specs.declared.Decided.{Decided}
-use Rattle.step_exchange.specs.declared.Decided.TheVariants.{Goes, NotFinite}
 
 -- the row and the helper's values, or a number isn't finite
 pub data Decision : Type 0 where
@@ -29,6 +27,6 @@ decided P s e c x =
     r h.vals
 
 -- the code's answer, with the vectors as it leaves them
-abbrev pub decided_by : Decided → List Float → List Bool → List ℕ → List Float → Decision
-decided_by (Goes k) values marks list helper = goes (sv values marks list k) helper
-decided_by NotFinite values marks list helper = ends
+abbrev pub decided_by : Option ℕ → List Float → List Bool → List ℕ → List Float → Decision
+decided_by (Some k) values marks list helper = goes (sv values marks list k) helper
+decided_by None values marks list helper = ends

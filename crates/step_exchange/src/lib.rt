@@ -18,15 +18,6 @@ ghost use Rattle.step_refactor.specs.Lent.{Ready, Solved, Squares};
 ghost use Rattle.step_exchange.specs.Decided.{decided, decided_by};
 ghost use Rattle.step_exchange.specs.Lent.{Solving, Inverse};
 
-use step_refactor::Went;
-
-// What is decided of an exchange: how many places its row lists, or a number isn't finite.
-#[derive(Clone, Copy)]
-pub enum Decided {
-    Goes(usize),
-    NotFinite,
-}
-
 // 01: "Column, row and helper entries .. must be finite", and every number to be stored.
 fn numbers_finite(
     doubles: &[f64],
@@ -106,7 +97,7 @@ fn decide(
     sq: f64,
     e: rules::Entering,
     x: state::Exchange,
-) -> Decided
+) -> Option<usize>
     requires fresh { Fresh (sv row_values.old row_marks.old row_list.old 0) × Fresh
         (sv helper_values.old helper_marks.old helper_list.old 0) }
     requires solving { Solving n starts.now cols.now coeffs.now kept.now numbers.now doubles.now
@@ -159,9 +150,9 @@ fn decide(
         e,
         x,
     ) {
-        return Decided::NotFinite;
+        return None;
     }
-    Decided::Goes(row_count)
+    Some(row_count)
 }
 
 // An exchange: "row solve; all new numbers; then the eta entries where the column fits, or the factor where it doesn't; then
@@ -192,7 +183,7 @@ pub fn exchange(
     y_count: usize,
     e: rules::Entering,
     x: state::Exchange,
-) -> Went
+) -> Result<state::Tally, rules::Stop>
     requires ready { Ready n lowers.now uppers.now starts.now cols.now coeffs.now ops.now kept.now
         numbers.old doubles.old factor_numbers.old factor_coeffs.old at }
     requires by_columns { ByColumns (rowed n starts.now cols.now coeffs.now kept.now) cstarts.now crows.now
@@ -243,8 +234,8 @@ pub fn exchange(
         e,
         x,
     );
-    let Decided::Goes(row_count) = decided else {
-        return Went::Stops(rules::Stop::NotFinite);
+    let Some(row_count) = decided else {
+        return Err(rules::Stop::NotFinite);
     };
     if !basis_store::eta_fits(numbers, at, count) {
         return step_refactor::refactor(
@@ -274,9 +265,9 @@ pub fn exchange(
         );
     }
     if !step_numbers::eta_finite(values, list, count, x.row, x.pivot) {
-        return Went::Stops(rules::Stop::NotFinite);
+        return Err(rules::Stop::NotFinite);
     }
-    Went::On(step_store::store_exchange(
+    Ok(step_store::store_exchange(
         numbers,
         doubles,
         at,

@@ -10,8 +10,8 @@ use Rattle.doubles.specs.Lists.{◌!◌}
 use Rattle.rules.specs.Plan.{Problem, Workspace, m_of}
 use Rattle.rules.specs.Choose.{score_of}
 use Rattle.rules.specs.DualRow.{outside, row_min, row_max, infeasibility_of, bound_broken, BestRow, best_row_of, better_row_turn, best_row, leaving_row_of, choose_row}
-use Rattle.rules.specs.declared.RowChoice.{RowChoice}
-use Rattle.rules.specs.declared.RowChoice.TheVariants.{Leaves, Nothing}
+use Rattle.std.specs.Prelude.{Option, Some, None}
+use Rattle.rules.specs.declared.LeavingVar.{LeavingVar}
 use Rattle.step_leaving.specs.Parts.{better_row_of}
 
 -- ---- a turn, by the code's tests
@@ -37,20 +37,20 @@ turn P w r b e f q = q ∙ rw (e, f)
 
 -- ---- the answer
 module _ (P : Problem) (w : Workspace) {b : BestRow} (best : b ≡ best_row P w) where
-  abbrev pick : BestRow → RowChoice
-  pick b = elim (ltb b.row (m_of P)) [ true ↦ Leaves (leaving_row_of P w b) | false ↦ Nothing ]
+  abbrev pick : BestRow → Option LeavingVar
+  pick b = elim (ltb b.row (m_of P)) [ true ↦ Some (leaving_row_of P w b) | false ↦ None ]
 
   pub chosen : {lo hi d v : Float} → b.row < m_of P → lo ≡ row_min P w b.row → hi ≡ row_max P w b.row
       → d ≡ infeasibility_of lo (w.basic_var_vals ! b.row) hi → v ≡ bound_broken lo (w.basic_var_vals ! b.row) hi
-      → Leaves (record { row = b.row; infeasibility = d; score = b.score; value = v }) ≡ choose_row P w
+      → Some (record { row = b.row; infeasibility = d; score = b.score; value = v }) ≡ choose_row P w
   unfolding choose_row leaving_row_of
   chosen {d} {v} l e f g h =
-      let this : Leaves (record { row = b.row; infeasibility = d; score = b.score; value = v }) ≡ pick b =
+      let this : Some (record { row = b.row; infeasibility = d; score = b.score; value = v }) ≡ pick b =
       rw (lt-ltb b.row (m_of P) l, pick, g, h, e, f) in
       this ∙ ap pick best
 
-  pub not_chosen : m_of P ≤ b.row → Nothing ≡ choose_row P w
+  pub not_chosen : m_of P ≤ b.row → None ≡ choose_row P w
   unfolding choose_row
   not_chosen g =
-      let this : Nothing ≡ pick b = rw (le-ltb b.row (m_of P) g, pick) in
+      let this : None ≡ pick b = rw (le-ltb b.row (m_of P) g, pick) in
       this ∙ ap pick best

@@ -86,13 +86,11 @@ fn best_row(
         row: m,
         score: -doubles::infinity(),
     };
-    let mut r = 0;
-    while r < m {
+    for r in 0..m {
         let v = basic_vars[r];
         let lower = cells::var_min(n, lowers, ops, kept, v);
         let upper = cells::var_max(n, uppers, ops, kept, v);
         best = better(r, lower, basic_var_vals[r], upper, dual_norms[r], best);
-        r += 1;
     }
     best
 }
@@ -107,7 +105,7 @@ pub fn choose_row(
     basic_vars: &[usize],
     basic_var_vals: &[f64],
     dual_norms: &[f64],
-) -> rules::RowChoice
+) -> Option<rules::LeavingVar>
     requires { Leaving (bounded n lowers.now uppers.now ops.now kept.now)
         (rows_of basic_vars.now basic_var_vals.now dual_norms.now) }
     ensures { result ≡ choose_row (bounded n lowers.now uppers.now ops.now
@@ -136,7 +134,7 @@ pub fn choose_row(
             score: best.score,
             value: bound_broken(lower, value, upper),
         };
-        return rules::RowChoice::Leaves(l);
+        return Some(l);
     }
-    rules::RowChoice::Nothing
+    None
 }

@@ -29,8 +29,7 @@ use Rattle.state.specs.Packed.{packed, state_in}
 use Rattle.state.specs.declared.Tally.{Tally}
 use Rattle.state.specs.declared.Exchange.{Exchange}
 use Rattle.step_refactor.specs.Left.{on, off, after, left_by}
-use Rattle.step_refactor.specs.declared.Went.{Went}
-use Rattle.step_refactor.specs.declared.Went.TheVariants.{On, Stops}
+use Rattle.std.specs.Prelude.{Result, Ok, Err}
 use Rattle.step_norms.specs.Tested.{Tested, tested, tested_by, dual_stored}
 
 -- ---- what is tested: tau as the code leaves it, and its answer
@@ -146,11 +145,11 @@ module _ (Q : Problem) (s : State) (e : Entering) (c y : Sv) (x : Exchange) (ey 
       passed = by_answer ∙ ap by_test f
 
       -- and the exchange's answer, with the arrays as it left them
-      module _ (r : Went) (N : List ℕ) (D : List Float) (F : List ℕ) (G : List Float) (o : left_by r N D F G ≡ after s whole) where
-        pub norms_stop : (w : Stop) → r ≡ Stops w → off w (packed N D) F G ≡ after s both
+      module _ (r : Result Tally Stop) (N : List ℕ) (D : List Float) (F : List ℕ) (G : List Float) (o : left_by r N D F G ≡ after s whole) where
+        pub norms_stop : (w : Stop) → r ≡ Err w → off w (packed N D) F G ≡ after s both
         norms_stop w g = stop_by s _ whole (rw g at o) ∙ sym (ap (after s) passed)
 
-        pub norms_move : (t : Tally) → r ≡ On t → (sq : Float) → sq ≡ sq_norm y → (p : Pat) (E : List Float)
+        pub norms_move : (t : Tally) → r ≡ Ok t → (sq : Float) → sq ≡ sq_norm y → (p : Pat) (E : List Float)
             → packed N E ≡ dual_stored (packed N D) c x.row x.pivot sq (sv_of v p)
             → on (state_in N E F G t) ≡ after s both
         unfolding tested

@@ -19,8 +19,6 @@ ghost use Rattle.step_refactor.specs.Lent.{Ready, Solved, Squares};
 ghost use Rattle.step_exchange.specs.Lent.{Inverse};
 ghost use Rattle.step_norms.specs.Tested.{tested, tested_by, dual_stored};
 
-use step_refactor::Went;
-
 // docs/RULES-02.md: tau's "listed entries must be finite, else 23", "New dual norms must be finite, else 23". tau is written
 // to a fresh vector, the state is read. `sq` is the sum of squares of y, the row solve's result.
 fn decide(
@@ -137,7 +135,7 @@ pub fn exchange(
     y_count: usize,
     e: rules::Entering,
     x: state::Exchange,
-) -> Went
+) -> Result<state::Tally, rules::Stop>
     requires ready { Ready n lowers.now uppers.now starts.now cols.now coeffs.now ops.now kept.now
         numbers.old doubles.old factor_numbers.old factor_coeffs.old at }
     requires by_columns { ByColumns (rowed n starts.now cols.now coeffs.now kept.now) cstarts.now crows.now
@@ -177,7 +175,7 @@ pub fn exchange(
         sq,
         x,
     ) {
-        return Went::Stops(rules::Stop::NotFinite);
+        return Err(rules::Stop::NotFinite);
     }
     let went = step_exchange::exchange(
         numbers,
@@ -206,12 +204,12 @@ pub fn exchange(
         x,
     );
     match went {
-        Went::Stops(why) => {
-            return Went::Stops(why);
+        Err(why) => {
+            return Err(why);
         }
-        Went::On(after) => {
+        Ok(after) => {
             store_dual_norms(doubles, values, list, count, &tau, x.row, sq, x.pivot);
-            return Went::On(after);
+            return Ok(after);
         }
     }
 }

@@ -70,13 +70,10 @@ pub fn moved_finite(
         (moved_val (numbers_of basic_var_vals.now [] [])
         (sv values.now m list.now count) diff) }
 {
-    let mut k = 0;
-    while k < count {
-        let r = list[k];
+    for &r in &list[..count] {
         if !doubles::is_finite(basic_var_vals[r] - diff * values[r]) {
             return false;
         }
-        k += 1;
     }
     true
 }
@@ -96,14 +93,11 @@ fn vals_finite(
         (new_val (numbers_of basic_var_vals.now [] []) (sv values.now m list.now count)
         value diff row) }
 {
-    let mut k = 0;
-    while k < count {
-        let r = list[k];
+    for &r in &list[..count] {
         let x = new_val(row, value, diff, r, basic_var_vals[r], values[r]);
         if !doubles::is_finite(x) {
             return false;
         }
-        k += 1;
     }
     true
 }
@@ -124,15 +118,12 @@ fn prices_finite(
 {
     let col = e.col;
     let pivot_obj = e.price / pivot;
-    let mut k = 0;
-    while k < count {
-        let j = list[k];
+    for &j in &list[..count] {
         let old = prices[j];
         let price = new_price(col, pivot_obj, j, old, values[j]);
         if !doubles::is_finite(price) {
             return false;
         }
-        k += 1;
     }
     true
 }
@@ -154,14 +145,11 @@ pub fn norms_finite(
         (norm_at col sq pivot norms.now values.now helper.now) }
 {
     let pivot_sq = pivot * pivot;
-    let mut k = 0;
-    while k < count {
-        let j = list[k];
+    for &j in &list[..count] {
         let x = new_norm(col, sq, pivot, pivot_sq, j, norms[j], values[j], helper[j]);
         if !doubles::is_finite(x) {
             return false;
         }
-        k += 1;
     }
     true
 }
@@ -177,14 +165,11 @@ pub fn eta_finite(
     requires { (count ≤ places) × Within places count list.now }
     ensures { (m : List Bool) → result ≡ eta_finite (sv values.now m list.now count) row pivot }
 {
-    let mut k = 0;
-    while k < count {
-        let r = list[k];
+    for &r in &list[..count] {
         let x = basis_store::eta_entry(row, pivot, r, values[r]);
         if !doubles::is_finite(x) {
             return false;
         }
-        k += 1;
     }
     true
 }

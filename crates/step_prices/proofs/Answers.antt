@@ -6,6 +6,7 @@ use native.Mathlib.Omega.{arith}
 use borrow.Author.Tests.{lt-ltb, le-ltb}
 use lib.Dec.{ltb}
 use lib.Ieee.{Float}
+use Rattle.std.specs.Prelude.{Option, Some, None}
 use Rattle.doubles.specs.Lists.{◌!◌}
 use Rattle.sparse.specs.Scattered.{Sv, listed, listed_val}
 use Rattle.rules.specs.Plan.{Workspace}
@@ -15,31 +16,29 @@ use Rattle.rules.specs.declared.LeavingVar.{LeavingVar}
 use Rattle.rules.specs.declared.DualRatio.{DualRatio}
 use Rattle.rules.specs.declared.DualRatio.TheVariants.{Nothing, NotFinite}
 use Rattle.step_prices.specs.Parts.{max_step_of, exchange_by}
-use Rattle.step_prices.specs.declared.MaxStep.{MaxStep}
-use Rattle.step_prices.specs.declared.MaxStep.TheVariants.{Step, NotFinite as MaxStep-as-NotFinite}
 
-module _ (test : NonBasicVarState → Float → Bool) (w : Workspace) (l : LeavingVar) (r : Sv) {x : MaxStep} (b : x ≡ max_step_of w test r) where
+module _ (test : NonBasicVarState → Float → Bool) (w : Workspace) (l : LeavingVar) (r : Sv) {x : Option Float} (b : x ≡ max_step_of w test r) where
   abbrev place : Float → ℕ
   place t = (dual_pass_two w test r t).at
 
   abbrev made : ℕ → DualRatio
   made at = elim (ltb at r.pat.count) [ true ↦ dual_exchange_of w l (listed r at) (listed_val r at) | false ↦ Nothing ]
 
-  pub ratio_23 : x ≡ MaxStep-as-NotFinite → NotFinite ≡ dual_ratio_by test w l r
+  pub ratio_23 : x ≡ None → NotFinite ≡ dual_ratio_by test w l r
   unfolding max_step_of dual_ratio_by
   ratio_23 h = go (dual_sound w test r) (sym b ∙ h)
     where
-      go : (s : Bool) → elim s [ true ↦ Step (dual_pass_one w test r) | false ↦ MaxStep-as-NotFinite ] ≡ MaxStep-as-NotFinite
+      go : (s : Bool) → ◌≡◌ {A = Option Float} (elim s [ true ↦ Some (dual_pass_one w test r) | false ↦ None ]) None
           → NotFinite ≡ elim s [ false ↦ NotFinite | true ↦ made (place (dual_pass_one w test r)) ]
       go true h = absurd (let z : ◌≡◌ {A = ℕ} 0 1 = cc in omega arith)
       go false h = refl
 
-  module _ {t : Float} {at : ℕ} (h : x ≡ Step t) (e : at ≡ place t) where
+  module _ {t : Float} {at : ℕ} (h : x ≡ Some t) (e : at ≡ place t) where
     passes : made at ≡ dual_ratio_by test w l r
     unfolding max_step_of dual_ratio_by
     passes = go (dual_sound w test r) (sym b ∙ h)
       where
-        go : (s : Bool) → elim s [ true ↦ Step (dual_pass_one w test r) | false ↦ MaxStep-as-NotFinite ] ≡ Step t
+        go : (s : Bool) → elim s [ true ↦ Some (dual_pass_one w test r) | false ↦ None ] ≡ Some t
             → made at ≡ elim s [ false ↦ NotFinite | true ↦ made (place (dual_pass_one w test r)) ]
         go true h = let q : t ≡ dual_pass_one w test r = cc in rw (e, q)
         go false h = absurd (let z : ◌≡◌ {A = ℕ} 0 1 = cc in omega arith)

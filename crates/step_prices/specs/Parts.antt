@@ -1,5 +1,5 @@
 -- Parts of the ratio on prices that functions of their own answer. Assumes nothing.
-use Rattle.std.specs.Prelude.{Bool, true, false, ◌&&◌, ℕ, Float}
+use Rattle.std.specs.Prelude.{Bool, true, false, ◌&&◌, ℕ, Option, Some, None, Float}
 use Rattle.std.specs.Float.Ieee.{lt, le}
 use Rattle.doubles.specs.Num.{◌⊕◌, ◌⊖◌, ◌⊘◌, eps, finite, size}
 use Rattle.sparse.specs.Scattered.{Sv}
@@ -8,8 +8,6 @@ use Rattle.rules.specs.DualRatio.{clamped, dual_sound, dual_pass_one}
 use Rattle.rules.specs.declared.NonBasicVarState.{NonBasicVarState}
 use Rattle.rules.specs.declared.DualRatio.{DualRatio}
 use Rattle.rules.specs.declared.DualRatio.TheVariants.{Exchange}
-use Rattle.step_prices.specs.declared.MaxStep.{MaxStep}
-use Rattle.step_prices.specs.declared.MaxStep.TheVariants.{Step, NotFinite}
 
 -- the quotients of a column with flags f, price d and coefficient a
 abbrev pub relaxed_of : NonBasicVarState → Float → Float → Float
@@ -19,18 +17,18 @@ abbrev pub step_of : NonBasicVarState → Float → Float → Float
 step_of f d a = size (clamped f d) ⊘ size a
 
 -- pass one's turn at such a column, over those that a test lets in, with the test of 23
-unfoldable pub shrunk : (NonBasicVarState → Float → Bool) → NonBasicVarState → Float → Float → Float → MaxStep
+unfoldable pub shrunk : (NonBasicVarState → Float → Bool) → NonBasicVarState → Float → Float → Float → Option Float
 shrunk test f d a t =
     elim (test f a) [
       | true ↦ elim (finite (relaxed_of f d a)) [
-        | true ↦ elim (lt (relaxed_of f d a) t) [ true ↦ Step (relaxed_of f d a) | false ↦ Step t ]
-        | false ↦ NotFinite
+        | true ↦ elim (lt (relaxed_of f d a) t) [ true ↦ Some (relaxed_of f d a) | false ↦ Some t ]
+        | false ↦ None
       ]
-      | false ↦ Step t
+      | false ↦ Some t
     ]
 
-unfoldable pub max_step_of : Workspace → (NonBasicVarState → Float → Bool) → Sv → MaxStep
-max_step_of w test r = elim (dual_sound w test r) [ true ↦ Step (dual_pass_one w test r) | false ↦ NotFinite ]
+unfoldable pub max_step_of : Workspace → (NonBasicVarState → Float → Bool) → Sv → Option Float
+max_step_of w test r = elim (dual_sound w test r) [ true ↦ Some (dual_pass_one w test r) | false ↦ None ]
 
 -- pass two's test of a column against the largest size so far
 unfoldable pub taken : (NonBasicVarState → Float → Bool) → NonBasicVarState → Float → Float → Float → Float → Bool

@@ -60,16 +60,9 @@ fn clamped(f: rules::NonBasicVarState, price: f64) -> f64
     price - 0.0
 }
 
-// Pass one's answer.
-#[derive(Clone, Copy)]
-pub enum MaxStep {
-    Step(f64),
-    NotFinite,
-}
-
 // Pass one uses (size of clamped price + EPS) / size of coefficient, strictly smaller. "A quotient of an eligible
-// column that isn't finite: 23": where this one is finite, so is pass two's.
-fn shrink(still: bool, up: bool, cell: usize, price: f64, a: f64, step: f64) -> MaxStep
+// column that isn't finite: 23", here None: where this one is finite, so is pass two's.
+fn shrink(still: bool, up: bool, cell: usize, price: f64, a: f64, step: f64) -> Option<f64>
     ensures { result ≡ shrunk (test_by still up) (flags_of cell) price a step }
 {
     let f = cells::read_flags(cell);
@@ -77,13 +70,13 @@ fn shrink(still: bool, up: bool, cell: usize, price: f64, a: f64, step: f64) -> 
         let quotient = (doubles::abs(clamped(f, price)) + doubles::EPS) / doubles::abs(a);
         if doubles::is_finite(quotient) {
             if quotient < step {
-                return MaxStep::Step(quotient);
+                return Some(quotient);
             }
-            return MaxStep::Step(step);
+            return Some(step);
         }
-        return MaxStep::NotFinite;
+        return None;
     }
-    MaxStep::Step(step)
+    Some(step)
 }
 
 fn pass_one(
@@ -94,23 +87,16 @@ fn pass_one(
     values: &[f64; doubles::PLACES],
     list: &[usize; doubles::PLACES],
     count: usize,
-) -> MaxStep
+) -> Option<f64>
     requires { Passing (priced_of prices.now flags.now) list.now count }
     ensures { (m : List Bool) → result ≡ max_step_of (priced_of prices.now flags.now)
         (test_by still up) (sv values.now m list.now count) }
 {
     let mut step = doubles::infinity();
-    let mut k = 0;
-    while k < count {
-        let c = list[k];
-        let next = shrink(still, up, flags[c], prices[c], values[c], step);
-        let MaxStep::Step(t) = next else {
-            return MaxStep::NotFinite;
-        };
-        step = t;
-        k += 1;
+    for &c in &list[..count] {
+        step = shrink(still, up, flags[c], prices[c], values[c], step)?;
     }
-    MaxStep::Step(step)
+    Some(step)
 }
 
 // Pass two takes size of clamped price / size of coefficient <= max_step, strictly largest coefficient size. The size
@@ -146,15 +132,12 @@ fn pass_two(
 {
     let mut at = count;
     let mut best = -doubles::infinity();
-    let mut k = 0;
-    while k < count {
-        let c = list[k];
+    for (k, &c) in list[..count].iter().enumerate() {
         let a = values[c];
         if takes(still, up, flags[c], prices[c], a, max_step, best) {
             at = k;
             best = doubles::abs(a);
         }
-        k += 1;
     }
     at
 }
@@ -203,8 +186,7 @@ pub fn dual_ratio(
     let from = basic_var_vals[row];
     let to = l.value;
     let up = from < to;
-    let first = pass_one(still, up, prices, flags, values, list, count);
-    let MaxStep::Step(step) = first else {
+    let Some(step) = pass_one(still, up, prices, flags, values, list, count) else {
         return rules::DualRatio::NotFinite;
     };
     let at = pass_two(still, up, prices, flags, values, list, count, step);

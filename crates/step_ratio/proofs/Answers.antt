@@ -1,10 +1,11 @@
 -- What the code's tests say of the ratio's answers. Assumes nothing.
 use mathlib.Core.Path.{◌≡◌, refl, sym, ◌∙◌}
-use mathlib.Core.Bool.{Bool, true, false, not, ◌||◌}
+use mathlib.Core.Bool.{Bool, true, false, ◌||◌}
 use Prim.Native.Nat.{ℕ, ◌<◌, ◌≤◌}
 use native.Mathlib.Omega.{arith}
-use borrow.Author.Tests.{lt-ltb, le-ltb, not-true, not-false}
+use borrow.Author.Tests.{lt-ltb, le-ltb}
 use lib.Ieee.{Float}
+use Rattle.std.specs.Prelude.{Option, Some, None}
 use Rattle.doubles.specs.Num.{◌⊕◌, ◌⊖◌, ◌⊘◌, finite, infinite}
 use Rattle.doubles.specs.Lists.{◌!◌}
 use Rattle.sparse.specs.Scattered.{Sv, listed, listed_val}
@@ -16,28 +17,24 @@ use Rattle.rules.specs.declared.PivotInfo.TheVariants.{Flip, Exchange}
 use Rattle.rules.specs.declared.Ratio.{Ratio}
 use Rattle.rules.specs.declared.Ratio.TheVariants.{Pivot, Unbounded, NotFinite}
 use Rattle.step_ratio.specs.Parts.{max_step_of, leaving_by, pivot_by}
-use Rattle.step_ratio.specs.declared.MaxStep.{MaxStep}
-use Rattle.step_ratio.specs.declared.MaxStep.TheVariants.{Step, NotFinite as MaxStep-as-NotFinite}
-use Rattle.step_ratio.specs.declared.Leaving.{Leaving}
-use Rattle.step_ratio.specs.declared.Leaving.TheVariants.{Place, NotFinite as Leaving-as-NotFinite}
 
 -- ---- the leaving row
-module _ (P : Problem) (w : Workspace) (up : Bool) (c : Sv) (distance : Float) {x : MaxStep} (b : x ≡ max_step_of P w up c distance) where
-  pub leaving_23 : x ≡ MaxStep-as-NotFinite → Leaving-as-NotFinite ≡ leaving_by P w up c distance
+module _ (P : Problem) (w : Workspace) (up : Bool) (c : Sv) (distance : Float) {x : Option Float} (b : x ≡ max_step_of P w up c distance) where
+  pub leaving_23 : x ≡ None → None ≡ leaving_by P w up c distance
   unfolding max_step_of leaving_by
   leaving_23 h = go (sound_ratios P w up c) (sym b ∙ h)
     where
-      go : (s : Bool) → elim s [ true ↦ Step (pass_one P w up c distance) | false ↦ MaxStep-as-NotFinite ] ≡ MaxStep-as-NotFinite
-          → Leaving-as-NotFinite ≡ elim s [ true ↦ Place (pass_two P w up c (pass_one P w up c distance)).at | false ↦ Leaving-as-NotFinite ]
+      go : (s : Bool) → ◌≡◌ {A = Option Float} (elim s [ true ↦ Some (pass_one P w up c distance) | false ↦ None ]) None
+          → ◌≡◌ {A = Option ℕ} None (elim s [ true ↦ Some (pass_two P w up c (pass_one P w up c distance)).at | false ↦ None ])
       go true h = absurd (let z : ◌≡◌ {A = ℕ} 0 1 = cc in omega arith)
       go false h = refl
 
-  pub leaving_at : {t : Float} {at : ℕ} → x ≡ Step t → at ≡ (pass_two P w up c t).at → Place at ≡ leaving_by P w up c distance
+  pub leaving_at : {t : Float} {at : ℕ} → x ≡ Some t → at ≡ (pass_two P w up c t).at → Some at ≡ leaving_by P w up c distance
   unfolding max_step_of leaving_by
   leaving_at {t} {at} h e = go (sound_ratios P w up c) (sym b ∙ h)
     where
-      go : (s : Bool) → elim s [ true ↦ Step (pass_one P w up c distance) | false ↦ MaxStep-as-NotFinite ] ≡ Step t
-          → Place at ≡ elim s [ true ↦ Place (pass_two P w up c (pass_one P w up c distance)).at | false ↦ Leaving-as-NotFinite ]
+      go : (s : Bool) → elim s [ true ↦ Some (pass_one P w up c distance) | false ↦ None ] ≡ Some t
+          → Some at ≡ elim s [ true ↦ Some (pass_two P w up c (pass_one P w up c distance)).at | false ↦ None ]
       go true h = let q : t ≡ pass_one P w up c distance = cc in rw (e, q)
       go false h = absurd (let z : ◌≡◌ {A = ℕ} 0 1 = cc in omega arith)
 
@@ -61,31 +58,31 @@ module _ (P : Problem) (w : Workspace) (e : Entering) (c : Sv) {o : Float} {x y 
   unfolding sound_distance
   far = rw (i, f, other)
 
-  pub ratio_far : not (x || y) ≡ true → NotFinite ≡ ratio P w e c
+  pub ratio_far : x || y ≡ false → NotFinite ≡ ratio P w e c
   unfolding ratio
-  ratio_far h = rw (far ∙ not-true (x || y) h, ratio)
+  ratio_far h = rw (far ∙ h, ratio)
 
-  module _ (h : not (x || y) ≡ false) {l : Leaving} (b : l ≡ leaving_by P w (rises e) c e.distance) where
+  module _ (h : x || y ≡ true) {l : Option ℕ} (b : l ≡ leaving_by P w (rises e) c e.distance) where
     near : sound_distance P w e ≡ true
-    near = far ∙ not-false (x || y) h
+    near = far ∙ h
 
     abbrev left : RuleLeaving
     left = pass_two P w (rises e) c (pass_one P w (rises e) c e.distance)
 
-    pub ratio_23 : l ≡ Leaving-as-NotFinite → NotFinite ≡ ratio P w e c
+    pub ratio_23 : l ≡ None → NotFinite ≡ ratio P w e c
     unfolding leaving_by ratio
     ratio_23 q = rw (near, ratio) (go (sound_ratios P w (rises e) c) (sym b ∙ q))
       where
-        go : (s : Bool) → elim s [ true ↦ Place left.at | false ↦ Leaving-as-NotFinite ] ≡ Leaving-as-NotFinite
+        go : (s : Bool) → ◌≡◌ {A = Option ℕ} (elim s [ true ↦ Some left.at | false ↦ None ]) None
             → NotFinite ≡ elim s [ true ↦ pivot_of P w e c left | false ↦ NotFinite ]
         go true q = absurd (let z : ◌≡◌ {A = ℕ} 0 1 = cc in omega arith)
         go false q = refl
 
-    pub ratio_pivots : {at : ℕ} {p : Ratio} → l ≡ Place at → p ≡ pivot_by P w e c o at → p ≡ ratio P w e c
+    pub ratio_pivots : {at : ℕ} {p : Ratio} → l ≡ Some at → p ≡ pivot_by P w e c o at → p ≡ ratio P w e c
     unfolding leaving_by ratio pivot_by pivot_of flip_of
     ratio_pivots {at} {p} q f = rw (near, ratio) (go (sound_ratios P w (rises e) c) (sym b ∙ q))
       where
-        go : (s : Bool) → elim s [ true ↦ Place left.at | false ↦ Leaving-as-NotFinite ] ≡ Place at
+        go : (s : Bool) → elim s [ true ↦ Some left.at | false ↦ None ] ≡ Some at
             → p ≡ elim s [ true ↦ pivot_of P w e c left | false ↦ NotFinite ]
         go true q = let z : at ≡ left.at = cc in f ∙ rw (z, other)
         go false q = absurd (let z : ◌≡◌ {A = ℕ} 0 1 = cc in omega arith)

@@ -1,5 +1,5 @@
 -- Parts of the ratio that functions of their own answer. Assumes nothing.
-use Rattle.std.specs.Prelude.{Bool, true, false, ◌&&◌, ℕ, ltb, Float}
+use Rattle.std.specs.Prelude.{Bool, true, false, ◌&&◌, ℕ, ltb, Option, Some, None, Float}
 use Rattle.std.specs.Float.Ieee.{lt, le}
 use Rattle.doubles.specs.Num.{◌⊖◌, finite, infinite, size}
 use Rattle.doubles.specs.Lists.{◌!◌}
@@ -10,39 +10,33 @@ use Rattle.rules.specs.declared.Entering.{Entering}
 use Rattle.rules.specs.declared.PivotInfo.TheVariants.{Flip}
 use Rattle.rules.specs.declared.Ratio.{Ratio}
 use Rattle.rules.specs.declared.Ratio.TheVariants.{Pivot, Unbounded}
-use Rattle.step_ratio.specs.declared.Room.{Room}
-use Rattle.step_ratio.specs.declared.Room.TheVariants.{Open, Limit}
-use Rattle.step_ratio.specs.declared.MaxStep.{MaxStep}
-use Rattle.step_ratio.specs.declared.MaxStep.TheVariants.{Step, NotFinite}
-use Rattle.step_ratio.specs.declared.Leaving.{Leaving}
-use Rattle.step_ratio.specs.declared.Leaving.TheVariants.{Place, NotFinite as Leaving-as-NotFinite}
 
 -- the room that an examined row leaves
-unfoldable pub room_of : Problem → Workspace → Bool → ℕ → Float → Room
-room_of P w up r a = elim (examined P w up r a) [ true ↦ Limit (limit P w up r a) | false ↦ Open ]
+unfoldable pub room_of : Problem → Workspace → Bool → ℕ → Float → Option Float
+room_of P w up r a = elim (examined P w up r a) [ true ↦ Some (limit P w up r a) | false ↦ None ]
 
 -- pass one's turn at a row, with the test of 23
-unfoldable pub shrunk : Problem → Workspace → Bool → ℕ → Float → Float → MaxStep
+unfoldable pub shrunk : Problem → Workspace → Bool → ℕ → Float → Float → Option Float
 shrunk P w up r a t =
     elim (examined P w up r a) [
       | true ↦ elim (finite (relaxed P w up r a)) [
-        | true ↦ elim (lt (relaxed P w up r a) t) [ true ↦ Step (relaxed P w up r a) | false ↦ Step t ]
-        | false ↦ NotFinite
+        | true ↦ elim (lt (relaxed P w up r a) t) [ true ↦ Some (relaxed P w up r a) | false ↦ Some t ]
+        | false ↦ None
       ]
-      | false ↦ Step t
+      | false ↦ Some t
     ]
 
-unfoldable pub max_step_of : Problem → Workspace → Bool → Sv → Float → MaxStep
-max_step_of P w up c distance = elim (sound_ratios P w up c) [ true ↦ Step (pass_one P w up c distance) | false ↦ NotFinite ]
+unfoldable pub max_step_of : Problem → Workspace → Bool → Sv → Float → Option Float
+max_step_of P w up c distance = elim (sound_ratios P w up c) [ true ↦ Some (pass_one P w up c distance) | false ↦ None ]
 
 -- pass two's test of a row against the largest size so far
 unfoldable pub taken : Problem → Workspace → Bool → ℕ → Float → Float → Float → Bool
 taken P w up r a max_step best = (examined P w up r a && le (step_to P w up r a) max_step) && lt best (size a)
 
 -- both passes
-unfoldable pub leaving_by : Problem → Workspace → Bool → Sv → Float → Leaving
+unfoldable pub leaving_by : Problem → Workspace → Bool → Sv → Float → Option ℕ
 leaving_by P w up c distance =
-    elim (sound_ratios P w up c) [ true ↦ Place (pass_two P w up c (pass_one P w up c distance)).at | false ↦ Leaving-as-NotFinite ]
+    elim (sound_ratios P w up c) [ true ↦ Some (pass_two P w up c (pass_one P w up c distance)).at | false ↦ None ]
 
 -- what the row at place `at` of the column's list gives, and where there is none the other bound
 unfoldable pub pivot_by : Problem → Workspace → Entering → Sv → Float → ℕ → Ratio

@@ -71,13 +71,7 @@ fn limit(max: bool, bound: f64, val: f64) -> f64
     0.0
 }
 
-// The room of a row: none is asked where its coefficient is small or the bound ahead infinite.
-#[derive(Clone, Copy)]
-pub enum Room {
-    Open,
-    Limit(f64),
-}
-
+// The room of a row, and None, so that none is asked, where its coefficient is small or the bound ahead infinite.
 // 01: "coefficients under EPS in size are skipped"; "a row with an infinite bound ahead is no candidate".
 fn room_ahead(
     n: usize,
@@ -90,7 +84,7 @@ fn room_ahead(
     up: bool,
     r: usize,
     a: f64,
-) -> Room
+) -> Option<f64>
     requires sides { Sides (bounded n lowers.now uppers.now ops.now kept.now) × (r < length kept.now) }
     requires rows { Rows (bounded n lowers.now uppers.now ops.now kept.now)
         (basic_of basic_vars.now basic_var_vals.now) }
@@ -98,25 +92,19 @@ fn room_ahead(
         kept.now) (basic_of basic_vars.now basic_var_vals.now) up r a }
 {
     if doubles::under_eps(a) {
-        return Room::Open;
+        return None;
     }
     let max = towards_max(up, a);
     let bound = step_choose::side(n, lowers, uppers, ops, kept, max, basic_vars[r]);
     if doubles::is_infinite(bound) {
-        return Room::Open;
+        return None;
     }
-    Room::Limit(limit(max, bound, basic_var_vals[r]))
-}
-
-// Pass one's answer.
-#[derive(Clone, Copy)]
-pub enum MaxStep {
-    Step(f64),
-    NotFinite,
+    Some(limit(max, bound, basic_var_vals[r]))
 }
 
 // 01: "Pass one uses (limit + EPS) / size against the distance, strictly smaller"; "A finite bound whose
-// limit or quotient isn't finite gives 23": where this quotient is finite, so are the limit and limit / size.
+// limit or quotient isn't finite gives 23", here None: where this quotient is finite, so are limit and
+// limit / size.
 fn shrink(
     n: usize,
     lowers: &[f64],
@@ -129,14 +117,14 @@ fn shrink(
     r: usize,
     a: f64,
     step: f64,
-) -> MaxStep
+) -> Option<f64>
     requires sides { Sides (bounded n lowers.now uppers.now ops.now kept.now) × (r < length kept.now) }
     requires rows { Rows (bounded n lowers.now uppers.now ops.now kept.now)
         (basic_of basic_vars.now basic_var_vals.now) }
     ensures { result ≡ shrunk (bounded n lowers.now uppers.now ops.now
         kept.now) (basic_of basic_vars.now basic_var_vals.now) up r a step }
 {
-    let left = room_ahead(
+    let Some(limit) = room_ahead(
         n,
         lowers,
         uppers,
@@ -147,18 +135,17 @@ fn shrink(
         up,
         r,
         a,
-    );
-    let Room::Limit(limit) = left else {
-        return MaxStep::Step(step);
+    ) else {
+        return Some(step);
     };
     let quotient = (limit + doubles::EPS) / doubles::abs(a);
     if doubles::is_finite(quotient) {
         if quotient < step {
-            return MaxStep::Step(quotient);
+            return Some(quotient);
         }
-        return MaxStep::Step(step);
+        return Some(step);
     }
-    MaxStep::NotFinite
+    None
 }
 
 // 01: "The entering column travels with its price, score and distance": from the choice to both passes. Pass one
@@ -175,7 +162,7 @@ fn pass_one(
     values: &[f64; doubles::PLACES],
     list: &[usize; doubles::PLACES],
     count: usize,
-) -> MaxStep
+) -> Option<f64>
     requires { Passing (bounded n lowers.now uppers.now ops.now kept.now)
         (basic_of basic_vars.now basic_var_vals.now) list.now count }
     ensures { (m : List Bool) → result ≡ max_step_of
@@ -185,10 +172,8 @@ fn pass_one(
 {
     let up = rises(e);
     let mut step = e.distance;
-    let mut k = 0;
-    while k < count {
-        let r = list[k];
-        let next = shrink(
+    for &r in &list[..count] {
+        step = shrink(
             n,
             lowers,
             uppers,
@@ -200,14 +185,9 @@ fn pass_one(
             r,
             values[r],
             step,
-        );
-        let MaxStep::Step(t) = next else {
-            return MaxStep::NotFinite;
-        };
-        step = t;
-        k += 1;
+        )?;
     }
-    MaxStep::Step(step)
+    Some(step)
 }
 
 // 01: "Pass two takes step <= max_step, strictly largest size". The size is asked first: most rows are
@@ -235,7 +215,7 @@ fn takes(
 {
     let size = doubles::abs(a);
     if best < size {
-        let left = room_ahead(
+        let Some(limit) = room_ahead(
             n,
             lowers,
             uppers,
@@ -246,8 +226,7 @@ fn takes(
             up,
             r,
             a,
-        );
-        let Room::Limit(limit) = left else {
+        ) else {
             return false;
         };
         return limit / size <= max_step;
@@ -280,9 +259,7 @@ fn pass_two(
     let up = rises(e);
     let mut at = count;
     let mut best = -doubles::infinity();
-    let mut k = 0;
-    while k < count {
-        let r = list[k];
+    for (k, &r) in list[..count].iter().enumerate() {
         let a = values[r];
         if takes(
             n,
@@ -301,18 +278,11 @@ fn pass_two(
             at = k;
             best = doubles::abs(a);
         }
-        k += 1;
     }
     at
 }
 
-// What the two passes find: a place of the list, `count` where no row leaves.
-#[derive(Clone, Copy)]
-pub enum Leaving {
-    Place(usize),
-    NotFinite,
-}
-
+// What the two passes find: a place of the list, `count` where no row leaves; None is 23.
 fn leaving_row(
     e: rules::Entering,
     n: usize,
@@ -325,7 +295,7 @@ fn leaving_row(
     values: &[f64; doubles::PLACES],
     list: &[usize; doubles::PLACES],
     count: usize,
-) -> Leaving
+) -> Option<usize>
     requires { Passing (bounded n lowers.now uppers.now ops.now kept.now)
         (basic_of basic_vars.now basic_var_vals.now) list.now count }
     ensures { (m : List Bool) → result ≡ leaving_by
@@ -333,7 +303,7 @@ fn leaving_row(
         (basic_of basic_vars.now basic_var_vals.now) (Ratio.rises e)
         (sv values.now m list.now count) e.distance }
 {
-    let first = pass_one(
+    let step = pass_one(
         e,
         n,
         lowers,
@@ -345,11 +315,8 @@ fn leaving_row(
         values,
         list,
         count,
-    );
-    let MaxStep::Step(step) = first else {
-        return Leaving::NotFinite;
-    };
-    let at = pass_two(
+    )?;
+    Some(pass_two(
         e,
         n,
         lowers,
@@ -362,8 +329,7 @@ fn leaving_row(
         list,
         count,
         step,
-    );
-    Leaving::Place(at)
+    ))
 }
 
 // 01: "A step is a flip, with its new value and difference, or an exchange, which adds row, pivot and
@@ -449,7 +415,7 @@ pub fn ratio(
     if !(doubles::is_infinite(other) | doubles::is_finite(e.distance)) {
         return rules::Ratio::NotFinite;
     }
-    let found = leaving_row(
+    let Some(at) = leaving_row(
         e,
         n,
         lowers,
@@ -461,8 +427,7 @@ pub fn ratio(
         values,
         list,
         count,
-    );
-    let Leaving::Place(at) = found else {
+    ) else {
         return rules::Ratio::NotFinite;
     };
     pivot_by(

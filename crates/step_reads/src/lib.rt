@@ -33,7 +33,7 @@ pub fn choose(
     uppers: &[f64],
     ops: &[u8],
     kept: &[usize],
-) -> rules::Choice
+) -> Option<rules::Entering>
     requires { Sized numbers.now doubles.now
         × Choosing (bounded n lowers.now uppers.now ops.now kept.now) (packed numbers.now doubles.now) }
     ensures { result ≡ Choose.choose (bounded n lowers.now uppers.now ops.now

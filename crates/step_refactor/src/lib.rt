@@ -15,13 +15,6 @@ ghost use Rattle.step_refactor.specs.Left.{after, left_by, stepped};
 ghost use Rattle.step_refactor.specs.Lent.{ReadyBy, Solved, Squares};
 ghost use Rattle.step_refactor.specs.Made.{made};
 
-// What a step gives: the numbers of the state after it that stand in no array, or why there is none.
-#[derive(Clone, Copy)]
-pub enum Went {
-    On(state::Tally),
-    Stops(rules::Stop),
-}
-
 // The new basis is factored, then the exchange is stored with the factor and no eta column. `sq` is the column's sum of
 // squares; the row and the helper are those of the exchange.
 pub fn refactor(
@@ -48,7 +41,7 @@ pub fn refactor(
     sq: f64,
     e: rules::Entering,
     x: state::Exchange,
-) -> Went
+) -> Result<state::Tally, rules::Stop>
     requires ready_by { ReadyBy n lowers.now uppers.now ops.now kept.now cstarts.now crows.now ccoeffs.now
         numbers.old doubles.old factor_numbers.old factor_coeffs.old at }
     requires solved { Solved (length kept.now) values.now list.now count × (e.col < n) × (x.row < length kept.now)
@@ -99,10 +92,10 @@ pub fn refactor(
     );
     match factored {
         lu_factor_rules::Ended::NotFinite => {
-            return Went::Stops(rules::Stop::NotFinite);
+            return Err(rules::Stop::NotFinite);
         }
         lu_factor_rules::Ended::Singular => {
-            return Went::Stops(rules::Stop::Singular);
+            return Err(rules::Stop::Singular);
         }
         lu_factor_rules::Ended::Done(_) => {
             let t = step_store::store_bare(
@@ -123,7 +116,7 @@ pub fn refactor(
                 factor_numbers,
                 factor_coeffs,
             );
-            return Went::On(t);
+            return Ok(t);
         }
     }
 }

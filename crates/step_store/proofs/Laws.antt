@@ -5,7 +5,7 @@ use mathlib.Core.List.{List, []}
 use Prim.Native.Nat.{ℕ, suc, ◌+◌, ◌<◌}
 use native.Mathlib.Nat.{le_refl}
 use native.Mathlib.Omega.{arith}
-use lib.ListN.{length, set, length-set}
+use lib.ListN.{length, set}
 use lib.Seq.{get_or-set_other}
 use lib.Ieee.{Float, nan}
 use borrow.Rule.Slice.PartMut.{put_mid}
@@ -31,9 +31,6 @@ use Rattle.step_store.specs.Halves.{numbers_stored, basis_stored, swapped, empti
 use Rattle.step_store.specs.Lent.{Flips, Swaps}
 
 module _ (c : Sv) (l₀ : List Float) where
-  pub storing_long : (f : ℕ → Float) (k : ℕ) → length (run (store_turn c f) k l₀) ≡ length l₀
-  storing_long f k = keeps (store_turn c f) l₀ (λ _ l. length l ≡ length l₀) k (λ j t _ e. simp length-set e) refl k (le_refl k)
-
   module _ {cells : ℕ} (w : Listing cells c.pat.count c.pat.list) where
     -- a listed place that is not reached yet holds what it held: no place is listed twice
     unread : (f : ℕ → Float) (k : ℕ) → k < c.pat.count → run (store_turn c f) k l₀ ! listed c k ≡ l₀ ! listed c k

@@ -13,7 +13,7 @@ use Rattle.rules.specs.Pivot.{flags_at, new_objective, flipped, exchanged, refac
 use Rattle.rules.specs.Invariant.{ProblemFits, Fits}
 use Rattle.rules.specs.declared.Entering.{Entering}
 use Rattle.cells.proofs.Parts.{bounds_of}
-use Rattle.state.specs.Packed.{packed, Sized, state_in}
+use Rattle.state.specs.Packed.{Sized, state_in}
 use Rattle.state.specs.declared.Tally.{Tally}
 use Rattle.state.specs.declared.Exchange.{Exchange}
 use Rattle.step_store.specs.Halves.{emptied}

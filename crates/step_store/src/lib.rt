@@ -29,11 +29,8 @@ pub fn store_moved(
         (moved_val (numbers_of basic_var_vals.old [] [])
         (sv values.now m list.now count) diff) basic_var_vals.old }
 {
-    let mut k = 0;
-    while k < count {
-        let r = list[k];
+    for &r in &list[..count] {
         basic_var_vals[r] = basic_var_vals[r] - diff * values[r];
-        k += 1;
     }
 }
 
@@ -53,9 +50,7 @@ fn store_vals(
         (new_val (numbers_of basic_var_vals.old [] []) (sv values.now m list.now count)
         value diff row) basic_var_vals.old }
 {
-    let mut k = 0;
-    while k < count {
-        let r = list[k];
+    for &r in &list[..count] {
         basic_var_vals[r] = step_numbers::new_val(
             row,
             value,
@@ -64,7 +59,6 @@ fn store_vals(
             basic_var_vals[r],
             values[r],
         );
-        k += 1;
     }
 }
 
@@ -84,11 +78,8 @@ fn store_prices(
 {
     let col = e.col;
     let pivot_obj = e.price / pivot;
-    let mut k = 0;
-    while k < count {
-        let j = list[k];
+    for &j in &list[..count] {
         prices[j] = step_numbers::new_price(col, pivot_obj, j, prices[j], values[j]);
-        k += 1;
     }
 }
 
@@ -109,13 +100,10 @@ pub fn store_norms(
         (norm_at col sq pivot norms.old values.now helper.now) norms.old }
 {
     let pivot_sq = pivot * pivot;
-    let mut k = 0;
-    while k < count {
-        let j = list[k];
+    for &j in &list[..count] {
         norms[j] = step_numbers::new_norm(
             col, sq, pivot, pivot_sq, j, norms[j], values[j], helper[j],
         );
-        k += 1;
     }
 }
 

@@ -11,6 +11,8 @@ ghost use Rattle.reprice_rules.specs.Calls.{reprice_plan};
 ghost use Rattle.reprice_rules.specs.Any.{any_plan};
 ghost use Rattle.any_face.specs.Numbers as AnyNumbers;
 
+use any_face::TevalumiAnyAnswer;
+
 #[unsafe(no_mangle)]
 pub extern "C" fn tevalumi_reprice(
     columns: usize,
@@ -83,7 +85,7 @@ pub extern "C" fn tevalumi_solve_any(
     doubles: &mut [f64],
     factor_numbers: &mut [usize],
     factor_coeffs: &mut [f64],
-) -> any_face::TevalumiAnyAnswer
+) -> TevalumiAnyAnswer
     ensures { AnyNumbers.faced result values.new numbers.new doubles.new
         factor_numbers.new factor_coeffs.new ≡ AnyNumbers.faced_by
         (any_plan (plan_of columns rows entries budget tolerance costs.now lowers.now
@@ -112,5 +114,5 @@ pub extern "C" fn tevalumi_solve_any(
         factor_numbers,
         factor_coeffs,
     );
-    any_face::any_answer(a)
+    TevalumiAnyAnswer::from(a)
 }

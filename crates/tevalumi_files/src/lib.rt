@@ -6,6 +6,8 @@ ghost use Rattle.file_face.specs.Numbers.{WritesNumbers, ReadsNumbers};
 
 mod journals;
 
+use file_face::{TevalumiRead, TevalumiWritten};
+
 #[unsafe(no_mangle)]
 pub extern "C" fn tevalumi_write_plan(
     rows: usize,
@@ -21,7 +23,7 @@ pub extern "C" fn tevalumi_write_plan(
     amounts: &[i64],
     mults: &[i64],
     file: &mut [u8],
-) -> file_face::TevalumiWritten
+) -> TevalumiWritten
     ensures { WritesNumbers (plan_of rows columns coefs.now costs.now lowers.now
         uppers.now lower_marks.now upper_marks.now rhs.now
         ops.now amounts.now mults.now) file.old result file.new }
@@ -41,7 +43,7 @@ pub extern "C" fn tevalumi_write_plan(
         mults,
         file,
     );
-    file_face::write_answer(w)
+    TevalumiWritten::from(w)
 }
 
 #[unsafe(no_mangle)]
@@ -57,7 +59,7 @@ pub extern "C" fn tevalumi_read_plan(
     ops: &mut [u8],
     amounts: &mut [i64],
     mults: &mut [i64],
-) -> file_face::TevalumiRead
+) -> TevalumiRead
     ensures { ReadsNumbers file.now
         (plan_of 0 0 coefs.old costs.old lowers.old uppers.old
         lower_marks.old upper_marks.old rhs.old ops.old
@@ -79,5 +81,5 @@ pub extern "C" fn tevalumi_read_plan(
         amounts,
         mults,
     );
-    file_face::read_answer(a)
+    TevalumiRead::from(a)
 }

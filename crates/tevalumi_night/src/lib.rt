@@ -7,6 +7,8 @@ ghost use Rattle.night_rules.specs.Arrays.{arrays_of};
 ghost use Rattle.night_rules.specs.Night.{night_of, night_plan};
 ghost use Rattle.night_face.specs.Numbers.{faced, faced_by};
 
+use night_face::TevalumiNight;
+
 #[unsafe(no_mangle)]
 pub extern "C" fn tevalumi_night(
     rows: usize,
@@ -28,7 +30,7 @@ pub extern "C" fn tevalumi_night(
     factor_numbers: &mut [usize],
     factor_coeffs: &mut [f64],
     whole: &mut [i64],
-) -> night_face::TevalumiNight
+) -> TevalumiNight
     ensures { faced result (arrays_of values.new numbers.new doubles.new
         factor_numbers.new factor_coeffs.new) whole.new ≡ faced_by (night_plan
         (night_of (plan_of rows columns coefs.now alarm_costs.now lowers.now
@@ -58,5 +60,5 @@ pub extern "C" fn tevalumi_night(
         factor_coeffs,
         whole,
     );
-    night_face::night_answer(a)
+    TevalumiNight::from(a)
 }

@@ -9,6 +9,8 @@ ghost use Rattle.face.specs.Face.{sheet_numbers};
 
 mod wholes;
 
+use face::SheetVerdict;
+
 // Works the kept numbers out afresh.
 #[unsafe(no_mangle)]
 pub extern "C" fn tevalumi_open(
@@ -140,7 +142,7 @@ pub extern "C" fn tevalumi_verdict(
     c: &[i64],
     b: &[i64],
     counts: &[i64],
-) -> face::SheetVerdict
+) -> SheetVerdict
     ensures { sheet_numbers result ≡ verdict_numbers
         (verdict (sheet_of (plan_of rows columns coefs.now costs.now lowers.now
         uppers.now lower_marks.now upper_marks.now rhs.now
@@ -166,5 +168,5 @@ pub extern "C" fn tevalumi_verdict(
         b,
         counts,
     );
-    face::sheet_verdict(v)
+    SheetVerdict::from(v)
 }

@@ -4,22 +4,24 @@ ghost use Rattle.whole_round.specs.Whole.{amount_of, multiplier_of};
 ghost use Rattle.whole_propose.specs.Propose.{lent_of};
 ghost use Rattle.whole_face.specs.Numbers.{whole_numbers, ProposesNumbers};
 
+use whole_face::{TevalumiProposal, TevalumiWhole};
+
 // One number's case, as an amount.
 #[unsafe(no_mangle)]
-pub extern "C" fn tevalumi_amount(value: f64) -> whole_face::TevalumiWhole
+pub extern "C" fn tevalumi_amount(value: f64) -> TevalumiWhole
     ensures { result ≡ whole_numbers (amount_of value) }
 {
     let r = whole_round::amount(value);
-    whole_face::whole_answer(r)
+    TevalumiWhole::from(r)
 }
 
 // One price's case, as the multiplier of a row with the comparison op.
 #[unsafe(no_mangle)]
-pub extern "C" fn tevalumi_multiplier(op: u8, price: f64) -> whole_face::TevalumiWhole
+pub extern "C" fn tevalumi_multiplier(op: u8, price: f64) -> TevalumiWhole
     ensures { result ≡ whole_numbers (multiplier_of op price) }
 {
     let r = whole_round::multiplier(op, price);
-    whole_face::whole_answer(r)
+    TevalumiWhole::from(r)
 }
 
 #[unsafe(no_mangle)]
@@ -33,7 +35,7 @@ pub extern "C" fn tevalumi_propose(
     doubles: &[f64],
     amounts: &mut [i64],
     mults: &mut [i64],
-) -> whole_face::TevalumiProposal
+) -> TevalumiProposal
     ensures { ProposesNumbers (lent_of columns rows starts.now ops.now values.now
         numbers.now doubles.now amounts.old mults.old) result
         amounts.new mults.new }
@@ -41,5 +43,5 @@ pub extern "C" fn tevalumi_propose(
     let p = whole_propose::propose(
         columns, rows, starts, ops, values, numbers, doubles, amounts, mults,
     );
-    whole_face::proposal_answer(p)
+    TevalumiProposal::from(p)
 }

@@ -9,6 +9,8 @@ ghost use Rattle.face.specs.Face.{faced, faced_by};
 
 mod fixes;
 
+use face::TevalumiAnswer;
+
 #[unsafe(no_mangle)]
 pub extern "C" fn tevalumi_solve(
     columns: usize,
@@ -29,7 +31,7 @@ pub extern "C" fn tevalumi_solve(
     doubles: &mut [f64],
     factor_numbers: &mut [usize],
     factor_coeffs: &mut [f64],
-) -> face::TevalumiAnswer
+) -> TevalumiAnswer
     ensures { faced result values.new numbers.new doubles.new
         factor_numbers.new factor_coeffs.new ≡ faced_by
         (handed (solve_plan (plan_of columns rows entries budget tolerance costs.now
@@ -58,5 +60,5 @@ pub extern "C" fn tevalumi_solve(
         factor_numbers,
         factor_coeffs,
     );
-    face::solve_answer(a)
+    TevalumiAnswer::from(a)
 }

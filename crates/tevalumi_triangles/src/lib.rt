@@ -6,6 +6,8 @@ ghost use Rattle.lu_solve.specs.Solve.{tri};
 ghost use Rattle.lu.specs.Result.{tri_solve_sparse, tri_solve_dense, solve_dense};
 ghost use Rattle.face.specs.Face.{tri_result};
 
+use face::TriAnswer;
+
 // with_diag 0: all ones on the diagonal, and diag isn't read.
 #[unsafe(no_mangle)]
 pub extern "C" fn tevalumi_lower_sparse(
@@ -19,7 +21,7 @@ pub extern "C" fn tevalumi_lower_sparse(
     list: &mut [usize],
     listed: usize,
     values: &mut [f64],
-) -> face::TriAnswer
+) -> TriAnswer
     ensures { tri_result result values.new list.new ≡ tri_solve_sparse
         (tri true size starts.now rows.now vals.now (not (eqb with_diag 0))
         diag.now) entries list.old listed values.old }
@@ -28,7 +30,7 @@ pub extern "C" fn tevalumi_lower_sparse(
     let a = lu::tri_solve_sparse(
         true, size, entries, starts, rows, vals, has_diag, diag, list, listed, values,
     );
-    face::tri_answer(a)
+    TriAnswer::from(a)
 }
 
 #[unsafe(no_mangle)]
@@ -43,7 +45,7 @@ pub extern "C" fn tevalumi_upper_sparse(
     list: &mut [usize],
     listed: usize,
     values: &mut [f64],
-) -> face::TriAnswer
+) -> TriAnswer
     ensures { tri_result result values.new list.new ≡ tri_solve_sparse
         (tri false size starts.now rows.now vals.now (not (eqb with_diag 0))
         diag.now) entries list.old listed values.old }
@@ -52,7 +54,7 @@ pub extern "C" fn tevalumi_upper_sparse(
     let a = lu::tri_solve_sparse(
         false, size, entries, starts, rows, vals, has_diag, diag, list, listed, values,
     );
-    face::tri_answer(a)
+    TriAnswer::from(a)
 }
 
 #[unsafe(no_mangle)]
@@ -65,7 +67,7 @@ pub extern "C" fn tevalumi_lower_dense(
     with_diag: usize,
     diag: &[f64],
     values: &mut [f64],
-) -> face::TriAnswer
+) -> TriAnswer
     ensures { tri_result result values.new [] ≡ tri_solve_dense
         (tri true size starts.now rows.now vals.now (not (eqb with_diag 0))
         diag.now) entries values.old }
@@ -74,7 +76,7 @@ pub extern "C" fn tevalumi_lower_dense(
     let a = lu::tri_solve_dense(
         true, size, entries, starts, rows, vals, has_diag, diag, values,
     );
-    face::tri_answer(a)
+    TriAnswer::from(a)
 }
 
 #[unsafe(no_mangle)]
@@ -87,7 +89,7 @@ pub extern "C" fn tevalumi_upper_dense(
     with_diag: usize,
     diag: &[f64],
     values: &mut [f64],
-) -> face::TriAnswer
+) -> TriAnswer
     ensures { tri_result result values.new [] ≡ tri_solve_dense
         (tri false size starts.now rows.now vals.now (not (eqb with_diag 0))
         diag.now) entries values.old }
@@ -96,7 +98,7 @@ pub extern "C" fn tevalumi_upper_dense(
     let a = lu::tri_solve_dense(
         false, size, entries, starts, rows, vals, has_diag, diag, values,
     );
-    face::tri_answer(a)
+    TriAnswer::from(a)
 }
 
 // The lower triangle, then the upper one, of the same size.
@@ -116,7 +118,7 @@ pub extern "C" fn tevalumi_solve_dense(
     upper_with_diag: usize,
     upper_diag: &[f64],
     values: &mut [f64],
-) -> face::TriAnswer
+) -> TriAnswer
     ensures { tri_result result values.new [] ≡ solve_dense
         (tri true size lower_starts.now lower_rows.now lower_vals.now
         (not (eqb lower_with_diag 0)) lower_diag.now) lower_entries
@@ -141,5 +143,5 @@ pub extern "C" fn tevalumi_solve_dense(
         upper_diag,
         values,
     );
-    face::tri_answer(a)
+    TriAnswer::from(a)
 }

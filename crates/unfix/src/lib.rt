@@ -59,7 +59,7 @@ pub fn unfix(
         factor_coeffs,
         column,
     );
-    if let fix_gate::Refusal::By(answer) = refusal {
+    if let Some(answer) = refusal {
         return answer;
     }
     let mut kept = [0usize; doubles::MAX_ROWS];

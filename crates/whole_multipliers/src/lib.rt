@@ -13,12 +13,10 @@ fn kept_before(starts: &[usize], i: usize) -> usize
     ensures { result ≡ before (rows_of 0 0 starts.now []) i }
 {
     let mut k = 0;
-    let mut j = 0;
-    while j < i {
+    for j in 0..i {
         if starts[j] != starts[j + 1] {
             k += 1;
         }
-        j += 1;
     }
     k
 }
@@ -78,15 +76,13 @@ pub fn first_multiplier(
     ensures { result ≡ first_multiplier (rows_of columns rows starts.now ops.now)
         (memory_in [] numbers.now doubles.now [] []) }
 {
-    let mut i = 0;
-    while i < rows {
+    for i in 0..rows {
         let r = row_multiplier(columns, rows, starts, ops, numbers, doubles, i);
         if !whole_round::is_whole(r) {
             return i;
         }
-        i += 1;
     }
-    i
+    rows
 }
 
 pub fn write_multipliers(
@@ -103,10 +99,8 @@ pub fn write_multipliers(
         (rows_of columns rows starts.now ops.now)
         (memory_in [] numbers.now doubles.now [] [])) mults.old }
 {
-    let mut i = 0;
-    while i < rows {
+    for i in 0..rows {
         let r = row_multiplier(columns, rows, starts, ops, numbers, doubles, i);
         mults[i] = whole_round::number_of(r);
-        i += 1;
     }
 }

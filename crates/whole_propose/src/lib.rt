@@ -55,24 +55,20 @@ fn first_amount(columns: usize, values: &[f64]) -> usize
     requires { columns ≤ length values.now }
     ensures { result ≡ first_amount columns values.now }
 {
-    let mut j = 0;
-    while j < columns {
-        if !whole_round::is_whole(whole_round::amount(values[j])) {
+    for (j, &value) in values[..columns].iter().enumerate() {
+        if !whole_round::is_whole(whole_round::amount(value)) {
             return j;
         }
-        j += 1;
     }
-    j
+    columns
 }
 
 fn write_amounts(columns: usize, values: &[f64], amounts: &mut [i64])
     requires { (columns ≤ length values.now) × (columns ≤ length amounts.old) }
     ensures { amounts.new ≡ over (amounts_of columns values.now) amounts.old }
 {
-    let mut j = 0;
-    while j < columns {
+    for j in 0..columns {
         amounts[j] = whole_round::number_of(whole_round::amount(values[j]));
-        j += 1;
     }
 }
 

@@ -17,14 +17,11 @@ const INFINITY: u64 = 0x7ff0_0000_0000_0000;
 
 const NAN: u64 = 0x7ff8_0000_0000_0000;
 
-fn wide(x: u8) -> u64 {
-    x as u64
-}
-
 // The next bytes, and zeros past the input's end. A read that fails is the end of the input.
 fn next_bytes<R: Read>(input: &mut R) -> [u8; 8] {
     let mut b = [0u8; 8];
     let mut k = 0;
+    // A while: the place moves by as many bytes as a read gave.
     while k < 8 {
         let n = match input.read(&mut b[k..]) {
             Ok(n) => n,
@@ -40,19 +37,7 @@ fn next_bytes<R: Read>(input: &mut R) -> [u8; 8] {
 
 // The next word, 0 where the input has ended.
 pub fn next<R: Read>(input: &mut R) -> u64 {
-    let b = next_bytes(input);
-    word_of(b)
-}
-
-fn word_of(b: [u8; 8]) -> u64 {
-    wide(b[0])
-        | (wide(b[1]) << 8)
-        | (wide(b[2]) << 16)
-        | (wide(b[3]) << 24)
-        | (wide(b[4]) << 32)
-        | (wide(b[5]) << 40)
-        | (wide(b[6]) << 48)
-        | (wide(b[7]) << 56)
+    u64::from_le_bytes(next_bytes(input))
 }
 
 pub fn next_place<R: Read>(input: &mut R) -> usize {
@@ -104,46 +89,18 @@ pub fn least(n: usize, room: usize) -> usize
 }
 
 // The first n cells, or all.
-pub fn fill_places<R: Read>(input: &mut R, out: &mut [usize], n: usize) {
+pub fn fill<T: Cell, R: Read>(input: &mut R, out: &mut [T], n: usize) {
     for cell in out.iter_mut().take(n) {
-        *cell = next_place(input);
-    }
-}
-
-pub fn fill_doubles<R: Read>(input: &mut R, out: &mut [f64], n: usize) {
-    for cell in out.iter_mut().take(n) {
-        *cell = next_double(input);
-    }
-}
-
-pub fn fill_bytes<R: Read>(input: &mut R, out: &mut [u8], n: usize) {
-    for cell in out.iter_mut().take(n) {
-        *cell = next_byte(input);
+        *cell = T::of_word(next(input));
     }
 }
 
 // A length, then so many cells: how many of the array are lent.
-pub fn read_places<R: Read>(input: &mut R, out: &mut [usize]) -> usize
+pub fn read<T: Cell, R: Read>(input: &mut R, out: &mut [T]) -> usize
     ensures { Counts result out.new }
 {
     let n = least(next_place(input), out.len());
-    fill_places(input, out, n);
-    n
-}
-
-pub fn read_doubles<R: Read>(input: &mut R, out: &mut [f64]) -> usize
-    ensures { Counts result out.new }
-{
-    let n = least(next_place(input), out.len());
-    fill_doubles(input, out, n);
-    n
-}
-
-pub fn read_bytes<R: Read>(input: &mut R, out: &mut [u8]) -> usize
-    ensures { Counts result out.new }
-{
-    let n = least(next_place(input), out.len());
-    fill_bytes(input, out, n);
+    fill(input, out, n);
     n
 }
 
@@ -159,6 +116,7 @@ pub fn end_line<W: Write>(out: &mut W) -> io::Result<()> {
 fn digits_of(n: u64) -> usize {
     let mut k = 1;
     let mut rest = n / 16;
+    // A while: it ends where no digit is left.
     while rest > 0 {
         rest /= 16;
         k += 1;
@@ -190,27 +148,60 @@ pub fn double<W: Write>(out: &mut W, x: f64) -> io::Result<()> {
 }
 
 // The first n cells, or all.
-pub fn places<W: Write>(out: &mut W, list: &[usize], n: usize) -> io::Result<()> {
-    for x in list.iter().take(n) {
-        place(out, *x)?;
+pub fn list<T: Cell, W: Write>(out: &mut W, cells: &[T], n: usize) -> io::Result<()> {
+    for x in cells.iter().take(n) {
+        x.show(out)?;
     }
     Ok(())
 }
 
-pub fn doubles<W: Write>(out: &mut W, list: &[f64], n: usize) -> io::Result<()> {
-    for x in list.iter().take(n) {
-        double(out, *x)?;
-    }
-    Ok(())
+// A number of an array: the word that it is read from, and how it is written.
+pub trait Cell: Copy {
+    fn of_word(word: u64) -> Self;
+
+    // A space first.
+    fn show<W: Write>(self, out: &mut W) -> io::Result<()>;
 }
 
-fn number(x: u8) -> usize {
-    x as usize
+impl Cell for usize {
+    fn of_word(word: u64) -> usize {
+        word as usize
+    }
+
+    fn show<W: Write>(self, out: &mut W) -> io::Result<()> {
+        place(out, self)
+    }
 }
 
-pub fn bytes<W: Write>(out: &mut W, list: &[u8], n: usize) -> io::Result<()> {
-    for x in list.iter().take(n) {
-        place(out, number(*x))?;
+impl Cell for u8 {
+    fn of_word(word: u64) -> u8
+        ensures { result ≡ word % 256 }
+    {
+        byte_of(word)
     }
-    Ok(())
+
+    fn show<W: Write>(self, out: &mut W) -> io::Result<()> {
+        place(out, usize::from(self))
+    }
+}
+
+// By two's complement.
+impl Cell for i64 {
+    fn of_word(word: u64) -> i64 {
+        word.cast_signed()
+    }
+
+    fn show<W: Write>(self, out: &mut W) -> io::Result<()> {
+        write!(out, " {self}")
+    }
+}
+
+impl Cell for f64 {
+    fn of_word(word: u64) -> f64 {
+        double_of(word)
+    }
+
+    fn show<W: Write>(self, out: &mut W) -> io::Result<()> {
+        double(out, self)
+    }
 }

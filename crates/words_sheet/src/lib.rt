@@ -11,36 +11,13 @@ pub const COLUMNS: usize = doubles::MAX_COLUMNS;
 
 pub const COEFS: usize = doubles::MAX_ROWS * doubles::MAX_COLUMNS;
 
-fn bare<W: Write>(out: &mut W, n: i64) -> io::Result<()> {
-    if n < 0 {
-        words::text(out, b"-")?;
-    }
-    words::decimal(out, sheet_terms::size(n))
-}
-
-fn signed<W: Write>(out: &mut W, n: i64) -> io::Result<()> {
-    words::text(out, b" ")?;
-    bare(out, n)
-}
-
-// The first n cells, or all.
-fn cells<W: Write>(out: &mut W, list: &[i64], n: usize) -> io::Result<()> {
-    for x in list.iter().take(n) {
-        signed(out, *x)?;
-    }
-    Ok(())
-}
-
 fn show_verdict<W: Write>(out: &mut W, v: Verdict) -> io::Result<()> {
     words::text(out, b" verdict")?;
     match v {
         Verdict::NoneExists => words::text(out, b" none"),
         Verdict::NotPlan => words::text(out, b" no-plan"),
         Verdict::NoFloor => words::text(out, b" no-floor"),
-        Verdict::Gap(gap) => {
-            words::text(out, b" gap:")?;
-            bare(out, gap)
-        }
+        Verdict::Gap(gap) => write!(out, " gap:{gap}"),
         Verdict::Refused(number) => words::place(out, number),
     }
 }
@@ -67,15 +44,15 @@ pub fn show_kept<W: Write>(
     counts: &[i64; 4],
 ) -> io::Result<()> {
     words::text(out, b" R")?;
-    cells(out, r, rows)?;
+    words::list(out, r, rows)?;
     words::text(out, b" D")?;
-    cells(out, d, columns)?;
+    words::list(out, d, columns)?;
     words::text(out, b" C")?;
-    cells(out, c, 1)?;
+    words::list(out, c, 1)?;
     words::text(out, b" B")?;
-    cells(out, b, 1)?;
+    words::list(out, b, 1)?;
     words::text(out, b" counts")?;
-    cells(out, counts, 4)?;
+    words::list(out, counts, 4)?;
     let v = sheet_verdict::verdict(
         rows,
         columns,
@@ -125,24 +102,24 @@ pub fn show_plan<W: Write>(
 ) -> io::Result<()> {
     words::text(out, b"end")?;
     words::text(out, b" coef")?;
-    cells(out, coefs, n_coefs)?;
+    words::list(out, coefs, n_coefs)?;
     words::text(out, b" cost")?;
-    cells(out, costs, n_costs)?;
+    words::list(out, costs, n_costs)?;
     words::text(out, b" lower")?;
-    cells(out, lowers, n_lowers)?;
+    words::list(out, lowers, n_lowers)?;
     words::text(out, b" upper")?;
-    cells(out, uppers, n_uppers)?;
+    words::list(out, uppers, n_uppers)?;
     words::text(out, b" haslow")?;
-    words::bytes(out, lower_marks, n_lower_marks)?;
+    words::list(out, lower_marks, n_lower_marks)?;
     words::text(out, b" hasup")?;
-    words::bytes(out, upper_marks, n_upper_marks)?;
+    words::list(out, upper_marks, n_upper_marks)?;
     words::text(out, b" rhs")?;
-    cells(out, rhs, n_rights)?;
+    words::list(out, rhs, n_rights)?;
     words::text(out, b" ops")?;
-    words::bytes(out, ops, n_ops)?;
+    words::list(out, ops, n_ops)?;
     words::text(out, b" amount")?;
-    cells(out, amounts, n_amounts)?;
+    words::list(out, amounts, n_amounts)?;
     words::text(out, b" mult")?;
-    cells(out, mults, n_mults)?;
+    words::list(out, mults, n_mults)?;
     words::end_line(out)
 }

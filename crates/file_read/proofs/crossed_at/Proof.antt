@@ -1,5 +1,5 @@
 -- `file_read::crossed_at` meets its contract. Assumes nothing.
-use mathlib.Core.Path.{◌≡◌, ◌∙◌}
+use mathlib.Core.Path.{◌∙◌}
 use borrow.Author.Rules.{rules}
 use Rattle.sheet_terms.proofs.Machine.{result}
 use Rattle.file_read.proofs.crossed_at.Statement.{statement}

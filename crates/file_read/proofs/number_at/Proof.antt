@@ -1,5 +1,5 @@
 -- `file_read::number_at` meets its contract. Assumes nothing.
-use mathlib.Core.Path.{◌≡◌, ap, ◌∙◌}
+use mathlib.Core.Path.{ap, ◌∙◌}
 use borrow.Author.Rules.{rules}
 use Rattle.sheet_terms.proofs.Machine.{result}
 use Rattle.file_rules.specs.Bytes.{number_of}

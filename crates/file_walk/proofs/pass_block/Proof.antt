@@ -1,7 +1,5 @@
 -- `file_walk::pass_block` meets its contract: each return by its law. Assumes nothing.
-use mathlib.Core.Path.{◌≡◌, sym}
 use borrow.Author.Rules.{rules}
-use Rattle.file_rules.specs.Block.{slot}
 use Rattle.file_walk.proofs.Laws.{turn_stays, turn_stops, turn_goes}
 use Rattle.file_walk.proofs.pass_block.Statement.{statement}
 use Rattle.file_walk.proofs.pass_block.Tie as tie

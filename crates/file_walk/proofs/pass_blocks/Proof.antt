@@ -1,5 +1,5 @@
 -- `file_walk::pass_blocks` meets its contract: one array's blocks behind another's. Assumes nothing.
-use Prim.Native.Nat.{◌+◌, ◌*◌, ◌≤◌}
+use Prim.Native.Nat.{◌*◌, ◌≤◌}
 use native.Mathlib.Omega.{arith}
 use Rattle.file_walk.proofs.Laws.{array_place, cells_few, all_passed}
 use Rattle.file_walk.proofs.pass_blocks.Statement.{statement}

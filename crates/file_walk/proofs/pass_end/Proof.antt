@@ -1,5 +1,4 @@
 -- `file_walk::pass_end` meets its contract: each return by its law. Assumes nothing.
-use mathlib.Core.Path.{◌≡◌, sym}
 use native.Mathlib.Omega.{arith}
 use borrow.Author.Rules.{rules}
 use Rattle.file_walk.proofs.Laws.{behind_stays, behind_none, behind_some}

@@ -13,7 +13,7 @@ use Rattle.state.specs.Memory.{memory_in}
 use Rattle.fix_rules.specs.Fix.{fixed}
 use Rattle.fix_rules.specs.Calls.{passes43}
 use Rattle.fix_gate.specs.Gate.{fix_refusal}
-use Rattle.fix_gate.specs.declared.Refusal.TheVariants.{Nothing}
+use Rattle.std.specs.Prelude.{None}
 use Rattle.fix_gate.proofs.Laws.{Known}
 use Rattle.fix_run.proofs.Parts.{fixed_part}
 use Rattle.fix_parts.proofs.Laws.{keeps_asks, fronts_inside, front_inside, front_long, takes_asks, no_steps, budget_most, close_asks, calls}
@@ -54,7 +54,7 @@ taken c = search
 
 -- nothing was refused
 ok : (c : tie.In_default)
-    → let s = start c in Nothing ≡ fix_refusal (p s) (memory_in (v s) (N s) (D s) (F s) (G s)) s.args.column s.args.value
+    → let s = start c in None ≡ fix_refusal (p s) (memory_in (v s) (N s) (D s) (F s) (G s)) s.args.column s.args.value
 ok c =
     let r : tie.After-fix_refusal-refusal = search in
     sym c.in_default.is ∙ r.fix_refusal-refusal.ensures
@@ -89,27 +89,27 @@ fix-refusal-requires c κs = search rules
 enum-known-refusal : tie.Need-enum_known-refusal
 enum-known-refusal c = search rules
 
-same_length : tie.Need-shape_of-values-in-By
+same_length : tie.Need-shape_of-values-in-Some
 same_length c = search rules
 
-same-length-2 : tie.Need-shape_of-numbers-in-By
+same-length-2 : tie.Need-shape_of-numbers-in-Some
 same-length-2 c = search rules
 
-same-length-3 : tie.Need-shape_of-doubles-in-By
+same-length-3 : tie.Need-shape_of-doubles-in-Some
 same-length-3 c = search rules
 
-same-length-4 : tie.Need-shape_of-factor_numbers-in-By
+same-length-4 : tie.Need-shape_of-factor_numbers-in-Some
 same-length-4 c = search rules
 
-same-length-5 : tie.Need-shape_of-factor_coeffs-in-By
+same-length-5 : tie.Need-shape_of-factor_coeffs-in-Some
 same-length-5 c = search rules
 
-returns : tie.Need-returns-in-By
+returns : tie.Need-returns-in-Some
 returns c =
     let s : tie.Start = search in
     let r : tie.After-fix_refusal-refusal = search in
-    let w : tie.In-By = search in
-    fix_refuses (p s) (v s) (N s) (D s) (F s) (G s) s.args.column _ s.args.value (sym w.in-By.is ∙ r.fix_refusal-refusal.ensures)
+    let w : tie.In-Some = search in
+    fix_refuses (p s) (v s) (N s) (D s) (F s) (G s) s.args.column _ s.args.value (sym w.in-Some.is ∙ r.fix_refusal-refusal.ensures)
 
 enum_told : tie.Need-enum_told-1
 enum_told c = search rules

@@ -9,7 +9,9 @@ use borrow.Author.Tests.{ne_eqb}
 use Rattle.rules.specs.Plan.{Problem, State}
 use Rattle.state.specs.Packed.{state_in}
 use Rattle.step_refactor.specs.Left.{left_by, after}
-use Rattle.step_refactor.specs.declared.Went.{Went}
+use Rattle.std.specs.Prelude.{Result}
+use Rattle.state.specs.declared.Tally.{Tally}
+use Rattle.rules.specs.declared.Stop.{Stop}
 use Rattle.step.proofs.Laws.{stepped_of}
 use Rattle.fix_rules.specs.Fix.{marked, fix_step}
 use Rattle.fix_basic.specs.Lent.{called_of}
@@ -44,16 +46,16 @@ abbrev J : tie.After-leave-went → List Float
 J d = d.leave-went.new.factor_coeffs
 
 -- from place to place
-abbrev going : tie.In-On → tie.After-leave-went
+abbrev going : tie.In-Ok → tie.After-leave-went
 going w = search
 
 abbrev marking : tie.After-mark → tie.After-leave-went
 marking k = search
 
-left : (d : tie.After-leave-went) (r : Went) → d.leave-went.result ≡ r
+left : (d : tie.After-leave-went) (r : Result Tally Stop) → d.leave-went.result ≡ r
     → let s = entry d in
     left_by r (M d) (E d) (H d) (J d) ≡ after (S s) (fix_step (stepped_of (P s)) (S s) s.args.row s.args.value)
-left d r e = ap (λ (w : Went). left_by w (M d) (E d) (H d) (J d)) (sym e) ∙ d.leave-went.ensures
+left d r e = ap (λ (w : Result Tally Stop). left_by w (M d) (E d) (H d) (J d)) (sym e) ∙ d.leave-went.ensures
 
 returns : tie.Need-returns-then-budget-eq0
 returns c =
@@ -69,106 +71,106 @@ leave-requires c κs =
 enum-known-went : tie.Need-enum_known-went
 enum-known-went c = search rules
 
-same_length : tie.Need-shape_of-numbers-in-Stops
+same_length : tie.Need-shape_of-numbers-in-Err
 same_length c = search rules
 
-same-length-2 : tie.Need-shape_of-doubles-in-Stops
+same-length-2 : tie.Need-shape_of-doubles-in-Err
 same-length-2 c = search rules
 
-same-length-3 : tie.Need-shape_of-factor_numbers-in-Stops
+same-length-3 : tie.Need-shape_of-factor_numbers-in-Err
 same-length-3 c = search rules
 
-same-length-4 : tie.Need-shape_of-factor_coeffs-in-Stops
+same-length-4 : tie.Need-shape_of-factor_coeffs-in-Err
 same-length-4 c = search rules
 
-returns-2 : tie.Need-returns-in-Stops
+returns-2 : tie.Need-returns-in-Err
 returns-2 c =
-    let w : tie.In-Stops = search in
+    let w : tie.In-Err = search in
     let d : tie.After-leave-went = search in
     let s = entry d in
     basic_stops (P s) (S s) s.args.row s.args.value s.args.j (ne_eqb _ _ (test_at d).if-budget-eq0.false) _ _ _ _
-    (left d _ w.in-Stops.is)
+    (left d _ w.in-Err.is)
 
-enum-known-went-2 : tie.Need-enum_known-went-in-On-1
+enum-known-went-2 : tie.Need-enum_known-went-in-Ok-1
 enum-known-went-2 c = search rules
 
 add-col : tie.Need-overflow_add-col
 add-col c =
-    let w : tie.In-On = search in
+    let w : tie.In-Ok = search in
     let s = entry (going w) in
     omega (arith, column_below s.requires.0.0 s.args.j s.requires.0.2.column)
 
 mul-col : tie.Need-offset_bounds-numbers-j
 mul-col c =
-    let w : tie.In-On = search in
+    let w : tie.In-Ok = search in
     let s = entry (going w) in
     omega (arith, column_below s.requires.0.0 s.args.j s.requires.0.2.column)
 
 slice-read-col : tie.Need-bounds-numbers-j
 slice-read-col c =
-    let w : tie.In-On = search in
+    let w : tie.In-Ok = search in
     let d = going w in
     let s = entry d in
     omega (arith, column_below s.requires.0.0 s.args.j s.requires.0.2.column, d.leave-went.auto.numbers, s.requires.0.0.sized)
 
 mark-requires : tie.Need-mark-requires
 mark-requires c κs =
-    let w : tie.In-On = search in
+    let w : tie.In-Ok = search in
     let d = going w in
     let s = entry d in
     mark_asks s.requires.0.0 s.args.j s.args.row s.args.value s.requires.0.2 (M d) (E d) (H d) (J d) _
-    d.leave-went.auto.numbers d.leave-went.auto.doubles (left d _ w.in-On.is)
+    d.leave-went.auto.numbers d.leave-went.auto.doubles (left d _ w.in-Ok.is)
 
 both-requires : tie.Need-both-requires
 both-requires c κs =
     let k : tie.After-mark = search in
-    let w : tie.In-On = search in
+    let w : tie.In-Ok = search in
     let d = going w in
     let s = entry d in (
       marked_runs s.requires.0.0 s.args.j s.args.row s.args.value s.requires.0.2 (M d) (E d) (H d) (J d) _
-          d.leave-went.auto.numbers d.leave-went.auto.doubles (left d _ w.in-On.is) k.mark.new.numbers _ k.mark.auto.numbers
+          d.leave-went.auto.numbers d.leave-went.auto.doubles (left d _ w.in-Ok.is) k.mark.new.numbers _ k.mark.auto.numbers
           (k.mark.ensures (E d) (H d) (J d) _),
       s.requires.1,
     )
 
-same-length-5 : tie.Need-shape_of-numbers-in-On
+same-length-5 : tie.Need-shape_of-numbers-in-Ok
 same-length-5 c =
     let b : tie.After-both = search in
     let k : tie.After-mark = search in
     let d = marking k in
     b.both.auto.numbers ∙ k.mark.auto.numbers ∙ d.leave-went.auto.numbers
 
-same-length-6 : tie.Need-shape_of-doubles-in-On
+same-length-6 : tie.Need-shape_of-doubles-in-Ok
 same-length-6 c =
     let b : tie.After-both = search in
     let k : tie.After-mark = search in
     let d = marking k in
     b.both.auto.doubles ∙ d.leave-went.auto.doubles
 
-same-length-7 : tie.Need-shape_of-factor_numbers-in-On
+same-length-7 : tie.Need-shape_of-factor_numbers-in-Ok
 same-length-7 c =
     let b : tie.After-both = search in
     let k : tie.After-mark = search in
     let d = marking k in
     b.both.auto.factor_numbers ∙ d.leave-went.auto.factor_numbers
 
-same-length-8 : tie.Need-shape_of-factor_coeffs-in-On
+same-length-8 : tie.Need-shape_of-factor_coeffs-in-Ok
 same-length-8 c =
     let b : tie.After-both = search in
     let k : tie.After-mark = search in
     let d = marking k in
     b.both.auto.factor_coeffs ∙ d.leave-went.auto.factor_coeffs
 
-returns-3 : tie.Need-returns-in-On
+returns-3 : tie.Need-returns-in-Ok
 returns-3 c =
     let b : tie.After-both = search in
     let k : tie.After-mark = search in
-    let w : tie.In-On = search in
+    let w : tie.In-Ok = search in
     let d = going w in
     let s = entry d in
     let t = state_in (M d) (E d) (H d) (J d) _ in
     basic_goes (P s) (S s) s.args.row s.args.value s.args.j (ne_eqb _ _ (test_at d).if-budget-eq0.false) t
-    (left d _ w.in-On.is) _
+    (left d _ w.in-Ok.is) _
     (k.mark.ensures (E d) (H d) (J d) _ ∙ ap (marked t) (cell_is (M d) (E d) s.args.j (column_below s.requires.0.0 s.args.j s.requires.0.2.column)))
     _ b.both.ensures
 

@@ -6,7 +6,7 @@ use Rattle.rules.specs.Plan.{Plan}
 use Rattle.rules.specs.Parts.{plan_of}
 use Rattle.state.specs.Memory.{memory_in}
 use Rattle.fix_gate.specs.Gate.{kept_refusal, call_refusal}
-use Rattle.fix_gate.specs.declared.Refusal.TheVariants.{Nothing}
+use Rattle.std.specs.Prelude.{None}
 use Rattle.fix_gate.proofs.Laws.{stays_refused, last_refuses, last_passes}
 use Rattle.fix_gate.proofs.call_refusal.Statement.{statement}
 use Rattle.fix_gate.proofs.call_refusal.Tie as tie
@@ -23,7 +23,7 @@ start c = search
 ok : (c : tie.In_default)
     → let s = start c in
     let a = s.args in
-    kept_refusal (p s) (memory_in a.values.now a.numbers.now a.doubles.now a.factor_numbers.now a.factor_coeffs.now) ≡ Nothing
+    kept_refusal (p s) (memory_in a.values.now a.numbers.now a.doubles.now a.factor_numbers.now a.factor_coeffs.now) ≡ None
 ok c =
     let r : tie.After-kept_refusal-refusal = search in
     sym r.kept_refusal-refusal.ensures ∙ c.in_default.is
@@ -34,12 +34,12 @@ kept-refusal-requires c κs = search rules
 enum-known-refusal : tie.Need-enum_known-refusal
 enum-known-refusal c = search rules
 
-returns : tie.Need-returns-in-By
+returns : tie.Need-returns-in-Some
 unfolding call_refusal
 returns c =
     let r : tie.After-kept_refusal-refusal = search in
-    let w : tie.In-By = search in
-    stays_refused _ _ _ (sym r.kept_refusal-refusal.ensures ∙ w.in-By.is)
+    let w : tie.In-Some = search in
+    stays_refused _ _ _ (sym r.kept_refusal-refusal.ensures ∙ w.in-Some.is)
 
 enum_told : tie.Need-enum_told-1
 enum_told c = search rules

@@ -5,7 +5,7 @@ use borrow.Author.Tests.{not-true, not-false}
 use Rattle.rules.specs.Plan.{Plan}
 use Rattle.rules.specs.Parts.{plan_of}
 use Rattle.state.specs.Memory.{memory_in}
-use Rattle.plan.specs.declared.Refusal.TheVariants.{Nothing}
+use Rattle.std.specs.Prelude.{None}
 use Rattle.start_gate.specs.Gate.{refusal_by}
 use Rattle.fix_gate.proofs.Laws.{kept_part, kept_asks, says_told, says_not_kept, says_kept}
 use Rattle.fix_gate.proofs.kept_refusal.Statement.{statement}
@@ -26,7 +26,7 @@ told c = search
 ok : (c : tie.In_default)
     → let s = start c in
     let a = s.args in
-    Nothing ≡ refusal_by (p s) (memory_in a.values.now a.numbers.now a.doubles.now a.factor_numbers.now a.factor_coeffs.now)
+    None ≡ refusal_by (p s) (memory_in a.values.now a.numbers.now a.doubles.now a.factor_numbers.now a.factor_coeffs.now)
 ok c =
     let r : tie.After-refusal-refusal = search in
     sym c.in_default.is ∙ r.refusal-refusal.ensures
@@ -37,13 +37,13 @@ refusal-requires c κs = search rules
 enum-known-refusal : tie.Need-enum_known-refusal
 enum-known-refusal c = search rules
 
-returns : tie.Need-returns-in-By
+returns : tie.Need-returns-in-Some
 returns c =
     let s : tie.Start = search in
     let r : tie.After-refusal-refusal = search in
-    let w : tie.In-By = search in
+    let w : tie.In-Some = search in
     says_told (p s) s.args.values.now s.args.numbers.now s.args.doubles.now s.args.factor_numbers.now s.args.factor_coeffs.now _
-    (sym w.in-By.is ∙ r.refusal-refusal.ensures)
+    (sym w.in-Some.is ∙ r.refusal-refusal.ensures)
 
 enum_told : tie.Need-enum_told-1
 enum_told c = search rules

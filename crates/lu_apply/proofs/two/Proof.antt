@@ -3,7 +3,7 @@ use mathlib.Core.Path.{refl, sym, ap, ◌∙◌, subst}
 use mathlib.Core.Bool.{false, not}
 use lib.ListN.{length}
 use Rattle.lu_walk.specs.Walk.{shape}
-use Rattle.lu_solve.specs.Solve.{Out, tri, sparse, Distinct}
+use Rattle.lu_solve.specs.Solve.{Out, tri, Distinct}
 use Rattle.lu_solve.proofs.Laws.{numbers_kept}
 use Rattle.lu_factor_rules.specs.Solves.{second}
 use Rattle.lu_apply.proofs.Laws.{distinct_sparse, length_sparse}

@@ -73,10 +73,10 @@ lent_whole e = let s = start1 (sizes (plans e)) in
 abbrev staged : tie.After-tests-next → tie.After-stage-first
 staged t = search
 
-abbrev asked : tie.After-second_part → tie.In-Goes
+abbrev asked : tie.After-second_part → tie.In-None
 asked d = search
 
-abbrev tested : tie.In-Goes → tie.After-tests-next
+abbrev tested : tie.In-None → tie.After-tests-next
 tested o = search
 
 -- the found cost, as it was read
@@ -164,7 +164,7 @@ enum_told c = search rules
 
 second-part-requires : tie.Need-second_part-requires
 second-part-requires c κs =
-    let o : tie.In-Goes = search in
+    let o : tie.In-None = search in
     let t = tested o in
     let g = staged t in
     let e = memories g in
@@ -172,65 +172,65 @@ second-part-requires c κs =
     let s = start1 (sizes (plans e)) in (
       l.0,
       rows_fewer (n s) (lent s) (w s) (in_limits (sizes (plans e))) (long_plan_holds (plans e)) (long_memory_holds e)
-          g.stage-first.ensures (read t) t.tests-next.ensures o.in-Goes.is,
+          g.stage-first.ensures (read t) t.tests-next.ensures o.in-None.is,
       l.1,
       omega (arith, lent_whole e, g.stage-first.auto.section),
     )
 
-same-length-7 : tie.Need-shape_of-values-in-Stops
+same-length-7 : tie.Need-shape_of-values-in-Some
 same-length-7 c = search rules
 
-same-length-8 : tie.Need-shape_of-numbers-in-Stops
+same-length-8 : tie.Need-shape_of-numbers-in-Some
 same-length-8 c = search rules
 
-same-length-9 : tie.Need-shape_of-doubles-in-Stops
+same-length-9 : tie.Need-shape_of-doubles-in-Some
 same-length-9 c = search rules
 
-same-length-10 : tie.Need-shape_of-factor_numbers-in-Stops
+same-length-10 : tie.Need-shape_of-factor_numbers-in-Some
 same-length-10 c = search rules
 
-same-length-11 : tie.Need-shape_of-factor_coeffs-in-Stops
+same-length-11 : tie.Need-shape_of-factor_coeffs-in-Some
 same-length-11 c = search rules
 
-same-length-12 : tie.Need-shape_of-whole-in-Stops
+same-length-12 : tie.Need-shape_of-whole-in-Some
 same-length-12 c = search rules
 
-returns-4 : tie.Need-returns-in-Stops
+returns-4 : tie.Need-returns-in-Some
 returns-4 c =
     let t : tie.After-tests-next = search in
     let g = staged t in
     let e = memories g in
     let s = start1 (sizes (plans e)) in
     stopped (n s) (lent s) (w s) (in_limits (sizes (plans e))) (long_plan_holds (plans e)) (long_memory_holds e)
-    g.stage-first.ensures (read t) t.tests-next.ensures _ c.in-Stops.is
+    g.stage-first.ensures (read t) t.tests-next.ensures _ c.in-Some.is
 
-same-length-13 : tie.Need-shape_of-values-in-Goes
+same-length-13 : tie.Need-shape_of-values-in-None
 same-length-13 c =
     let d : tie.After-second_part = search in
     let g = staged (tested (asked d)) in
     d.second_part.auto.values
     ∙ g.stage-first.auto.values
 
-same-length-14 : tie.Need-shape_of-numbers-in-Goes
+same-length-14 : tie.Need-shape_of-numbers-in-None
 same-length-14 c =
     let d : tie.After-second_part = search in
     let g = staged (tested (asked d)) in
     d.second_part.auto.numbers
     ∙ g.stage-first.auto.numbers
 
-same-length-15 : tie.Need-shape_of-doubles-in-Goes
+same-length-15 : tie.Need-shape_of-doubles-in-None
 same-length-15 c = search rules
 
-same-length-16 : tie.Need-shape_of-factor_numbers-in-Goes
+same-length-16 : tie.Need-shape_of-factor_numbers-in-None
 same-length-16 c = search rules
 
-same-length-17 : tie.Need-shape_of-factor_coeffs-in-Goes
+same-length-17 : tie.Need-shape_of-factor_coeffs-in-None
 same-length-17 c = search rules
 
-same-length-18 : tie.Need-shape_of-whole-in-Goes
+same-length-18 : tie.Need-shape_of-whole-in-None
 same-length-18 c = search rules
 
-returns-5 : tie.Need-returns-in-Goes
+returns-5 : tie.Need-returns-in-None
 returns-5 c =
     let d : tie.After-second_part = search in
     let o = asked d in
@@ -239,7 +239,7 @@ returns-5 c =
     let e = memories g in
     let s = start1 (sizes (plans e)) in
     went (n s) (lent s) (w s) (in_limits (sizes (plans e))) (long_plan_holds (plans e)) (long_memory_holds e)
-    g.stage-first.ensures (read t) t.tests-next.ensures o.in-Goes.is d.second_part.ensures
+    g.stage-first.ensures (read t) t.tests-next.ensures o.in-None.is d.second_part.ensures
 
 pub night_spec : {M : Type 1} → statement M
 night_spec =

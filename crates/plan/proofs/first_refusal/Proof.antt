@@ -11,7 +11,7 @@ use Rattle.rules.specs.Parts.{plan_of}
 use Rattle.rules.specs.Refusals.{starts_rise, passes2, first_crossed}
 use Rattle.rules.specs.declared.Answer.TheVariants.{CrossedBounds, FalseEmptyRow}
 use Rattle.plan.specs.declared.Bad.TheVariants.{Nothing}
-use Rattle.plan.specs.declared.Refusal.TheVariants.{By}
+use Rattle.std.specs.Prelude.{Some}
 use Rattle.plan.specs.Refused.{bad_entry}
 use Rattle.rules.proofs.Lengths.{Arrays, arrays}
 use Rattle.plan_numbers.proofs.Parts.{numbers_part}
@@ -88,7 +88,7 @@ returns-4 c = let t : tie.In_default = search in
     let o : tie.Else-not-starts_rise = search in
     let s = at_1 o in
     let w = c.first_crossed-column.ensures ∙ sym (crossed_part (whole s)) in
-    ap (λ j. By (CrossedBounds j)) w ∙ says_4 (whole s) (one o) (two e) (three t) (ne_eqb _ _ (λ q. c.if-column-columns.true (w ∙ q)))
+    ap (λ j. Some (CrossedBounds j)) w ∙ says_4 (whole s) (one o) (two e) (three t) (ne_eqb _ _ (λ q. c.if-column-columns.true (w ∙ q)))
 
 first-false-requires : tie.Need-first_false-row-requires
 first-false-requires c κs = let s : tie.Start = search in
@@ -101,7 +101,7 @@ returns-5 c = let f : tie.Else-column-columns = search in
     let o : tie.Else-not-starts_rise = search in
     let s = at_1 o in
     let w = c.first_false-row.ensures ∙ sym (false_part (whole s)) in
-    ap (λ j. By (FalseEmptyRow j)) w ∙ says_5 (whole s) (one o) (two e) (three t) (four f) (ne_eqb _ _ (λ q. c.if-row-rows.true (w ∙ q)))
+    ap (λ j. Some (FalseEmptyRow j)) w ∙ says_5 (whole s) (one o) (two e) (three t) (four f) (ne_eqb _ _ (λ q. c.if-row-rows.true (w ∙ q)))
 
 returns-6 : tie.Need-returns
 returns-6 c = let f : tie.Else-column-columns = search in

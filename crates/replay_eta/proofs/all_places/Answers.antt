@@ -1,17 +1,15 @@
 -- `replay_eta::all_places` meets its contract. Assumes nothing.
-use Rattle.std.proofs.Common.{refl, sym}
-use native.Mathlib.Omega.{arith}
-use borrow.Author.Tests.{lt-ltb, le-ltb}
-use Rattle.doubles.specs.Loop.{all}
-use Rattle.doubles.proofs.Loops.{all_next, all_fails}
+use mathlib.Core.Path.{◌∙◌}
+use lib.Dec.{ltb}
+use borrow.Author.Rules.{rules}
+use borrow.Author.Tests.{tests}
+use Rattle.std.proofs.lemmas.Iterator.{YieldsList-from_slice}
+use Rattle.std.proofs.lemmas.Iterator.Search.{all_from_yields_List}
+use Rattle.doubles.specs.Limits.{places}
+use Rattle.doubles.proofs.Items.{all_of_items}
 use Rattle.replay_eta.proofs.all_places.Goals as goal
 
-pub loop-k-init : goal.loop-k-init
-unfolding all
-loop-k-init c = (omega arith, refl)
-
-pub returns-then-at-k-ge-PLACES : goal.returns-then-at-k-ge-PLACES
-returns-then-at-k-ge-PLACES c = sym (all_fails _ _ c.loop-k.k (omega arith) (le-ltb _ _ c.if-at-k-ge-PLACES.true))
-
-pub loop-k-preserved : goal.loop-k-preserved
-loop-k-preserved c = (omega arith, all_next _ _ c.loop-k.invariant.1 (lt-ltb _ _ c.if-at-k-ge-PLACES.false))
+pub returns : goal.returns
+returns c =
+    all_from_yields_List (λ x. ltb x places) _ _ _ c.all.ensures.ran (YieldsList-from_slice c.args.at.now cc) (λ x b q k. search (rules, tests))
+    ∙ all_of_items (λ x. ltb x places) _ _

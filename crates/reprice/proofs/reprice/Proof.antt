@@ -10,7 +10,7 @@ use Rattle.rules.specs.Parts.{plan_of}
 use Rattle.state.specs.Packed.{kept_at, objective_at}
 use Rattle.state.specs.Memory.{memory_in}
 use Rattle.fix_gate.specs.Gate.{kept_refusal}
-use Rattle.fix_gate.specs.declared.Refusal.TheVariants.{Nothing}
+use Rattle.std.specs.Prelude.{None}
 use Rattle.fix_gate.proofs.Laws.{Kept, was_kept}
 use Rattle.reprice_run.specs.Lent.{counted_end}
 use Rattle.reprice_run.proofs.Laws.{counted_part}
@@ -52,7 +52,7 @@ taken c = search
 
 -- nothing was refused
 ok : (c : tie.In_default)
-    → let s = start c in Nothing ≡ kept_refusal (p s) (memory_in (v s) (N s) (D s) (F s) (G s))
+    → let s = start c in None ≡ kept_refusal (p s) (memory_in (v s) (N s) (D s) (F s) (G s))
 ok c =
     let r : tie.After-kept_refusal-refusal = search in
     sym c.in_default.is ∙ r.kept_refusal-refusal.ensures
@@ -85,27 +85,27 @@ kept-refusal-requires c κs = search rules
 enum-known-refusal : tie.Need-enum_known-refusal
 enum-known-refusal c = search rules
 
-same_length : tie.Need-shape_of-values-in-By
+same_length : tie.Need-shape_of-values-in-Some
 same_length c = search rules
 
-same-length-2 : tie.Need-shape_of-numbers-in-By
+same-length-2 : tie.Need-shape_of-numbers-in-Some
 same-length-2 c = search rules
 
-same-length-3 : tie.Need-shape_of-doubles-in-By
+same-length-3 : tie.Need-shape_of-doubles-in-Some
 same-length-3 c = search rules
 
-same-length-4 : tie.Need-shape_of-factor_numbers-in-By
+same-length-4 : tie.Need-shape_of-factor_numbers-in-Some
 same-length-4 c = search rules
 
-same-length-5 : tie.Need-shape_of-factor_coeffs-in-By
+same-length-5 : tie.Need-shape_of-factor_coeffs-in-Some
 same-length-5 c = search rules
 
-returns : tie.Need-returns-in-By
+returns : tie.Need-returns-in-Some
 returns c =
     let s : tie.Start = search in
     let r : tie.After-kept_refusal-refusal = search in
-    let w : tie.In-By = search in
-    refuses (p s) (v s) (N s) (D s) (F s) (G s) _ (sym w.in-By.is ∙ r.kept_refusal-refusal.ensures)
+    let w : tie.In-Some = search in
+    refuses (p s) (v s) (N s) (D s) (F s) (G s) _ (sym w.in-Some.is ∙ r.kept_refusal-refusal.ensures)
 
 enum_told : tie.Need-enum_told-1
 enum_told c = search rules

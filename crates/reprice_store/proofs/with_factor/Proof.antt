@@ -17,7 +17,9 @@ use Rattle.step_refactor.specs.Left.{Left, on}
 use Rattle.reprice_rules.specs.Reprice.{multipliers, factored_now, priced_finite, priced_if}
 use Rattle.reprice_prices.specs.Lent.{priced_of}
 use Rattle.reprice_prices.specs.Left.{after_own, own_left}
-use Rattle.reprice_prices.specs.declared.Own.{Own}
+use Rattle.std.specs.Prelude.{Result}
+use Rattle.state.specs.declared.Tally.{Tally}
+use Rattle.rules.specs.declared.Stop.{Stop}
 use Rattle.reprice_store.proofs.Laws.{rows_most, basics_enough, prices_asks, factor_asks, solves}
 use Rattle.reprice_store.proofs.Laws.{multipliers_long, multipliers_now, with_factor_holds, stored_state}
 use Rattle.reprice_store.proofs.with_factor.Statement.{statement}
@@ -62,10 +64,10 @@ module _ (q : tie.After-priced-own) (starts cols : List ℕ) (coeffs : List Floa
   mults = (solved q).multipliers_now.ensures ∙ multipliers_now s.requires.0 s.requires.1 starts cols coeffs
 
   -- what is told, with the arrays as the pricing leaves them
-  abbrev leaves : Own → Left
+  abbrev leaves : Result Tally Stop → Left
   leaves r = let a = s.args in own_left r a.numbers.now (E q) a.factor_numbers.now a.factor_coeffs.now
 
-  left : (r : Own) → q.priced-own.result ≡ r → leaves r
+  left : (r : Result Tally Stop) → q.priced-own.result ≡ r → leaves r
       ≡ after_own (S s) (priced_if (priced_finite Q (S s) (Y (solved q))) Q (S s) (Y (solved q)))
   left r e =
       ap leaves (sym e)
@@ -95,21 +97,21 @@ priced-requires c κs =
 enum-known-own : tie.Need-enum_known-own
 enum-known-own c = search rules
 
-same_length : tie.Need-shape_of-numbers-in-Halts
+same_length : tie.Need-shape_of-numbers-in-Err
 same_length c = search rules
 
-same-length-2 : tie.Need-shape_of-doubles-in-Halts
+same-length-2 : tie.Need-shape_of-doubles-in-Err
 same-length-2 c = search rules
 
-returns : tie.Need-returns-in-Halts
+returns : tie.Need-returns-in-Err
 returns c starts cols coeffs m =
-    let w : tie.In-Halts = search in
+    let w : tie.In-Err = search in
     let q : tie.After-priced-own = search in
     let s = entry (solved q) in
     with_factor_holds (Q q starts cols coeffs m) (S s) (factor s) (mults q starts cols coeffs m)
-    (left q starts cols coeffs m _ w.in-Halts.is)
+    (left q starts cols coeffs m _ w.in-Err.is)
 
-enum-known-own-2 : tie.Need-enum_known-own-in-Goes-1
+enum-known-own-2 : tie.Need-enum_known-own-in-Ok-1
 enum-known-own-2 c = search rules
 
 slice-write-numbers : tie.Need-bounds-numbers-832
@@ -125,29 +127,29 @@ store-requires c κs =
     let x = solves s.requires.0 s.requires.1 in
     ((l.numbers_long, l.coeffs_long), (x.lower_read, x.upper_read))
 
-same-length-3 : tie.Need-shape_of-numbers-in-Goes
+same-length-3 : tie.Need-shape_of-numbers-in-Ok
 same-length-3 c = search rules
 
-same-length-4 : tie.Need-shape_of-doubles-in-Goes
+same-length-4 : tie.Need-shape_of-doubles-in-Ok
 same-length-4 c = search rules
 
-same-length-5 : tie.Need-shape_of-factor_numbers-in-Goes
+same-length-5 : tie.Need-shape_of-factor_numbers-in-Ok
 same-length-5 c = search rules
 
-same-length-6 : tie.Need-shape_of-factor_coeffs-in-Goes
+same-length-6 : tie.Need-shape_of-factor_coeffs-in-Ok
 same-length-6 c = search rules
 
-returns-2 : tie.Need-returns-in-Goes
+returns-2 : tie.Need-returns-in-Ok
 returns-2 c starts cols coeffs m =
     let z : tie.After-store = search in
-    let w : tie.In-Goes = search in
+    let w : tie.In-Ok = search in
     let q : tie.After-priced-own = search in
     let s = entry (solved q) in
     let a = s.args in
-    ap on (stored_state a.numbers.now (E q) a.factor_numbers.now a.factor_coeffs.now w.in-Goes.t
+    ap on (stored_state a.numbers.now (E q) a.factor_numbers.now a.factor_coeffs.now w.in-Ok.t
     (factor s) z.store.ensures.0 z.store.ensures.1)
     ∙ with_factor_holds (Q q starts cols coeffs m) (S s) (factor s) (mults q starts cols coeffs m)
-    (left q starts cols coeffs m _ w.in-Goes.is)
+    (left q starts cols coeffs m _ w.in-Ok.is)
 
 pub with_factor_spec : {M : Type 1} → statement M
 with_factor_spec =

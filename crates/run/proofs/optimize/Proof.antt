@@ -23,10 +23,10 @@ decreases-loop N₀ D₀ F₀ G₀ n lowers uppers starts cols coeffs ops kept c
 abbrev entry : tie.At-loop-e invariant-loop decreases-loop → tie.Start invariant-loop decreases-loop
 entry h = search
 
-abbrev enters : tie.After-step-went invariant-loop decreases-loop → tie.In-Enters invariant-loop decreases-loop
+abbrev enters : tie.After-step-went invariant-loop decreases-loop → tie.In-Some invariant-loop decreases-loop
 enters t = search
 
-abbrev head : tie.In-Enters invariant-loop decreases-loop → tie.At-loop-e invariant-loop decreases-loop
+abbrev head : tie.In-Some invariant-loop decreases-loop → tie.At-loop-e invariant-loop decreases-loop
 head x = search
 
 -- the arrays as the step leaves them
@@ -86,16 +86,16 @@ same-length-8 c = let h : tie.At-loop-e invariant-loop decreases-loop = search i
 
 returns-2 : tie.Need-returns-then-tally-budget invariant-loop decreases-loop
 returns-2 c =
-    let x : tie.In-Enters invariant-loop decreases-loop = search in
-    spends (head x).loop-e.invariant _ x.choose-choice.ensures _ x.in-Enters.is
+    let x : tie.In-Some invariant-loop decreases-loop = search in
+    spends (head x).loop-e.invariant _ x.choose-choice.ensures _ x.in-Some.is
     (omega (arith, c.if-tally-budget.true))
 
 step-requires : tie.Need-step-went-requires invariant-loop decreases-loop
 step-requires c κs =
     let b : tie.Else-tally-budget invariant-loop decreases-loop = search in
-    let x : tie.In-Enters invariant-loop decreases-loop = search in
+    let x : tie.In-Some invariant-loop decreases-loop = search in
     let s = entry (head x) in
-    let col = column_below (head x).loop-e.invariant _ x.choose-choice.ensures _ x.in-Enters.is in
+    let col = column_below (head x).loop-e.invariant _ x.choose-choice.ensures _ x.in-Some.is in
     (going_steps (head x).loop-e.invariant (omega (arith, b.if-tally-budget.false)) s.requires.1.2, (s.requires.1.0, s.requires.1.1, col))
 
 enum-known-went : tie.Need-enum_known-went invariant-loop decreases-loop
@@ -103,58 +103,58 @@ enum-known-went c = search rules
 
 loop-less : tie.Need-loop-e-smaller invariant-loop decreases-loop
 loop-less c =
-    let w : tie.In-On invariant-loop decreases-loop = search in
+    let w : tie.In-Ok invariant-loop decreases-loop = search in
     let t : tie.After-step-went invariant-loop decreases-loop = search in
     let b : tie.Else-tally-budget invariant-loop decreases-loop = search in
     let x = enters t in
     omega (
       arith,
       b.if-tally-budget.false,
-      counts (head x).loop-e.invariant _ x.choose-choice.ensures _ x.in-Enters.is b.if-tally-budget.false _
-          (M t) (E t) (H t) (J t) t.step-went.ensures _ w.in-On.is,
+      counts (head x).loop-e.invariant _ x.choose-choice.ensures _ x.in-Some.is b.if-tally-budget.false _
+          (M t) (E t) (H t) (J t) t.step-went.ensures _ w.in-Ok.is,
     )
 
 loop-again : tie.Need-loop-e-preserved invariant-loop decreases-loop
 loop-again c =
-    let w : tie.In-On invariant-loop decreases-loop = search in
+    let w : tie.In-Ok invariant-loop decreases-loop = search in
     let t : tie.After-step-went invariant-loop decreases-loop = search in
     let b : tie.Else-tally-budget invariant-loop decreases-loop = search in
     let x = enters t in
-    goes_on (head x).loop-e.invariant _ x.choose-choice.ensures _ x.in-Enters.is b.if-tally-budget.false _
-    (M t) (E t) (H t) (J t) t.step-went.ensures _ w.in-On.is
+    goes_on (head x).loop-e.invariant _ x.choose-choice.ensures _ x.in-Some.is b.if-tally-budget.false _
+    (M t) (E t) (H t) (J t) t.step-went.ensures _ w.in-Ok.is
     t.step-went.auto.numbers t.step-went.auto.doubles t.step-went.auto.factor_numbers t.step-went.auto.factor_coeffs
 
-enum-known-went-2 : tie.Need-enum_known-went-in-Stops-1 invariant-loop decreases-loop
+enum-known-went-2 : tie.Need-enum_known-went-in-Err-1 invariant-loop decreases-loop
 enum-known-went-2 c = search rules
 
-same-length-9 : tie.Need-shape_of-numbers-in-Stops invariant-loop decreases-loop
+same-length-9 : tie.Need-shape_of-numbers-in-Err invariant-loop decreases-loop
 same-length-9 c =
     let t : tie.After-step-went invariant-loop decreases-loop = search in
     t.step-went.auto.numbers ∙ (head (enters t)).loop-e.invariant.numbers_kept
 
-same-length-10 : tie.Need-shape_of-doubles-in-Stops invariant-loop decreases-loop
+same-length-10 : tie.Need-shape_of-doubles-in-Err invariant-loop decreases-loop
 same-length-10 c =
     let t : tie.After-step-went invariant-loop decreases-loop = search in
     t.step-went.auto.doubles ∙ (head (enters t)).loop-e.invariant.doubles_kept
 
-same-length-11 : tie.Need-shape_of-factor_numbers-in-Stops invariant-loop decreases-loop
+same-length-11 : tie.Need-shape_of-factor_numbers-in-Err invariant-loop decreases-loop
 same-length-11 c =
     let t : tie.After-step-went invariant-loop decreases-loop = search in
     t.step-went.auto.factor_numbers ∙ (head (enters t)).loop-e.invariant.factor_numbers_kept
 
-same-length-12 : tie.Need-shape_of-factor_coeffs-in-Stops invariant-loop decreases-loop
+same-length-12 : tie.Need-shape_of-factor_coeffs-in-Err invariant-loop decreases-loop
 same-length-12 c =
     let t : tie.After-step-went invariant-loop decreases-loop = search in
     t.step-went.auto.factor_coeffs ∙ (head (enters t)).loop-e.invariant.factor_coeffs_kept
 
-returns-3 : tie.Need-returns-in-Stops invariant-loop decreases-loop
+returns-3 : tie.Need-returns-in-Err invariant-loop decreases-loop
 returns-3 c =
-    let w : tie.In-Stops invariant-loop decreases-loop = search in
+    let w : tie.In-Err invariant-loop decreases-loop = search in
     let t : tie.After-step-went invariant-loop decreases-loop = search in
     let b : tie.Else-tally-budget invariant-loop decreases-loop = search in
     let x = enters t in
-    halts (head x).loop-e.invariant _ x.choose-choice.ensures _ x.in-Enters.is b.if-tally-budget.false _
-    (M t) (E t) (H t) (J t) t.step-went.ensures _ w.in-Stops.is
+    halts (head x).loop-e.invariant _ x.choose-choice.ensures _ x.in-Some.is b.if-tally-budget.false _
+    (M t) (E t) (H t) (J t) t.step-went.ensures _ w.in-Err.is
 
 pub optimize_spec : {M : Type 1} → statement M
 optimize_spec =

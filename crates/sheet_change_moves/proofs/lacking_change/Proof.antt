@@ -5,7 +5,7 @@ use Prim.Native.Nat.{◌*◌}
 use borrow.Author.Rules.{rules}
 use Rattle.doubles.specs.Limits.{max_coefficient, max_multiplier, max_d}
 use Rattle.sheet_rules.specs.Sum.{bit}
-use Rattle.sheet_rules.specs.Sheet.{term, lacks}
+use Rattle.sheet_rules.specs.Sheet.{lacks}
 use Rattle.sheet_rules.specs.Verdict.{is_zero}
 use Rattle.sheet_rules.proofs.Sizes.{bit_size}
 use Rattle.sheet_terms.proofs.Machine.{of_word, E, num, mul, sub, exact, fit}

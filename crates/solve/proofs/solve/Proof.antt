@@ -9,7 +9,7 @@ use Rattle.rules.specs.Plan.{Plan}
 use Rattle.rules.specs.Parts.{plan_of}
 use Rattle.state.specs.Packed.{kept_at, objective_at}
 use Rattle.state.specs.Memory.{memory_in}
-use Rattle.plan.specs.declared.Refusal.TheVariants.{Nothing}
+use Rattle.std.specs.Prelude.{None}
 use Rattle.start_gate.specs.Gate.{refusal_by}
 use Rattle.solve.proofs.Laws.{was_refused, was_filled, refuses, keeps_asks, fronts_inside, front_inside, front_long, begins_asks, start_refuses, launch_asks, close_asks, solves}
 use Rattle.solve.proofs.solve.Statement.{statement}
@@ -46,12 +46,12 @@ kept c = search
 abbrev began : tie.After-launch-ran → tie.After-begin-begun
 began c = search
 
-abbrev going : tie.After-launch-ran → tie.In-On
+abbrev going : tie.After-launch-ran → tie.In-Ok
 going c = search
 
 -- 1 to 5 have passed
 ok : (c : tie.In_default)
-    → let s = start c in Nothing ≡ refusal_by (p s) (memory_in (v s) (N s) (D s) (F s) (G s))
+    → let s = start c in None ≡ refusal_by (p s) (memory_in (v s) (N s) (D s) (F s) (G s))
 ok c =
     let r : tie.After-refusal-refusal = search in
     sym c.in_default.is ∙ r.refusal-refusal.ensures
@@ -75,26 +75,26 @@ refusal-requires c κs = search rules
 enum-known-refusal : tie.Need-enum_known-refusal
 enum-known-refusal c = search rules
 
-same_length : tie.Need-shape_of-values-in-By
+same_length : tie.Need-shape_of-values-in-Some
 same_length c = search rules
 
-same-length-2 : tie.Need-shape_of-numbers-in-By
+same-length-2 : tie.Need-shape_of-numbers-in-Some
 same-length-2 c = search rules
 
-same-length-3 : tie.Need-shape_of-doubles-in-By
+same-length-3 : tie.Need-shape_of-doubles-in-Some
 same-length-3 c = search rules
 
-same-length-4 : tie.Need-shape_of-factor_numbers-in-By
+same-length-4 : tie.Need-shape_of-factor_numbers-in-Some
 same-length-4 c = search rules
 
-same-length-5 : tie.Need-shape_of-factor_coeffs-in-By
+same-length-5 : tie.Need-shape_of-factor_coeffs-in-Some
 same-length-5 c = search rules
 
-returns : tie.Need-returns-in-By
+returns : tie.Need-returns-in-Some
 returns c =
     let s : tie.Start = search in
     let r : tie.After-refusal-refusal = search in
-    refuses (p s) (v s) (N s) (D s) (F s) (G s) _ (sym c.in-By.is ∙ r.refusal-refusal.ensures)
+    refuses (p s) (v s) (N s) (D s) (F s) (G s) _ (sym c.in-Some.is ∙ r.refusal-refusal.ensures)
 
 enum_told : tie.Need-enum_told-1
 enum_told c = search rules
@@ -131,7 +131,7 @@ begin-requires c κs =
 enum-known-begun : tie.Need-enum_known-begun
 enum-known-begun c = search rules
 
-enum-known-begun-2 : tie.Need-enum_known-begun-in-On-1
+enum-known-begun-2 : tie.Need-enum_known-begun-in-Ok-1
 enum-known-begun-2 c = search rules
 
 slice-relend-prefix-launch : tie.Need-slice_bounds-launch-end
@@ -140,32 +140,32 @@ slice-relend-prefix-launch c =
     let s = start t in
     (fronts_inside (p s) (v s) (N s) (D s) (F s) (G s) (ok t)).0
 
-slice-aggregate-launch : tie.Need-slice_bounds-launch-end-in-On
+slice-aggregate-launch : tie.Need-slice_bounds-launch-end-in-Ok
 slice-aggregate-launch c =
     let t : tie.In_default = search in
     let s = start t in
     sym (length-take-le kept_at (N s) (fronts_inside (p s) (v s) (N s) (D s) (F s) (G s) (ok t)).0)
 
-slice-relend-prefix-launch-2 : tie.Need-slice_bounds-launch-end-in-On-2
+slice-relend-prefix-launch-2 : tie.Need-slice_bounds-launch-end-in-Ok-2
 slice-relend-prefix-launch-2 c =
     let t : tie.In_default = search in
     let s = start t in
     (fronts_inside (p s) (v s) (N s) (D s) (F s) (G s) (ok t)).1
 
-slice-aggregate-launch-2 : tie.Need-slice_bounds-launch-end-in-On-3
+slice-aggregate-launch-2 : tie.Need-slice_bounds-launch-end-in-Ok-3
 slice-aggregate-launch-2 c =
     let t : tie.In_default = search in
     let s = start t in
     sym (length-take-le objective_at (D s) (fronts_inside (p s) (v s) (N s) (D s) (F s) (G s) (ok t)).1)
 
-array-share-prefix-kept-2 : tie.Need-slice_bounds-kept-end-in-On
+array-share-prefix-kept-2 : tie.Need-slice_bounds-kept-end-in-Ok
 array-share-prefix-kept-2 c =
     let k : tie.After-keep_rows-m = search in
     let s = start (told k) in
     front_inside (p s) (v s) (N s) (D s) (F s) (G s) (ok (told k)) _ _ _ k.keep_rows-m.ensures
     k.keep_rows-m.auto.kept
 
-slice-aggregate-launch-3 : tie.Need-slice_bounds-launch-end-in-On-4
+slice-aggregate-launch-3 : tie.Need-slice_bounds-launch-end-in-Ok-4
 slice-aggregate-launch-3 c =
     let k : tie.After-keep_rows-m = search in
     let s = start (told k) in
@@ -175,14 +175,14 @@ slice-aggregate-launch-3 c =
 launch-requires : tie.Need-launch-ran-requires
 launch-requires c κs =
     let b : tie.After-begin-begun = search in
-    let g : tie.In-On = search in
+    let g : tie.In-Ok = search in
     let k = kept b in
     let s = start (told k) in
     let x = b.begin-begun.new in
     launch_asks (p s) (v s) (N s) (D s) (F s) (G s) (ok (told k)) _ _ _ k.keep_rows-m.ensures _
-    (was_filled b.begin-begun.result x.xs x.slacks x.norms _ b.begin-begun.ensures _ g.in-On.is)
+    (was_filled b.begin-begun.result x.xs x.slacks x.norms _ b.begin-begun.ensures _ g.in-Ok.is)
 
-array-share-prefix-kept-3 : tie.Need-slice_bounds-kept-end-in-On-2
+array-share-prefix-kept-3 : tie.Need-slice_bounds-kept-end-in-Ok-2
 array-share-prefix-kept-3 c =
     let l : tie.After-launch-ran = search in
     let k = kept (began l) in
@@ -206,62 +206,62 @@ close-requires c κs =
     let s = start (told k) in
     let x = b.begin-begun.new in
     close_asks (p s) (v s) (N s) (D s) (F s) (G s) (ok (told k)) _ _ _ k.keep_rows-m.ensures _
-    (was_filled b.begin-begun.result x.xs x.slacks x.norms _ b.begin-begun.ensures _ (going l).in-On.is)
+    (was_filled b.begin-begun.result x.xs x.slacks x.norms _ b.begin-begun.ensures _ (going l).in-Ok.is)
     l.launch-ran.result (M l) (E l) (H l) (J l) l.launch-ran.auto.numbers l.launch-ran.auto.doubles l.launch-ran.ensures
 
-same-length-6 : tie.Need-shape_of-values-in-Refused
+same-length-6 : tie.Need-shape_of-values-in-Err
 same-length-6 c = search rules
 
-same-length-7 : tie.Need-shape_of-numbers-in-Refused
+same-length-7 : tie.Need-shape_of-numbers-in-Err
 same-length-7 c = search rules
 
-same-length-8 : tie.Need-shape_of-doubles-in-Refused
+same-length-8 : tie.Need-shape_of-doubles-in-Err
 same-length-8 c = search rules
 
-same-length-9 : tie.Need-shape_of-factor_numbers-in-Refused
+same-length-9 : tie.Need-shape_of-factor_numbers-in-Err
 same-length-9 c = search rules
 
-same-length-10 : tie.Need-shape_of-factor_coeffs-in-Refused
+same-length-10 : tie.Need-shape_of-factor_coeffs-in-Err
 same-length-10 c = search rules
 
-returns-2 : tie.Need-returns-in-Refused
+returns-2 : tie.Need-returns-in-Err
 returns-2 c =
     let b : tie.After-begin-begun = search in
     let k = kept b in
     let s = start (told k) in
     let x = b.begin-begun.new in
     start_refuses (p s) (v s) (N s) (D s) (F s) (G s) (ok (told k)) _ _ _ k.keep_rows-m.ensures _
-    (was_refused b.begin-begun.result x.xs x.slacks x.norms _ b.begin-begun.ensures _ c.in-Refused.is)
+    (was_refused b.begin-begun.result x.xs x.slacks x.norms _ b.begin-begun.ensures _ c.in-Err.is)
 
-same-length-11 : tie.Need-shape_of-values-in-On
+same-length-11 : tie.Need-shape_of-values-in-Ok
 same-length-11 c = let e : tie.After-close = search in
     e.close.auto.values
 
-same-length-12 : tie.Need-shape_of-numbers-in-On
+same-length-12 : tie.Need-shape_of-numbers-in-Ok
 same-length-12 c =
     let e : tie.After-close = search in
     let l : tie.After-launch-ran = search in
     let s = start (told (kept (began l))) in
     e.close.auto.numbers ∙ length_front (N s) (M l) kept_at l.launch-ran.auto.numbers
 
-same-length-13 : tie.Need-shape_of-doubles-in-On
+same-length-13 : tie.Need-shape_of-doubles-in-Ok
 same-length-13 c =
     let e : tie.After-close = search in
     let l : tie.After-launch-ran = search in
     let s = start (told (kept (began l))) in
     e.close.auto.doubles ∙ length_front (D s) (E l) objective_at l.launch-ran.auto.doubles
 
-same-length-14 : tie.Need-shape_of-factor_numbers-in-On
+same-length-14 : tie.Need-shape_of-factor_numbers-in-Ok
 same-length-14 c =
     let l : tie.After-launch-ran = search in
     l.launch-ran.auto.factor_numbers
 
-same-length-15 : tie.Need-shape_of-factor_coeffs-in-On
+same-length-15 : tie.Need-shape_of-factor_coeffs-in-Ok
 same-length-15 c =
     let l : tie.After-launch-ran = search in
     l.launch-ran.auto.factor_coeffs
 
-returns-3 : tie.Need-returns-in-On
+returns-3 : tie.Need-returns-in-Ok
 returns-3 c =
     let e : tie.After-close = search in
     let l : tie.After-launch-ran = search in
@@ -270,7 +270,7 @@ returns-3 c =
     let s = start (told k) in
     let x = b.begin-begun.new in
     solves (p s) (v s) (N s) (D s) (F s) (G s) (ok (told k)) _ _ _ k.keep_rows-m.ensures _
-    (was_filled b.begin-begun.result x.xs x.slacks x.norms _ b.begin-begun.ensures _ (going l).in-On.is)
+    (was_filled b.begin-begun.result x.xs x.slacks x.norms _ b.begin-begun.ensures _ (going l).in-Ok.is)
     l.launch-ran.result (M l) (E l) (H l) (J l) l.launch-ran.auto.numbers l.launch-ran.auto.doubles l.launch-ran.ensures
     (e.close.ensures (H l) (J l))
 

@@ -36,10 +36,10 @@ abbrev entry : tie.After-decide-decided → tie.Start
 entry d = lent (squares d)
 
 -- and from the tests
-abbrev told : tie.In-Goes → tie.After-decide-decided
+abbrev told : tie.In-Some → tie.After-decide-decided
 told w = search
 
-abbrev room : tie.After-eta_fits → tie.In-Goes
+abbrev room : tie.After-eta_fits → tie.In-Some
 room f = search
 
 abbrev full : tie.Then-not-eta_fits → tie.After-eta_fits
@@ -95,7 +95,7 @@ returns c m =
 
 eta-fits-requires : tie.Need-eta_fits-requires
 eta-fits-requires c κs =
-    let w : tie.In-Goes = search in
+    let w : tie.In-Some = search in
     let s = entry (told w) in
     let rd = s.requires.0 in
     let q = store_asks rd in
@@ -110,7 +110,7 @@ refactor-requires c κs =
     let s = entry d in
     let rd = s.requires.0 in
     let x = s.requires.1.1 in
-    let g = goes_asks (Q s) (S s) s.args.e (col s []) s.args.x d.decide-decided.result d.decide-decided.new.row_values d.decide-decided.new.row_marks d.decide-decided.new.row_list d.decide-decided.new.helper_values (d.decide-decided.ensures []) _ w.in-Goes.is in (
+    let g = goes_asks (Q s) (S s) s.args.e (col s []) s.args.x d.decide-decided.result d.decide-decided.new.row_values d.decide-decided.new.row_marks d.decide-decided.new.row_list d.decide-decided.new.helper_values (d.decide-decided.ensures []) _ w.in-Some.is in (
       record {
         starts = s.args.starts.now;
         cols = s.args.cols.now;
@@ -143,7 +143,7 @@ returns-2 c m =
     let w = room f in
     let d = told w in
     let s = entry d in
-    exchange_factors (Q s) (S s) s.args.e (col s m) s.args.x d.decide-decided.result d.decide-decided.new.row_values d.decide-decided.new.row_marks d.decide-decided.new.row_list d.decide-decided.new.helper_values (d.decide-decided.ensures m) _ w.in-Goes.is
+    exchange_factors (Q s) (S s) s.args.e (col s m) s.args.x d.decide-decided.result d.decide-decided.new.row_values d.decide-decided.new.row_marks d.decide-decided.new.row_list d.decide-decided.new.helper_values (d.decide-decided.ensures m) _ w.in-Some.is
     (sym (f.eta_fits.ensures s.args.doubles.now) ∙ not-true _ t.if-not-eta_fits.true-raw) _
     (a.refactor.ensures s.args.starts.now s.args.cols.now s.args.coeffs.now s.requires.1.0.0 m d.decide-decided.new.row_marks blank.pat)
 
@@ -174,7 +174,7 @@ returns-3 c m =
     let w = room f in
     let d = told w in
     let s = entry d in
-    exchange_unsound (Q s) (S s) s.args.e (col s m) s.args.x d.decide-decided.result d.decide-decided.new.row_values d.decide-decided.new.row_marks d.decide-decided.new.row_list d.decide-decided.new.helper_values (d.decide-decided.ensures m) _ w.in-Goes.is
+    exchange_unsound (Q s) (S s) s.args.e (col s m) s.args.x d.decide-decided.result d.decide-decided.new.row_values d.decide-decided.new.row_marks d.decide-decided.new.row_list d.decide-decided.new.helper_values (d.decide-decided.ensures m) _ w.in-Some.is
     (sym (f.eta_fits.ensures s.args.doubles.now) ∙ not-false _ t.if-not-eta_fits.false-raw)
     (sym (a.eta_finite.ensures m) ∙ not-true _ c.if-not-eta_finite.true-raw)
 
@@ -191,7 +191,7 @@ store-exchange-requires c κs =
     let q : tie.After-sq_norm-sq = squares d in
     let rd = s.requires.0 in
     let x = s.requires.1.1 in
-    let g = goes_asks (Q s) (S s) s.args.e (col s []) s.args.x d.decide-decided.result d.decide-decided.new.row_values d.decide-decided.new.row_marks d.decide-decided.new.row_list d.decide-decided.new.helper_values (d.decide-decided.ensures []) _ w.in-Goes.is in (
+    let g = goes_asks (Q s) (S s) s.args.e (col s []) s.args.x d.decide-decided.result d.decide-decided.new.row_values d.decide-decided.new.row_marks d.decide-decided.new.row_list d.decide-decided.new.helper_values (d.decide-decided.ensures []) _ w.in-Some.is in (
       swap_asks rd s.args.e.col s.args.x.row x.1 x.2,
       (
         (fits_room (S s) s.args.count (sym (f.eta_fits.ensures s.args.doubles.now) ∙ not-false _ t.if-not-eta_fits.false-raw), rd.budget_left),
@@ -222,7 +222,7 @@ returns-4 c m =
     let w = room f in
     let d = told w in
     let s = entry d in
-    exchange_goes (Q s) (S s) s.args.e (col s m) s.args.x d.decide-decided.result d.decide-decided.new.row_values d.decide-decided.new.row_marks d.decide-decided.new.row_list d.decide-decided.new.helper_values (d.decide-decided.ensures m) _ w.in-Goes.is
+    exchange_goes (Q s) (S s) s.args.e (col s m) s.args.x d.decide-decided.result d.decide-decided.new.row_values d.decide-decided.new.row_marks d.decide-decided.new.row_list d.decide-decided.new.helper_values (d.decide-decided.ensures m) _ w.in-Some.is
     (sym (f.eta_fits.ensures s.args.doubles.now) ∙ not-false _ t.if-not-eta_fits.false-raw)
     (sym (a.eta_finite.ensures m) ∙ not-false _ z.if-not-eta_finite.false-raw)
     (k.store_exchange.ensures m d.decide-decided.new.row_marks blank.pat)

@@ -45,13 +45,13 @@ tested_at z = search
 abbrev passed : tie.After-exchange-went → tie.Else-not-decide
 passed x = search
 
-abbrev stop-at : tie.In-Stops → tie.After-exchange-went
+abbrev stop-at : tie.In-Err → tie.After-exchange-went
 stop-at w = search
 
-abbrev move_at : tie.In-On → tie.After-exchange-went
+abbrev move_at : tie.In-Ok → tie.After-exchange-went
 move_at w = search
 
-abbrev storing : tie.After-store_dual_norms → tie.In-On
+abbrev storing : tie.After-store_dual_norms → tie.In-Ok
 storing k = search
 
 decides : (d : tie.After-decide) (m : List Bool)
@@ -94,53 +94,53 @@ exchange-requires c κs = let z : tie.Else-not-decide = search in (entry (tested
 enum-known-went : tie.Need-enum_known-went
 enum-known-went c = search rules
 
-same-length-5 : tie.Need-shape_of-numbers-in-Stops
+same-length-5 : tie.Need-shape_of-numbers-in-Err
 same-length-5 c = search rules
 
-same-length-6 : tie.Need-shape_of-doubles-in-Stops
+same-length-6 : tie.Need-shape_of-doubles-in-Err
 same-length-6 c = search rules
 
-same-length-7 : tie.Need-shape_of-factor_numbers-in-Stops
+same-length-7 : tie.Need-shape_of-factor_numbers-in-Err
 same-length-7 c = search rules
 
-same-length-8 : tie.Need-shape_of-factor_coeffs-in-Stops
+same-length-8 : tie.Need-shape_of-factor_coeffs-in-Err
 same-length-8 c = search rules
 
-returns-2 : tie.Need-returns-in-Stops
+returns-2 : tie.Need-returns-in-Err
 returns-2 c m =
-    let w : tie.In-Stops = search in
+    let w : tie.In-Err = search in
     let x = stop-at w in
     let z = passed x in
     let d = tested_at z in
     let s = entry d in
     let l = x.exchange-went.new in
     norms_stop (Q s) (S s) s.args.e (col s m) (inv s) s.args.x s.requires.1.1.3.is d.decide.result d.decide.new.tau (decides d m) (not-false _ z.if-not-decide.false-raw)
-    x.exchange-went.result l.numbers l.doubles l.factor_numbers l.factor_coeffs (x.exchange-went.ensures m) _ w.in-Stops.is
+    x.exchange-went.result l.numbers l.doubles l.factor_numbers l.factor_coeffs (x.exchange-went.ensures m) _ w.in-Err.is
 
-enum-known-went-2 : tie.Need-enum_known-went-in-On-1
+enum-known-went-2 : tie.Need-enum_known-went-in-Ok-1
 enum-known-went-2 c = search rules
 
 store-dual-norms-requires : tie.Need-store_dual_norms-requires
 store-dual-norms-requires c κs =
-    let w : tie.In-On = search in
+    let w : tie.In-Ok = search in
     let x = move_at w in
     let s = entry (tested_at (passed x)) in
     let rd = s.requires.0 in
     (column_listing rd s.requires.1.1.0, omega (arith, rd.sized, x.exchange-went.auto.doubles))
 
-same-length-9 : tie.Need-shape_of-numbers-in-On
+same-length-9 : tie.Need-shape_of-numbers-in-Ok
 same-length-9 c = search rules
 
-same-length-10 : tie.Need-shape_of-doubles-in-On
+same-length-10 : tie.Need-shape_of-doubles-in-Ok
 same-length-10 c = search rules
 
-same-length-11 : tie.Need-shape_of-factor_numbers-in-On
+same-length-11 : tie.Need-shape_of-factor_numbers-in-Ok
 same-length-11 c = search rules
 
-same-length-12 : tie.Need-shape_of-factor_coeffs-in-On
+same-length-12 : tie.Need-shape_of-factor_coeffs-in-Ok
 same-length-12 c = search rules
 
-returns-3 : tie.Need-returns-in-On
+returns-3 : tie.Need-returns-in-Ok
 returns-3 c m =
     let k : tie.After-store_dual_norms = search in
     let w = storing k in
@@ -150,7 +150,7 @@ returns-3 c m =
     let s = entry d in
     let l = x.exchange-went.new in
     norms_move (Q s) (S s) s.args.e (col s m) (inv s) s.args.x s.requires.1.1.3.is d.decide.result d.decide.new.tau (decides d m) (not-false _ z.if-not-decide.false-raw)
-    x.exchange-went.result l.numbers l.doubles l.factor_numbers l.factor_coeffs (x.exchange-went.ensures m) _ w.in-On.is
+    x.exchange-went.result l.numbers l.doubles l.factor_numbers l.factor_coeffs (x.exchange-went.ensures m) _ w.in-Ok.is
     _ ((squares d).sq_norm-sq.ensures s.requires.1.1.3.marks) blank.pat k.store_dual_norms.new.doubles (k.store_dual_norms.ensures l.numbers m blank.pat)
 
 pub exchange_spec : {M : Type 1} → statement M

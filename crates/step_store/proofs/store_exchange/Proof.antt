@@ -1,9 +1,9 @@
 -- `step_store::store_exchange` meets its contract: the swap, and the eta column. Assumes nothing.
 use borrow.Author.Rules.{rules}
-use mathlib.Core.Path.{◌≡◌, ◌∙◌}
+use mathlib.Core.Path.{◌∙◌}
 use mathlib.Core.List.{[]}
 use native.Mathlib.Omega.{arith}
-use Rattle.sparse.specs.Scattered.{Sv, sv, sv_of, blank}
+use Rattle.sparse.specs.Scattered.{sv, sv_of, blank}
 use Rattle.rules.specs.Plan.{Problem, State}
 use Rattle.rules.specs.Parts.{bounded}
 use Rattle.state.specs.Packed.{state_at}

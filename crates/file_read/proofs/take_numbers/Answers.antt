@@ -1,0 +1,11 @@
+-- `file_read::take_numbers` meets its contract. Assumes nothing.
+use Rattle.std.proofs.Common.{◌∙◌, arith}
+use Rattle.doubles.proofs.Loops.{filled_none, filled_more}
+use Rattle.sheet_terms.proofs.Machine.{result}
+use Rattle.file_read.proofs.take_numbers.Goals as goal
+
+pub loop-k-init : goal.loop-k-init
+loop-k-init c = filled_none
+
+pub loop-k-preserved : goal.loop-k-preserved
+loop-k-preserved c = filled_more c.loop-k.invariant (omega arith) (result c.number_at.result c.number_at.type_inv ∙ c.number_at.ensures)

@@ -1,2 +1,0 @@
--- Laws of the numbers.
-pub mod Laws

@@ -1,0 +1,10 @@
+-- Every new number before k is finite. Assumes nothing.
+use mathlib.Core.Path.{◌≡◌}
+use mathlib.Core.Bool.{true}
+use Rattle.doubles.specs.Num.{finite, ◌⊖◌, ◌⊗◌}
+use Rattle.doubles.specs.Loop.{all}
+use Rattle.doubles.specs.Lists.{◌!◌, ◌#◌}
+use Rattle.step_numbers.proofs.moved_finite.Given as goal
+
+abbrev pub invariant-loop-r : goal.invariant-loop-r
+invariant-loop-r l = all l.r-index (λ i. finite (l.basic_var_vals ! (l.list # i) ⊖ l.diff ⊗ l.values ! (l.list # i))) ≡ true
