@@ -7,14 +7,16 @@ use native.Mathlib.Omega.{arith}
 use lib.Dec.{eqb}
 use borrow.Rule.Slice.PartMut.{put_mid}
 use lib.ListN.{length, get_or, set}
+use lib.Seq.{ext_get_or}
 use lib.Ieee.{Float}
 use Rattle.doubles.specs.Limits.{max_rows, max_columns, vars, eta_columns, eta_entries, count_cells}
 use Rattle.doubles.specs.Loop.{table}
-use Rattle.doubles.specs.Lists.{◌!◌, over}
+use Rattle.doubles.specs.Lists.{◌!◌, ◌#◌, over}
+use Rattle.doubles.proofs.Loops.{length_tab, get_d_table}
 use Rattle.rules.specs.Plan.{Problem, State, Memory, Workspace, n_of, m_of, bit}
 use Rattle.rules.specs.Parts.{memory_of, state_of}
 use Rattle.rules.specs.Basis.{eta_used}
-use Rattle.rules.specs.FinalCheck.{values_of, final_check}
+use Rattle.rules.specs.FinalCheck.{value_of, values_of, final_check}
 use Rattle.rules.specs.Step.{Ended, ended}
 use Rattle.rules.specs.Answers.{number_of}
 use Rattle.rules.specs.Solve.{Solved, solved, checked_answer, answer_of, values_after, memory_after, close}
@@ -72,6 +74,11 @@ module _ (P : Problem) (s : State) where
   ends_infeasible r q = by_why q
 
 -- ---- what is written over a front
+pub table_whole : (l : List ℕ) → table (length l) (λ i. l # i) ≡ l
+table_whole l =
+    let same : length (table (length l) (λ i. l # i)) ≡ length l = length_tab (length l) 0 (λ i. l # i) in
+    ext_get_or 0 (table (length l) (λ i. l # i)) l same (λ k h. get_d_table (length l) (λ i. l # i) 0 k (omega arith))
+
 module _ (a b c d e f g : ℕ) where
   pub counts_set : (l : List ℕ) → count_cells ≤ length l
       → set (set (set (set (set (set (set l 0 a) 1 b) 2 c) 3 d) 4 e) 5 f) 6 g ≡ over (a ∷ b ∷ c ∷ d ∷ e ∷ f ∷ g ∷ []) l

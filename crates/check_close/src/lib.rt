@@ -169,7 +169,9 @@ fn write_kept(kept: &[usize], to: &mut [usize])
     requires { length kept.now ≤ length to.old }
     ensures { to.new ≡ over kept.now to.old }
 {
-    to[..kept.len()].copy_from_slice(kept);
+    for (r, &i) in kept.iter().enumerate() {
+        to[r] = i;
+    }
 }
 
 fn bit_of(b: bool) -> usize

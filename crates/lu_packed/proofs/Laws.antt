@@ -5,7 +5,7 @@ use Prim.Native.Nat.{ℕ, ◌+◌, ◌<◌, ◌≤◌}
 use native.Mathlib.Omega.{arith}
 use native.Mathlib.Numerals.{add-one}
 use lib.ListN.{length, get_or, set, take, drop, length-append}
-use lib.Seq.{take_at, take-length, drop-append-add, drop-drop, paste, paste-suc, length-paste}
+use lib.Seq.{take_at, take-length, drop-append-add, drop-drop, paste, paste-suc}
 use lib.Ieee.{Float}
 use Rattle.doubles.specs.Lists.{over}
 use Rattle.lu_factor_rules.specs.Factor.{Factor, Matrix}
@@ -16,6 +16,16 @@ use Rattle.lu_factor_rules.specs.Packed.{lower_coeffs_end, upper_coeffs_end, low
 use Rattle.lu_factor_rules.specs.Packed.{numbers_of, coeffs_of, packed_numbers, packed_coeffs}
 use Rattle.lu_factor_rules.proofs.Packed.{Filled, Exact, transpose_filled}
 use Rattle.lu_packed.specs.Written.{written, Lent, lent, matrix_written}
+
+-- ---- a copy of xs over the cells of d from a on, element by element
+module _ {A : Type 0} (a : ℕ) (xs d : List A) (fits : a + length xs ≤ length d) {l : List A} (j : ℕ)
+    (e : l ≡ paste d a xs j) where
+  pub copied_more : (z : A) → j < length xs → set l (a + j) (get_or xs j z) ≡ paste d a xs (j + 1)
+  copied_more z h = ap (λ (t : List A). set t (a + j) (get_or xs j z)) e ∙ paste-suc d a xs j z (omega arith) h ∙ ap
+      (paste d a xs) (sym (add-one j))
+
+  pub copied_all : j ≡ length xs → l ≡ written a xs d
+  copied_all h = e ∙ ap (paste d a xs) h ∙ ap (λ (t : List A). take a d ++ t ++ drop (a + length xs) d) (take-length xs)
 
 -- ---- l is N with p written over its first a cells
 record Front {A : Type 0} (a : ℕ) (p N l : List A) : Type 0 where

@@ -90,7 +90,9 @@ pub fn put<T: Copy>(from: &[T], at: usize, to: &mut [T])
     requires { at + length from.now ≤ length to.old }
     ensures { to.new ≡ written at from.now to.old }
 {
-    to[at..at + from.len()].copy_from_slice(from);
+    for k in 0..from.len() {
+        to[at + k] = from[k];
+    }
 }
 
 // A matrix's three arrays at their places.
