@@ -6,6 +6,7 @@
 ghost use Rattle.std.specs.Prelude.{◌≡◌, ◌%◌, ◌≤◌};
 ghost use Rattle.std.specs.Float.{binary64};
 ghost use Rattle.std.specs.Float.Ieee.{of_bits, to_bits};
+ghost use Rattle.std.specs.Int.{w64, cast_signed};
 ghost use Rattle.words.specs.Counts.{Counts};
 
 use std::io;
@@ -164,7 +165,9 @@ pub trait Cell: Copy {
 }
 
 impl Cell for usize {
-    fn of_word(word: u64) -> usize {
+    fn of_word(word: u64) -> usize
+        ensures { result ≡ word }
+    {
         word as usize
     }
 
@@ -187,17 +190,26 @@ impl Cell for u8 {
 
 // By two's complement.
 impl Cell for i64 {
-    fn of_word(word: u64) -> i64 {
+    fn of_word(word: u64) -> i64
+        ensures { result ≡ cast_signed w64 word }
+    {
         word.cast_signed()
     }
 
     fn show<W: Write>(self, out: &mut W) -> io::Result<()> {
-        write!(out, " {self}")
+        text(out, b" ")?;
+        // The sign is a write of its own, so that output that ends early ends where it always did.
+        if self < 0 {
+            text(out, b"-")?;
+        }
+        decimal(out, self.unsigned_abs())
     }
 }
 
 impl Cell for f64 {
-    fn of_word(word: u64) -> f64 {
+    fn of_word(word: u64) -> f64
+        ensures { result ≡ of_bits binary64 word }
+    {
         double_of(word)
     }
 

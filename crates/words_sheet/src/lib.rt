@@ -17,7 +17,13 @@ fn show_verdict<W: Write>(out: &mut W, v: Verdict) -> io::Result<()> {
         Verdict::NoneExists => words::text(out, b" none"),
         Verdict::NotPlan => words::text(out, b" no-plan"),
         Verdict::NoFloor => words::text(out, b" no-floor"),
-        Verdict::Gap(gap) => write!(out, " gap:{gap}"),
+        Verdict::Gap(gap) => {
+            words::text(out, b" gap:")?;
+            if gap < 0 {
+                words::text(out, b"-")?;
+            }
+            words::decimal(out, gap.unsigned_abs())
+        }
         Verdict::Refused(number) => words::place(out, number),
     }
 }
