@@ -1,4 +1,4 @@
-// The night call's definitions, the types that they share with its code, and how sections are written (02, Ask 14).
+// The night call's definitions, and the types that they share with its code (02, Ask 14).
 #![tactic(auto)]
 
 ghost use Rattle.std.specs.Prelude.{◌≡◌, ◌+◌, ◌≤◌, length};

@@ -20,7 +20,7 @@ zero_word (pos (suc n)) f = ne_eqb (suc n) 0 (λ e. absurd (omega (arith, e)))
 zero_word (negsuc n) f = ne_eqb (2 ^ 64 - suc n) 0 (λ e. absurd (omega (arith, e, f.sfits)))
 
 -- an or is 0 where both of its numbers are
-or_zero : (a b : ℕ) → eqb (bit_or a b) 0 ≡ eqb a 0 && eqb b 0
+pub or_zero : (a b : ℕ) → eqb (bit_or a b) 0 ≡ eqb a 0 && eqb b 0
 or_zero zero b = rw (or_zero_l b)
 or_zero (suc a) b =
     rw (eqb-suc-zero a)
